@@ -1,0 +1,72 @@
+// The stream record: its types and its sizes (document 01, "The stream record" and "Sizes").
+// No functions: the crate `stream` decides on a record, and `receiver` keeps a table of them.
+
+// What an arrival and a tick change. This order of the fields leaves no padding between them.
+#[repr(C)]
+pub struct State {
+    // Bit k stands for the number anchor - k.
+    pub history: u64,
+    pub anchor: u16,
+    // Ticks remaining.
+    pub remaining: u16,
+    // Take-any: 0 is no, every other value is yes.
+    pub any: u8,
+}
+
+// The counters. They wrap to zero after 2^64 - 1.
+#[repr(C)]
+pub struct Counts {
+    pub arrivals0: u64,
+    pub arrivals1: u64,
+    pub passed: u64,
+    pub discarded: u64,
+    pub rogue: u64,
+    // Out of order.
+    pub disorder: u64,
+    pub lost: u64,
+    pub resets: u64,
+}
+
+// A slot of the table that the caller lends. Every bit pattern of it is a value.
+#[repr(C)]
+pub struct Stream {
+    // The key: the destination's six bytes as one number, high byte first, and the VLAN id.
+    pub dest: u64,
+    pub vlan: u16,
+    // The window L.
+    pub window: u16,
+    // The reset time R, in ticks.
+    pub time: u16,
+    pub rule: u8,
+    // In use: 0 is no (a free slot), every other value is yes.
+    pub used: u8,
+    pub state: State,
+    pub counts: Counts,
+}
+
+// The sizes. specs/Sizes.antt has the same names for the contracts.
+impl Stream {
+    // Slots in a table.
+    pub const SLOTS: usize = 64;
+
+    // Bytes in a frame.
+    pub const FRAME: usize = 2000;
+
+    // Bytes in a frame before the tag is put in.
+    pub const FRAME_UNTAGGED: usize = 1994;
+
+    pub const WINDOW_LEAST: u16 = 2;
+
+    pub const WINDOW_MOST: u16 = 64;
+
+    pub const TIME_LEAST: u16 = 1;
+
+    pub const TIME_MOST: u16 = 65535;
+
+    pub const VLAN_MOST: u16 = 4094;
+
+    // The rules: vector recovery and match recovery.
+    pub const VECTOR_RULE: u8 = 1;
+
+    pub const MATCH_RULE: u8 = 2;
+}
