@@ -1,7 +1,7 @@
 // The bytes of one frame: the header reader, a tag taken out, a tag written (document 01, "The frame").
 use record::Stream;
 ghost use mathlib.Core.Path.{_≡_};
-ghost use Prim.Native.Nat.{_+_, _≤_, _<_};
+ghost use Prim.Native.Nat.{_+_, _*_, _≤_, _<_};
 ghost use lib.ListN.{length};
 ghost use Rattle.record.specs.Sizes.{frameMost};
 ghost use Rattle.frame.specs.Bytes.{word, overlay};
@@ -57,13 +57,20 @@ fn word_at(s: &[u8], at: usize) -> u16
     ((wide(s[at]) << 8) | wide(s[at + 1])) as u16
 }
 
-// The destination as one number. By shifts, which the compiler makes one load with its bytes swapped.
+// The first four bytes, high byte first. By shifts, which the compiler makes one load with its bytes swapped.
+fn first_four(s: &[u8]) -> u32
+    requires { ⌜ 4 ≤ length (now s) ⌝ }
+    ensures { λ r. ⌜ r ≡ word (now (s .entry)) 0 * 65536 + word (now (s .entry)) 2 ⌝ }
+{
+    (wide(s[0]) << 24) | (wide(s[1]) << 16) | (wide(s[2]) << 8) | wide(s[3])
+}
+
+// The destination as one number.
 fn dest_of(s: &[u8]) -> u64
     requires { ⌜ 6 ≤ length (now s) ⌝ }
     ensures { λ r. ⌜ r ≡ destOf (now (s .entry)) ⌝ }
 {
-    let high = (wide(s[0]) << 24) | (wide(s[1]) << 16) | (wide(s[2]) << 8) | wide(s[3]);
-    ((high as u64) << 16) | (word_at(s, 4) as u64)
+    ((first_four(s) as u64) << 16) | (word_at(s, 4) as u64)
 }
 
 // Destination, VLAN id, place of the type field, and whether F1C1 stands there: the 14 and 18 byte rules only.

@@ -27,3 +27,8 @@ module _ (A : Type 0) (a : A) (n : ℕ) where
 
 pub first-exactly : FirstExactly
 first-exactly A cs a n = (to A a n cs, from A a n cs)
+
+-- a check that an answer has passed
+pub passed : {A : Type 0} (b : Bool) (n : ℕ) {z : Said A} {a : A} → answers a ≡ cond b (refused n) z → (b ≡ false) × (answers a ≡ z)
+passed true n e = absurd (let z : _≡_ {A = ℕ} 0 1 = cc in omega arith)
+passed false n e = (refl, e)
