@@ -32,3 +32,11 @@ first-exactly A cs a n = (to A a n cs, from A a n cs)
 pub passed : {A : Type 0} (b : Bool) (n : ℕ) {z : Said A} {a : A} → answers a ≡ cond b (refused n) z → (b ≡ false) × (answers a ≡ z)
 passed true n e = absurd (let z : _≡_ {A = ℕ} 0 1 = cc in omega arith)
 passed false n e = (refl, e)
+
+-- equal answers hold equal values
+abbrev pub valueOr : {A : Type 0} → A → Said A → A
+valueOr d (refused n) = d
+valueOr d (answers a) = a
+
+pub same-value : {A : Type 0} {a b : A} → answers a ≡ answers b → a ≡ b
+same-value {A} {a} {b} e = ap (valueOr a) e
