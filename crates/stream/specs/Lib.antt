@@ -1,0 +1,5 @@
+pub mod History
+pub mod Record
+pub mod Decisions
+pub mod Steps
+pub mod WrapRun
