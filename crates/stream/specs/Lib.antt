@@ -3,3 +3,4 @@ pub mod Record
 pub mod Decisions
 pub mod Steps
 pub mod WrapRun
+pub mod Laws

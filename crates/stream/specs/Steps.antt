@@ -2,6 +2,7 @@
 -- says what an arrival is to a record and reads no counter; the second gives the record after it. Assumes nothing.
 use Prim.Native.Nat.{ℕ}
 use mathlib.Core.Bool.{Bool, true, false}
+use mathlib.Core.Option.{Option, none, some}
 use Rattle.record.specs.Words.{if_then_else_}
 use Rattle.stream.specs.Record.{Stream, lawful, damaged}
 use Rattle.stream.specs.Decisions.{Case, caseOf, Verdict, up, duplicate, rogue, verdictOf, handedUp, stateAfter, outOfOrder, losses, tally, with, expires, ticked}
@@ -28,6 +29,13 @@ said rogue m = Rogue
 -- The first step. A record that is not lawful, be it damaged or free, has no verdict.
 unfoldable pub weighedAs : Stream → (number : ℕ) → Case → Weighed
 weighedAs s number c = said (verdictOf c) (marksOf s number c)
+
+-- What each of its answers says in the paper's words.
+abbrev pub verdictIn : Weighed → Option Verdict
+verdictIn Damaged = none
+verdictIn (HandedUp m) = some up
+verdictIn Duplicate = some duplicate
+verdictIn Rogue = some rogue
 
 unfoldable pub weighed : Stream → (number : ℕ) → Weighed
 weighed s number = if lawful s then weighedAs s number (caseOf s number) else Damaged
