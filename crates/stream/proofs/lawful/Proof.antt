@@ -1,0 +1,58 @@
+use borrow.Author.Needs.{needs}
+use Rattle.stream.proofs.lawful.Statement.{statement}
+use Rattle.stream.proofs.lawful.Tie as tie
+use Rattle.stream.proofs.lawful.Reads as reads
+use Rattle.stream.proofs.lawful.Lts as lts
+use Rattle.stream.proofs.is_fresh.Reads as is-fresh-reads
+use Rattle.stream.proofs.is_marked.Reads as is-marked-reads
+use Rattle.stream.proofs.settled.Reads as settled-reads
+
+-- src/lib.rt:153:9
+returns : tie.Need-returns
+returns c = ?
+
+-- src/lib.rt:155:9
+settled-requires : tie.Need-settled-requires
+settled-requires c κs = search needs
+
+-- src/lib.rt:156:9
+returns-2 : tie.Need-returns-2
+returns-2 c = ?
+
+-- src/lib.rt:160:9
+returns-3 : tie.Need-returns-3
+returns-3 c = ?
+
+-- src/lib.rt:163:9
+is-fresh-requires : tie.Need-is-fresh-requires
+is-fresh-requires c κs = ?
+
+-- src/lib.rt:163:9
+returns-4 : tie.Need-returns-4
+returns-4 c = ?
+
+-- src/lib.rt:166:9
+returns-5 : tie.Need-returns-5
+returns-5 c = ?
+
+-- src/lib.rt:168:5
+is-marked-requires : tie.Need-is-marked-requires
+is-marked-requires c κs = ?
+
+-- src/lib.rt:149:1
+returns-6 : tie.Need-returns-6
+returns-6 c = ?
+
+pub lawful-spec : {M : Type 1} → statement M
+lawful-spec =
+    tie.close
+    (tie.spec
+    returns
+    settled-requires
+    returns-2
+    returns-3
+    is-fresh-requires
+    returns-4
+    returns-5
+    is-marked-requires
+    returns-6)

@@ -1,0 +1,37 @@
+use borrow.Author.Needs.{needs}
+use Rattle.stream.proofs.weigh.Statement.{statement}
+use Rattle.stream.proofs.weigh.Tie as tie
+use Rattle.stream.proofs.weigh.Reads as reads
+use Rattle.stream.proofs.weigh.Lts as lts
+use Rattle.stream.proofs.by_match.Reads as by-match-reads
+use Rattle.stream.proofs.by_vector.Reads as by-vector-reads
+use Rattle.stream.proofs.lawful.Reads as lawful-reads
+
+-- src/lib.rt:294:9
+lawful-requires : tie.Need-lawful-requires
+lawful-requires c κs = search needs
+
+-- src/lib.rt:295:9
+returns : tie.Need-returns
+returns c = ?
+
+-- src/lib.rt:298:9
+by-vector-requires : tie.Need-by-vector-requires
+by-vector-requires c κs = ?
+
+-- src/lib.rt:298:9
+returns-2 : tie.Need-returns-2
+returns-2 c = ?
+
+-- src/lib.rt:300:5
+by-match-requires : tie.Need-by-match-requires
+by-match-requires c κs = ?
+
+-- src/lib.rt:291:1
+returns-3 : tie.Need-returns-3
+returns-3 c = ?
+
+pub weigh-spec : {M : Type 1} → statement M
+weigh-spec =
+    tie.close
+    (tie.spec lawful-requires returns by-vector-requires returns-2 by-match-requires returns-3)
