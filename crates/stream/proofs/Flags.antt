@@ -1,7 +1,7 @@
 -- The answer of a chain of tests, as `search flags` proves it: the goal is an equation of a Bool, or of what an `if` picks,
 -- and the facts are in the record at hand. Assumes nothing.
 use mathlib.Core.Path.{_≡_, refl, sym, _∙_, ap}
-use mathlib.Core.Bool.{Bool, true, false, not, cond, _&&_, _||_}
+use mathlib.Core.Bool.{Bool, true, false, not, cond, _&&_, _||_, Bool·beq}
 use Prim.Native.Nat.{ℕ, _<_, _≤_}
 use lib.Dec.{leb, eqb}
 use borrow.Author.Tests.{le-leb, lt-leb, eq-eqb, ne-eqb, not-true, not-false}
@@ -19,6 +19,30 @@ no-r false b e = refl
 pub rest : (a b r : Bool) → true ≡ a → r ≡ b → r ≡ (a && b)
 rest true b r e f = f
 rest false b r e f = cc
+
+pub last : (a : Bool) → a ≡ (a && true && true)
+last true = refl
+last false = refl
+
+-- one of two
+pub or-l : (a b : Bool) → true ≡ a → true ≡ (a || b)
+or-l true b e = refl
+or-l false b e = cc
+
+pub or-r : (a b r : Bool) → false ≡ a → r ≡ b → r ≡ (a || b)
+or-r true b r e f = cc
+or-r false b r e f = f
+
+-- two that differ, and two that agree
+pub differ : (a b : Bool) → true ≡ a → false ≡ b → false ≡ Bool·beq a b
+differ true true e f = cc
+differ true false e f = refl
+differ false b e f = cc
+
+pub agree : (a b : Bool) → false ≡ a → false ≡ b → true ≡ Bool·beq a b
+agree true b e f = cc
+agree false true e f = cc
+agree false false e f = refl
 
 pub leb-yes : (a b : ℕ) → a ≤ b → true ≡ leb a b
 leb-yes a b h = sym (le-leb a b h)
@@ -69,4 +93,4 @@ pub second : {A : Type 0} (b : Bool) (x y r : A) → false ≡ b → r ≡ y →
 second true x y r e f = cc
 second false x y r e f = f
 
-pub ruleset flags = (no-l, no-r, rest, leb-yes, leb-no, eqb-yes, eqb-no, is-yes, is-no, flag-yes, flag-no, call-yes, call-no, call-not, call-not-not, first, second)
+pub ruleset flags = (no-l, no-r, rest, or-l, or-r, differ, agree, leb-yes, leb-no, eqb-yes, eqb-no, is-yes, is-no, flag-yes, flag-no, call-yes, call-no, call-not, call-not-not, first, second)

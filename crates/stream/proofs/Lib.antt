@@ -11,4 +11,5 @@ pub mod Sorts
 pub mod Keeps
 pub mod Changes
 pub mod Steps
+pub mod Ticks
 pub mod Wrap

@@ -7,11 +7,37 @@ use lib.IntN.{ℤ, pos, negsuc, negℤ, natAbs}
 use lib.Signed.{leZ}
 use lib.Dec.{eqb, leb, ltb}
 use borrow.Author.Tests.{lt-ltb, le-ltb, eq-eqb, ne-eqb, leb-false, leb-true, eqb-true}
-use Rattle.record.specs.Words.{if_then_else_}
+use Rattle.record.specs.Words.{if_then_else_, yes}
+use Rattle.record.specs.Sizes.{vectorRule}
 use Rattle.stream.specs.History.{History, bit}
-use Rattle.stream.specs.Decisions.{Signed, ahead, behind, asInt, Case, far, again, late, next, moved, vectorCase, matchCase}
+use Rattle.stream.specs.Record.{Stream}
+use Rattle.stream.specs.Decisions.{Signed, ahead, behind, asInt, difference, Case, first, far, again, late, next, moved, vectorCase, matchCase, caseOf, stateAfter, losses, outOfOrder}
+use Rattle.stream.specs.Steps.{Duplicate, HandedUp, lateMarks, weighedAs}
 use Rattle.stream.proofs.Told.{Forward}
 use Rattle.stream.proofs.Reading.{isℤ}
+
+-- By take-any and the rule.
+module _ (s : Stream) (n : ℕ) where
+  pub case-first : yes (s .state .any) ≡ true → caseOf s n ≡ first
+  unfolding caseOf
+  case-first a = rw a
+
+  pub case-vector : yes (s .state .any) ≡ false → eqb (s .rule) vectorRule ≡ true
+      → caseOf s n ≡ vectorCase (s .window) (s .state .history) (difference n (s .state .anchor))
+  unfolding caseOf
+  case-vector a r = rw (a, r)
+
+  pub case-match : yes (s .state .any) ≡ false → eqb (s .rule) vectorRule ≡ false
+      → caseOf s n ≡ matchCase (difference n (s .state .anchor))
+  unfolding caseOf
+  case-match a r = rw (a, r)
+
+  -- what the first step answers for a number behind the anchor
+  pub weighed-behind : (b : Bool) (k : ℕ)
+      → weighedAs s n (if b then again else late k) ≡ (if b then Duplicate else HandedUp (lateMarks s k))
+  unfolding weighedAs stateAfter losses outOfOrder
+  weighed-behind true k = refl
+  weighed-behind false k = refl
 
 -- Vector.
 module _ (w : ℕ) (h : History) where

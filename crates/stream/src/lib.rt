@@ -203,14 +203,12 @@ fn behind(s: Stream, k: u16) -> Weighed
     if history::has_bit(h, k) {
         return Weighed::Duplicate;
     }
-    Weighed::HandedUp(
-        Marks {
-            history: history::set_bit(h, k),
-            lost: 0,
-            anchor: s.state.anchor,
-            disorder: true,
-        },
-    )
+    Weighed::HandedUp(Marks {
+        history: history::set_bit(h, k),
+        lost: 0,
+        anchor: s.state.anchor,
+        disorder: true,
+    })
 }
 
 // Vector, d ahead of the anchor.
@@ -219,14 +217,12 @@ fn ahead(s: Stream, number: u16, d: u16) -> Weighed
     ensures { λ r. ⌜ r ≡ weighedAs s number (next d) ⌝ }
 {
     let m = history::advanced(s.state.history, s.window, d);
-    Weighed::HandedUp(
-        Marks {
-            history: m.history,
-            lost: m.lost,
-            anchor: number,
-            disorder: d != 1,
-        },
-    )
+    Weighed::HandedUp(Marks {
+        history: m.history,
+        lost: m.lost,
+        anchor: number,
+        disorder: d != 1,
+    })
 }
 
 fn by_vector(s: Stream, number: u16) -> Weighed
@@ -234,14 +230,12 @@ fn by_vector(s: Stream, number: u16) -> Weighed
     ensures { λ r. ⌜ r ≡ weighedAs s number (caseOf s number) ⌝ }
 {
     if s.state.any != 0 {
-        return Weighed::HandedUp(
-            Marks {
-                history: history::SINGLE,
-                lost: 0,
-                anchor: number,
-                disorder: false,
-            },
-        );
+        return Weighed::HandedUp(Marks {
+            history: history::SINGLE,
+            lost: 0,
+            anchor: number,
+            disorder: false,
+        });
     }
     let d = difference(number, s.state.anchor);
     let w = s.window as i32;
@@ -264,27 +258,23 @@ fn by_match(s: Stream, number: u16) -> Weighed
     ensures { λ r. ⌜ r ≡ weighedAs s number (caseOf s number) ⌝ }
 {
     if s.state.any != 0 {
-        return Weighed::HandedUp(
-            Marks {
-                history: history::EMPTY,
-                lost: 0,
-                anchor: number,
-                disorder: false,
-            },
-        );
+        return Weighed::HandedUp(Marks {
+            history: history::EMPTY,
+            lost: 0,
+            anchor: number,
+            disorder: false,
+        });
     }
     let d = difference(number, s.state.anchor);
     if d == 0 {
         return Weighed::Duplicate;
     }
-    Weighed::HandedUp(
-        Marks {
-            history: s.state.history,
-            lost: 0,
-            anchor: number,
-            disorder: d != 1,
-        },
-    )
+    Weighed::HandedUp(Marks {
+        history: s.state.history,
+        lost: 0,
+        anchor: number,
+        disorder: d != 1,
+    })
 }
 
 // The first step of the decision: what an arrival is to the record. It makes no record and reads no counter.

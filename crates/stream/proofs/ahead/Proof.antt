@@ -1,3 +1,5 @@
+use Rattle.stream.specs.Decisions.{stateAfter, losses, outOfOrder}
+use Rattle.stream.specs.Steps.{weighedAs}
 use borrow.Author.Needs.{needs}
 use Rattle.stream.proofs.ahead.Statement.{statement}
 use Rattle.stream.proofs.ahead.Tie as tie
@@ -11,7 +13,8 @@ advanced-requires c κs = search needs
 
 -- src/lib.rt:217:1
 returns : tie.Need-returns
-returns c = ?
+unfolding weighedAs stateAfter losses outOfOrder
+returns c = rw (c .advanced .ensures .0, c .advanced .ensures .1)
 
 pub ahead-spec : {M : Type 1} → statement M
 ahead-spec = tie.close (tie.spec advanced-requires returns)

@@ -1,3 +1,4 @@
+use Rattle.stream.proofs.Flags.{flags}
 use borrow.Author.Needs.{needs}
 use Rattle.stream.proofs.is_marked.Statement.{statement}
 use Rattle.stream.proofs.is_marked.Tie as tie
@@ -17,11 +18,11 @@ is-within-requires c κs = search needs
 
 -- src/lib.rt:142:13
 returns : tie.Need-returns
-returns c = ?
+returns c = search flags depth 8
 
 -- src/lib.rt:144:9
 returns-2 : tie.Need-returns-2
-returns-2 c = ?
+returns-2 c = search flags depth 8
 
 -- src/lib.rt:146:5
 is-empty-requires : tie.Need-is-empty-requires
@@ -29,7 +30,7 @@ is-empty-requires c κs = search needs
 
 -- src/lib.rt:136:1
 returns-3 : tie.Need-returns-3
-returns-3 c = ?
+returns-3 c = search flags depth 8
 
 pub is-marked-spec : {M : Type 1} → statement M
 is-marked-spec =

@@ -1,3 +1,4 @@
+use Rattle.stream.specs.Steps.{recordAfter}
 use borrow.Author.Needs.{needs}
 use Rattle.stream.proofs.next.Statement.{statement}
 use Rattle.stream.proofs.next.Tie as tie
@@ -37,19 +38,20 @@ rogue-requires c κs = search needs
 
 -- src/lib.rt:359:1
 returns : tie.Need-returns
-returns c = ?
+unfolding recordAfter
+returns c = rw (c .enum-told .given .1)
 
 -- src/lib.rt:359:1
 returns-2 : tie.Need-returns-2
-returns-2 c = ?
+returns-2 c = cc
 
 -- src/lib.rt:359:1
 returns-3 : tie.Need-returns-3
-returns-3 c = ?
+returns-3 c = cc
 
 -- src/lib.rt:359:1
 returns-4 : tie.Need-returns-4
-returns-4 c = ?
+returns-4 c = cc
 
 pub next-spec : {M : Type 1} → statement M
 next-spec =

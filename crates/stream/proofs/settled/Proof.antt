@@ -1,3 +1,7 @@
+use Prim.Native.Nat.{_≤_}
+use Rattle.record.specs.Sizes.{timeMost}
+use Rattle.stream.specs.Record.{settled}
+use Rattle.stream.proofs.Flags.{flags}
 use borrow.Author.Needs.{needs}
 use Rattle.stream.proofs.settled.Statement.{statement}
 use Rattle.stream.proofs.settled.Tie as tie
@@ -11,23 +15,31 @@ is-rule-requires c κs = search needs
 
 -- src/lib.rt:107:9
 returns : tie.Need-returns
-returns c = ?
+unfolding settled
+returns c = search flags depth 8
 
 -- src/lib.rt:110:9
 returns-2 : tie.Need-returns-2
-returns-2 c = ?
+unfolding settled
+returns-2 c = search flags depth 8
 
 -- src/lib.rt:113:9
 returns-3 : tie.Need-returns-3
-returns-3 c = ?
+unfolding settled
+returns-3 c = search flags depth 8
 
 -- src/lib.rt:116:9
 returns-4 : tie.Need-returns-4
-returns-4 c = ?
+unfolding settled
+returns-4 c = search flags depth 8
 
 -- src/lib.rt:103:1
 returns-5 : tie.Need-returns-5
-returns-5 c = ?
+unfolding settled
+returns-5 c =
+    let s = c .before .before .before .before .before .before .before .before .before .args .s in
+    let long : s .time ≤ timeMost = search needs in
+    search flags depth 8
 
 pub settled-spec : {M : Type 1} → statement M
 settled-spec =

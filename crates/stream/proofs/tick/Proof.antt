@@ -1,3 +1,7 @@
+use Rattle.record.specs.Words.{yes}
+use mathlib.Core.Path.{sym}
+use Rattle.stream.proofs.Flags.{flags}
+use Rattle.stream.proofs.Ticks.{tick-not}
 use borrow.Author.Needs.{needs}
 use Rattle.stream.proofs.tick.Statement.{statement}
 use Rattle.stream.proofs.tick.Tie as tie
@@ -12,7 +16,7 @@ lawful-requires c κs = search needs
 
 -- src/lib.rt:418:9
 older-requires : tie.Need-older-requires
-older-requires c κs = ?
+older-requires c κs = sym (search flags)
 
 -- src/lib.rt:418:9
 returns : tie.Need-returns
@@ -20,7 +24,8 @@ returns c = search needs
 
 -- src/lib.rt:414:1
 returns-2 : tie.Need-returns-2
-returns-2 c = ?
+unfolding yes
+returns-2 c = rw (tick-not (c .before .before .before .args .s) (sym (search flags)))
 
 pub tick-spec : {M : Type 1} → statement M
 tick-spec = tie.close (tie.spec lawful-requires older-requires returns returns-2)

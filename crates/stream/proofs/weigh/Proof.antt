@@ -1,3 +1,7 @@
+use mathlib.Core.Path.{sym}
+use Rattle.stream.specs.Steps.{weighed}
+use Rattle.stream.proofs.Flags.{flags}
+use Rattle.stream.proofs.Law.{law, size}
 use borrow.Author.Needs.{needs}
 use Rattle.stream.proofs.weigh.Statement.{statement}
 use Rattle.stream.proofs.weigh.Tie as tie
@@ -13,23 +17,29 @@ lawful-requires c κs = search needs
 
 -- src/lib.rt:295:9
 returns : tie.Need-returns
-returns c = ?
+unfolding weighed
+returns c = search flags
 
 -- src/lib.rt:298:9
 by-vector-requires : tie.Need-by-vector-requires
-by-vector-requires c κs = ?
+by-vector-requires c κs =
+    let s = c .before .before .before .before .args .s in
+    let f = size {s = s} (law (sym (search flags))) in
+    (f .least, (f .most, c .if2 .taken))
 
 -- src/lib.rt:298:9
 returns-2 : tie.Need-returns-2
-returns-2 c = ?
+unfolding weighed
+returns-2 c = rw (c .by-vector .ensures) (search flags)
 
 -- src/lib.rt:300:5
 by-match-requires : tie.Need-by-match-requires
-by-match-requires c κs = ?
+by-match-requires c κs = sym (search flags)
 
 -- src/lib.rt:291:1
 returns-3 : tie.Need-returns-3
-returns-3 c = ?
+unfolding weighed
+returns-3 c = rw (c .by-match .ensures) (search flags)
 
 pub weigh-spec : {M : Type 1} → statement M
 weigh-spec =

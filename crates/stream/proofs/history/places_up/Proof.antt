@@ -59,9 +59,10 @@ cast-t14 c = search needs
 returns : tie.Need-returns
 returns c =
     let a = c .args in
-    let count = ap ones (top-field (a .h) (a .w) (a .d) (omega arith) (omega arith)) in
-    (top-shift (a .h) (a .w) (a .d) (omega arith) ∙ sym (pushes-at-once (a .w) (a .d) (a .h) (omega arith)),
-    ap (λ (n : ℕ). a .d - n) count ∙ sym (leaving-at-once (a .w) (a .d) (a .h) (omega arith)))
+    let count = ap ones (top-field (a .h) (a .w) (a .d) (omega arith) (omega arith)) in (
+      top-shift (a .h) (a .w) (a .d) (omega arith) ∙ sym (pushes-at-once (a .w) (a .d) (a .h) (omega arith)),
+      ap (λ (n : ℕ). a .d - n) count ∙ sym (leaving-at-once (a .w) (a .d) (a .h) (omega arith)),
+    )
 
 pub places-up-spec : {M : Type 1} → statement M
 places-up-spec =
