@@ -125,11 +125,11 @@ module _ (f g : List ℕ) (l : length f ≡ length g)
   same-bare : untagged f ≡ untagged g
   unfolding cutAt
   same-bare =
-      let front : take (typeAt f) f ≡ take (typeAt f) g = ext-getD 0 _ _ (rw (length-take, length-take, l)) (λ i h.
+      let front : take (typeAt f) f ≡ take (typeAt f) g = ext-getD 0 _ _ (simp (length-take, l)) (λ i h.
       (let k : i < typeAt f = omega (arith, simp length-take at h) in
       rw (getD-take (typeAt f) f i 0 k, getD-take (typeAt f) g i 0 k) (same i (λ e. omega arith) (λ e. omega arith)))) in
-      let rest : drop (typeAt f + 6) f ≡ drop (typeAt f + 6) g = ext-getD 0 _ _ (rw (length-drop, length-drop, l)) (λ i h.
-      rw (getD-drop, getD-drop) (same (typeAt f + 6 + i) (λ e. omega arith) (λ e. omega arith))) in
+      let rest : drop (typeAt f + 6) f ≡ drop (typeAt f + 6) g = ext-getD 0 _ _ (simp (length-drop, l)) (λ i h.
+      simp getD-drop (same (typeAt f + 6 + i) (λ e. omega arith) (λ e. omega arith))) in
       ap₂ _++_ front rest ∙ ap (cutAt g) same-type
 
   same-take : (out : List ℕ) → takeTag f out ≡ takeTag g out
