@@ -1,4 +1,4 @@
-//! Helpers of the tests.
+//! What several tests share.
 
 #![allow(dead_code)]
 
