@@ -5,11 +5,11 @@ use mathlib.Core.Bool.{Bool, true, false}
 use mathlib.Core.Option.{some}
 use Rattle.stream.specs.Record.{Stream, lawful}
 use Rattle.stream.specs.Decisions.{Case, first, far, again, late, next, moved, caseOf, verdictOf, stateAfter, outOfOrder, losses, countsAfter, with, verdict, decided}
-use Rattle.stream.specs.Steps.{weighedAs, weighed, verdictIn, recordAfter}
+use Rattle.stream.specs.Steps.{weighedAs, weighed, said, recordAfter}
 use Rattle.stream.specs.Laws.{StepsTellVerdict, StepsDecide, StepsDamaged, StepsLeave}
 
 module _ (s : Stream) (n : ℕ) where
-  tells : (c : Case) → verdictIn (weighedAs s n c) ≡ some (verdictOf c)
+  tells : (c : Case) → said (weighedAs s n c) ≡ some (verdictOf c)
   unfolding weighedAs
   tells first = refl
   tells far = refl

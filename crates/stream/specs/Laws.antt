@@ -10,7 +10,7 @@ use Rattle.record.specs.Words.{if_then_else_, yes}
 use Rattle.record.specs.Sizes.{vectorRule}
 use Rattle.stream.specs.Record.{State, Counts, Stream, settled, lawful, opened}
 use Rattle.stream.specs.Decisions.{Signed, behind, difference, asInt, Verdict, up, duplicate, rogue, isUp, rise, counted, with, verdict, decided, reset, ticked}
-use Rattle.stream.specs.Steps.{Weighed, Damaged, weighed, verdictIn, recordAfter}
+use Rattle.stream.specs.Steps.{Weighed, Damaged, weighed, said, recordAfter}
 
 -- "The difference is taken modulo 65536 and read as signed, from -32768 to 32767": it is in that range, it is congruent to
 -- number - anchor, and no other integer is both.
@@ -103,7 +103,7 @@ AnchorStays =
 -- The two steps that the code takes are the decision: for a lawful record the first tells its verdict, and the second gives
 -- its record; for every other record there is no verdict, and the record stays.
 abbrev pub StepsTellVerdict : Type 0
-StepsTellVerdict = (s : Stream) (number : ℕ) → lawful s ≡ true → verdictIn (weighed s number) ≡ some (verdict s number)
+StepsTellVerdict = (s : Stream) (number : ℕ) → lawful s ≡ true → said (weighed s number) ≡ some (verdict s number)
 
 abbrev pub StepsDecide : Type 0
 StepsDecide =

@@ -7,15 +7,15 @@ use record::State;
 use record::Stream;
 ghost use mathlib.Core.Path.{_≡_};
 ghost use mathlib.Core.Bool.{true, false, _&&_, _||_};
-ghost use Prim.Native.Nat.{_<_, _≤_};
+ghost use Prim.Native.Nat.{ℕ, _<_, _≤_};
 ghost use lib.Dec.{eqb};
 ghost use lib.IntN.{natAbs};
 ghost use Rattle.record.specs.Words.{if_then_else_, yes};
 ghost use Rattle.record.specs.Sizes.{windowLeast, windowMost, vectorRule, matchRule};
 ghost use Rattle.stream.specs.History.{bit, within, isEmpty, setBit};
 ghost use Rattle.stream.specs.Record.{fresh, isFresh, settled, lawful, opened, closed};
-ghost use Rattle.stream.specs.Decisions.{asInt, signed, difference, caseOf, next, counted, reset};
-ghost use Rattle.stream.specs.Steps.{lateMarks, weighedAs, weighed, recordAfter, tickOf};
+ghost use Rattle.stream.specs.Decisions.{asInt, signed, difference, again, late, next, caseOf, counted, reset};
+ghost use Rattle.stream.specs.Steps.{weighedAs, weighed, recordAfter, tickOf};
 
 // The anchor of the fresh state.
 const FRESH_ANCHOR: u16 = 65535;
@@ -194,10 +194,10 @@ fn size(d: i32) -> u16
     if d < 0 { (0 - d) as u16 } else { d as u16 }
 }
 
-// Vector, k behind the anchor. The anchor stays.
+// Vector, k behind the anchor. The anchor stays, so that the number itself is not looked at.
 fn behind(s: Stream, k: u16) -> Weighed
     requires { ⌜ k < windowMost ⌝ }
-    ensures { λ r. ⌜ r ≡ (if bit k (s .state .history) then Weighed.Duplicate else Weighed.HandedUp (lateMarks s k)) ⌝ }
+    ensures { λ r. ⌜ ((number : ℕ) → r ≡ weighedAs s number (if bit k (s .state .history) then again else late k)) ⌝ }
 {
     let h = s.state.history;
     if history::has_bit(h, k) {

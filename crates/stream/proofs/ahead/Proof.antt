@@ -1,6 +1,10 @@
 -- `stream::ahead` meets its contract. Assumes nothing.
+use mathlib.Core.Path.{ap₂}
+use mathlib.Core.Bool.{not}
+use Prim.Native.Nat.{ℕ}
+use lib.Dec.{eqb}
 use Rattle.stream.specs.Decisions.{stateAfter, losses, outOfOrder}
-use Rattle.stream.specs.Steps.{weighedAs}
+use Rattle.stream.specs.Steps.{HandedUp, weighedAs}
 use borrow.Author.Needs.{needs}
 use Rattle.stream.proofs.ahead.Statement.{statement}
 use Rattle.stream.proofs.ahead.Tie as tie
@@ -10,7 +14,12 @@ advanced-requires c κs = search needs
 
 returns : tie.Need-returns
 unfolding weighedAs stateAfter losses outOfOrder
-returns c = cc
+returns c =
+    let a = c .before .args in
+    ap₂
+    (λ (history lost : ℕ). HandedUp (record { history = history; lost = lost; anchor = a .number; disorder = not (eqb (a .k) 1) }))
+    (c .advanced .ensures .0)
+    (c .advanced .ensures .1)
 
 pub ahead-spec : {M : Type 1} → statement M
 ahead-spec = tie.close (tie.spec advanced-requires returns)

@@ -15,7 +15,7 @@ use Rattle.stream.specs.Decisions.{difference, asInt, caseOf, vectorCase
 use Rattle.stream.specs.Steps.{weighedAs}
 use Rattle.stream.proofs.Flags.{is-yes, is-no}
 use Rattle.stream.proofs.Reading.{forward, minus-fits, at-least, at-most, not-above}
-use Rattle.stream.proofs.Sorts.{case-first, case-vector, weighed-behind, far-ahead, far-back, inside, positive, in-past, in-front}
+use Rattle.stream.proofs.Sorts.{case-first, case-vector, far-ahead, far-back, inside, positive, in-past, in-front}
 use borrow.Author.Needs.{needs}
 use Rattle.stream.proofs.by_vector.Statement.{statement}
 use Rattle.stream.proofs.by_vector.Tie as tie
@@ -113,7 +113,7 @@ returns-4 c =
     let a = k .before .before .before .before .args in
     let x = difference (a .number) (a .s .state .anchor) in
     let past = in-past (a .s .window) (a .s .state .history) x (forward (a .number) (a .s .state .anchor)) (near e) (signed-test k true (c .before .if4 .taken)) in
-    rw (c .behind .ensures, sized (c .before .before), sorted k ∙ past) (sym (weighed-behind (a .s) (a .number) (bit (natAbs (asInt x)) (a .s .state .history)) (natAbs (asInt x))))
+    rw (c .behind .ensures (a .number), sized (c .before .before), sorted k ∙ past)
 
 ahead-requires : tie.Need-ahead-requires
 ahead-requires c κs =
