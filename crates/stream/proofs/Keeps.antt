@@ -1,18 +1,18 @@
 -- The decision, a tick, a reset and an open leave a record lawful. Assumes nothing.
-use Prim.Native.Nat.{ℕ, zero, suc, _-_, _≤_, _<_, zero-le}
-use mathlib.Core.Path.{_≡_, refl, ap, sym, _∙_}
-use mathlib.Core.Bool.{Bool, true, false, _&&_, _||_, Bool·beq}
+use Prim.Native.Nat.{ℕ, zero, suc, _-_, _<_, zero-le}
+use mathlib.Core.Path.{_≡_, refl, sym, _∙_}
+use mathlib.Core.Bool.{Bool, true, false, _||_}
 use native.Mathlib.Omega.{arith}
 use lib.Dec.{eqb}
 use borrow.Author.Tests.{eqb-false, ne-eqb}
 use Rattle.record.specs.Words.{if_then_else_, yes}
 use Rattle.record.specs.Sizes.{vectorRule}
-use Rattle.stream.specs.History.{History, empty, isEmpty, bit, within, single, setBit, advance}
-use Rattle.stream.specs.Record.{State, Counts, Stream, fresh, isFresh, settled, shaped, lawful, opened}
+use Rattle.stream.specs.History.{History, empty, isEmpty, single}
+use Rattle.stream.specs.Record.{State, Counts, Stream, fresh, isFresh, settled, shaped, lawful}
 use Rattle.stream.specs.Decisions.{Case, first, far, again, late, next, moved, caseOf, handedUp, with, stateAfter, countsAfter, decided, reset, expires, aged, ticked}
 use Rattle.stream.specs.Laws.{LawfulWithoutCounters, DecidedLawful, TickedLawful, ResetLawful, OpenedLawful}
 use Rattle.stream.proofs.Logic.{tests}
-use Rattle.stream.proofs.Law.{Law, Sizes, law, unlaw, sizes, size}
+use Rattle.stream.proofs.Law.{Law, Sizes, law, unlaw, size}
 use Rattle.stream.proofs.Told.{Fact, case-told}
 use Rattle.stream.proofs.Past.{empty-is, set-bit, set-within, single-bit, single-within, advance-zero, advance-within}
 

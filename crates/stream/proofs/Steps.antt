@@ -1,9 +1,8 @@
 -- The two steps of the code are the decision. Assumes nothing.
 use Prim.Native.Nat.{ℕ}
-use mathlib.Core.Path.{_≡_, refl, ap, sym, _∙_}
-use mathlib.Core.Bool.{Bool, true, false}
+use mathlib.Core.Path.{_≡_, refl}
 use mathlib.Core.Option.{some}
-use Rattle.stream.specs.Record.{Stream, lawful}
+use Rattle.stream.specs.Record.{Stream}
 use Rattle.stream.specs.Decisions.{Case, first, far, again, late, next, moved, caseOf, verdictOf, stateAfter, outOfOrder, losses, countsAfter, with, verdict, decided}
 use Rattle.stream.specs.Steps.{weighedAs, weighed, said, recordAfter}
 use Rattle.stream.specs.Laws.{StepsTellVerdict, StepsDecide, StepsDamaged, StepsLeave}

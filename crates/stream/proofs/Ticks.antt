@@ -1,15 +1,13 @@
 -- A tick, case by case as the code goes. Assumes nothing.
-use Prim.Native.Nat.{ℕ, _-_}
-use mathlib.Core.Path.{_≡_, refl, ap, sym, _∙_}
-use mathlib.Core.Bool.{Bool, true, false, _&&_, not}
+use Prim.Native.Nat.{_-_}
+use mathlib.Core.Path.{_≡_, refl, ap, _∙_}
+use mathlib.Core.Bool.{Bool, true, false, _&&_}
 use native.Mathlib.Omega.{arith}
-use lib.Dec.{eqb}
 use borrow.Author.Tests.{eq-eqb, ne-eqb}
 use Rattle.record.specs.Words.{yes}
 use Rattle.stream.specs.Record.{State, Stream, lawful, damaged}
 use Rattle.stream.specs.Decisions.{with, reset, expires, aged, ticked}
-use Rattle.stream.specs.Steps.{Ticked, tickOf}
-use Rattle.stream.proofs.Law.{Law, law}
+use Rattle.stream.specs.Steps.{tickOf}
 
 and-false : (b : Bool) → (b && false) ≡ false
 and-false true = refl

@@ -1,7 +1,7 @@
 -- Document 01, "Decisions": the decision in the two steps that the code takes, and the answer of a tick. The first step
 -- says what an arrival is to a record and reads no counter; the second gives the record after it. Assumes nothing.
 use Prim.Native.Nat.{ℕ}
-use mathlib.Core.Bool.{Bool, true, false}
+use mathlib.Core.Bool.{false}
 use mathlib.Core.Option.{Option, none, some}
 use Rattle.record.specs.Words.{if_then_else_}
 use Rattle.stream.specs.Record.{Stream, lawful, damaged}

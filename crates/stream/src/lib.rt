@@ -12,7 +12,7 @@ ghost use lib.Dec.{eqb};
 ghost use lib.IntN.{natAbs};
 ghost use Rattle.record.specs.Words.{if_then_else_, yes};
 ghost use Rattle.record.specs.Sizes.{windowLeast, windowMost, vectorRule, matchRule};
-ghost use Rattle.stream.specs.History.{bit, within, isEmpty, setBit};
+ghost use Rattle.stream.specs.History.{bit, within, isEmpty};
 ghost use Rattle.stream.specs.Record.{fresh, isFresh, settled, lawful, opened, closed};
 ghost use Rattle.stream.specs.Decisions.{asInt, signed, difference, again, late, next, caseOf, counted, reset};
 ghost use Rattle.stream.specs.Steps.{weighedAs, weighed, recordAfter, tickOf};

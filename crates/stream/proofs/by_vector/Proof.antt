@@ -1,16 +1,15 @@
 -- `stream::by_vector` meets its contract. Assumes nothing.
-use mathlib.Core.Path.{_≡_, ap, sym, _∙_}
+use mathlib.Core.Path.{_≡_, ap, _∙_}
 use mathlib.Core.Bool.{Bool, true, false}
 use Prim.Native.Nat.{_<_}
 use native.Mathlib.Omega.{arith}
-use lib.IntN.{ℤ, pos, negℤ, _-ℤ_, natAbs}
+use lib.IntN.{pos, negℤ, _-ℤ_, natAbs}
 use lib.Signed.{leZ}
 use borrow.Author.Tests.{eq-eqb}
 use mir.Syntax.{w32}
 use mir.Val.{SFits, toZ, ofZ}
 use mir.Facts.{toZ-ofZ}
 use Rattle.record.specs.Sizes.{vectorRule}
-use Rattle.stream.specs.History.{bit}
 use Rattle.stream.specs.Decisions.{difference, asInt, caseOf, vectorCase, stateAfter, losses, outOfOrder}
 use Rattle.stream.specs.Steps.{weighedAs}
 use Rattle.stream.proofs.Flags.{is-yes, is-no}
