@@ -10,7 +10,7 @@ use mir.Syntax.{w32}
 use mir.Val.{SFits, toZ, ofZ}
 use mir.Facts.{toZ-ofZ}
 use Rattle.record.specs.Sizes.{vectorRule}
-use Rattle.stream.specs.Decisions.{difference, asInt, caseOf, vectorCase, stateAfter, losses, outOfOrder}
+use Rattle.stream.specs.Decisions.{Signed, difference, asInt, caseOf, vectorCase, stateAfter, losses, outOfOrder}
 use Rattle.stream.specs.Steps.{weighedAs}
 use Rattle.stream.proofs.Flags.{is-yes, is-no}
 use Rattle.stream.proofs.Reading.{forward, minus-fits, at-least, at-most, not-above}
@@ -19,45 +19,48 @@ use borrow.Author.Needs.{needs}
 use Rattle.stream.proofs.by_vector.Statement.{statement}
 use Rattle.stream.proofs.by_vector.Tie as tie
 
--- Where d and the window are known, the case is the vector rule's at d,
+-- Where d and the window are known: the function's start, and d as the definitions have it.
+abbrev start : tie.After-struct-known2 → tie.Start
+start c = c .before .before .before .before
+
+abbrev d : tie.After-struct-known2 → Signed
+d c = difference (start c .args .number) (start c .args .s .state .anchor)
+
+-- The case is the vector rule's at d,
 sorted : (c : tie.After-struct-known2)
-    → caseOf (c .before .before .before .before .args .s) (c .before .before .before .before .args .number)
-    ≡ vectorCase (c .before .before .before .before .args .s .window) (c .before .before .before .before .args .s .state .history) (difference (c .before .before .before .before .args .number) (c .before .before .before .before .args .s .state .anchor))
+    → caseOf (start c .args .s) (start c .args .number) ≡ vectorCase (start c .args .s .window) (start c .args .s .state .history) (d c)
 sorted c =
-    let a = c .before .before .before .before in
-    case-vector (a .args .s) (a .args .number) (is-no (a .args .s .state .any) (c .before .before .if1 .left)) (eq-eqb (a .args .s .rule) vectorRule (a .pre .1 .1))
+    let s = start c .args .s in
+    case-vector s (start c .args .number) (is-no (s .state .any) (c .before .before .if1 .left)) (eq-eqb (s .rule) vectorRule (start c .pre .1 .1))
 
 -- and the tests on the local are tests on d.
 over : (c : tie.After-struct-known2) (b : Bool)
-    → leZ (toZ w32 (c .before .before .before .before .args .s .window)) (toZ w32 (ofZ w32 (c .before .difference .result))) ≡ b
-    → leZ (pos (c .before .before .before .before .args .s .window)) (asInt (difference (c .before .before .before .before .args .number) (c .before .before .before .before .args .s .state .anchor))) ≡ b
+    → leZ (toZ w32 (start c .args .s .window)) (toZ w32 (ofZ w32 (c .before .difference .result))) ≡ b
+    → leZ (pos (start c .args .s .window)) (asInt (d c)) ≡ b
 over c b e =
     let fits : SFits w32 (c .before .difference .result) = search needs in
-    rw (← c .before .difference .ensures) (at-least (c .before .before .before .before .args .s .window) (c .before .difference .result) (omega arith) fits b e)
+    rw (← c .before .difference .ensures) (at-least (start c .args .s .window) (c .before .difference .result) (omega arith) fits b e)
 
 under : (c : tie.After-struct-known2) (b : Bool)
-    → leZ (toZ w32 (ofZ w32 (c .before .difference .result))) (toZ w32 (ofZ w32 (pos 0 -ℤ toZ w32 (c .before .before .before .before .args .s .window)))) ≡ b
-    → leZ (asInt (difference (c .before .before .before .before .args .number) (c .before .before .before .before .args .s .state .anchor))) (negℤ (pos (c .before .before .before .before .args .s .window))) ≡ b
+    → leZ (toZ w32 (ofZ w32 (c .before .difference .result))) (toZ w32 (ofZ w32 (pos 0 -ℤ toZ w32 (start c .args .s .window)))) ≡ b
+    → leZ (asInt (d c)) (negℤ (pos (start c .args .s .window))) ≡ b
 under c b e =
     let fits : SFits w32 (c .before .difference .result) = search needs in
-    rw (← c .before .difference .ensures) (at-most (c .before .before .before .before .args .s .window) (c .before .difference .result) (omega arith) fits b e)
+    rw (← c .before .difference .ensures) (at-most (start c .args .s .window) (c .before .difference .result) (omega arith) fits b e)
 
-signed-test : (c : tie.After-struct-known2) (b : Bool)
-    → leZ (toZ w32 (ofZ w32 (c .before .difference .result))) (pos 0) ≡ b → leZ (asInt (difference (c .before .before .before .before .args .number) (c .before .before .before .before .args .s .state .anchor))) (pos 0) ≡ b
-signed-test c b e =
+not-ahead : (c : tie.After-struct-known2) (b : Bool)
+    → leZ (toZ w32 (ofZ w32 (c .before .difference .result))) (pos 0) ≡ b → leZ (asInt (d c)) (pos 0) ≡ b
+not-ahead c b e =
     let fits : SFits w32 (c .before .difference .result) = search needs in
     rw (← c .before .difference .ensures) (not-above (c .before .difference .result) fits b e)
 
 -- After the two bounds d is inside the window, and its size is what the definitions have.
-near : (c : tie.Else3)
-    → natAbs (asInt (difference (c .before .before .before .before .before .before .args .number) (c .before .before .before .before .before .before .args .s .state .anchor))) < c .before .before .before .before .before .before .args .s .window
+near : (c : tie.Else3) → natAbs (asInt (d (c .before .before))) < start (c .before .before) .args .s .window
 near c =
     let k = c .before .before in
-    let a = k .before .before .before .before .args in
-    inside (a .s .window) (asInt (difference (a .number) (a .s .state .anchor))) (over k false (c .before .if2 .left)) (under k false (c .if3 .left))
+    inside (start k .args .s .window) (asInt (d k)) (over k false (c .before .if2 .left)) (under k false (c .if3 .left))
 
-sized : (c : tie.After-size)
-    → c .size .result ≡ natAbs (asInt (difference (c .before .before .before .before .before .before .before .args .number) (c .before .before .before .before .before .before .before .args .s .state .anchor)))
+sized : (c : tie.After-size) → c .size .result ≡ natAbs (asInt (d (c .before .before .before)))
 sized c =
     let k = c .before .before .before in
     let fits : SFits w32 (k .before .difference .result) = search needs in
@@ -67,7 +70,8 @@ returns : tie.Need-returns
 unfolding weighedAs stateAfter losses outOfOrder
 returns c =
     let a = c .before .before in
-    rw (case-first (a .args .s) (a .args .number) (is-yes (a .args .s .state .any) (c .if1 .taken)), eq-eqb (a .args .s .rule) vectorRule (a .pre .1 .1))
+    let s = a .args .s in
+    rw (case-first s (a .args .number) (is-yes (s .state .any) (c .if1 .taken)), eq-eqb (s .rule) vectorRule (a .pre .1 .1))
 
 difference-requires : tie.Need-difference-requires
 difference-requires c κs = search needs
@@ -79,22 +83,18 @@ returns-2 : tie.Need-returns-2
 unfolding weighedAs
 returns-2 c =
     let k = c .before in
-    let a = k .before .before .before .before .args in
-    let e = over (c .before) true (c .if2 .taken) in
-    rw (sorted k ∙ far-ahead (a .s .window) (a .s .state .history) (difference (a .number) (a .s .state .anchor)) e)
+    let s = start k .args .s in
+    rw (sorted k ∙ far-ahead (s .window) (s .state .history) (d k) (over k true (c .if2 .taken)))
 
 sub-if3 : tie.Need-sub-if3
-sub-if3 c =
-    let a = c .before .before .before .before .before .args in
-    minus-fits (a .s .window) (pos 0) (omega arith) (record { sfits = omega arith })
+sub-if3 c = minus-fits (start (c .before) .args .s .window) (pos 0) (omega arith) (record { sfits = omega arith })
 
 returns-3 : tie.Need-returns-3
 unfolding weighedAs
 returns-3 c =
     let k = c .before .before in
-    let a = k .before .before .before .before .args in
-    let e = under k true (c .if3 .taken) in
-    rw (sorted k ∙ far-back (a .s .window) (a .s .state .history) (difference (a .number) (a .s .state .anchor)) e)
+    let s = start k .args .s in
+    rw (sorted k ∙ far-back (s .window) (s .state .history) (d k) (under k true (c .if3 .taken)))
 
 size-requires : tie.Need-size-requires
 size-requires c κs =
@@ -109,17 +109,17 @@ returns-4 : tie.Need-returns-4
 returns-4 c =
     let e = c .before .before .before in
     let k = e .before .before in
-    let a = k .before .before .before .before .args in
-    let x = difference (a .number) (a .s .state .anchor) in
-    let past = in-past (a .s .window) (a .s .state .history) x (forward (a .number) (a .s .state .anchor)) (near e) (signed-test k true (c .before .if4 .taken)) in
+    let a = start k .args in
+    let past =
+    in-past (a .s .window) (a .s .state .history) (d k) (forward (a .number) (a .s .state .anchor)) (near e)
+    (not-ahead k true (c .before .if4 .taken)) in
     rw (c .behind .ensures (a .number), sized (c .before .before), sorted k ∙ past)
 
 ahead-requires : tie.Need-ahead-requires
 ahead-requires c κs =
     let e = c .before .before in
     let k = e .before .before in
-    let a = k .before .before .before .before .args in
-    let some = positive (asInt (difference (a .number) (a .s .state .anchor))) (signed-test k false (c .if4 .left)) in
+    let some = positive (asInt (d k)) (not-ahead k false (c .if4 .left)) in
     let known = sized (c .before) in
     let less = near e in
     (omega (arith, some, known), (omega (arith, known, less), search needs))
@@ -128,9 +128,8 @@ returns-5 : tie.Need-returns-5
 returns-5 c =
     let e = c .before .before .before in
     let k = e .before .before in
-    let a = k .before .before .before .before .args in
-    let x = difference (a .number) (a .s .state .anchor) in
-    let front = in-front (a .s .window) (a .s .state .history) x (near e) (signed-test k false (c .before .if4 .left)) in
+    let s = start k .args .s in
+    let front = in-front (s .window) (s .state .history) (d k) (near e) (not-ahead k false (c .before .if4 .left)) in
     rw (c .ahead .ensures, sized (c .before .before), sorted k ∙ front)
 
 pub by-vector-spec : {M : Type 1} → statement M
