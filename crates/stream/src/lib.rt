@@ -306,7 +306,7 @@ fn handed_up(s: Stream, network: u8, m: Marks) -> Stream
     let mut c = s.counts;
     c.arrivals0 = counted(network == 0, s.counts.arrivals0);
     c.arrivals1 = counted(network != 0, s.counts.arrivals1);
-    c.passed = counted(true, s.counts.passed);
+    c.passed = std::num::wrapping_add_u64(s.counts.passed, 1);
     c.disorder = counted(m.disorder, s.counts.disorder);
     c.lost = std::num::wrapping_add_u64(s.counts.lost, m.lost);
     let state = State {
@@ -327,7 +327,7 @@ fn duplicate(s: Stream, network: u8) -> Stream
     let mut c = s.counts;
     c.arrivals0 = counted(network == 0, s.counts.arrivals0);
     c.arrivals1 = counted(network != 0, s.counts.arrivals1);
-    c.discarded = counted(true, s.counts.discarded);
+    c.discarded = std::num::wrapping_add_u64(s.counts.discarded, 1);
     let mut kept = s;
     kept.counts = c;
     kept
@@ -339,7 +339,7 @@ fn rogue(s: Stream, network: u8) -> Stream
     let mut c = s.counts;
     c.arrivals0 = counted(network == 0, s.counts.arrivals0);
     c.arrivals1 = counted(network != 0, s.counts.arrivals1);
-    c.rogue = counted(true, s.counts.rogue);
+    c.rogue = std::num::wrapping_add_u64(s.counts.rogue, 1);
     let mut same = s;
     same.counts = c;
     same

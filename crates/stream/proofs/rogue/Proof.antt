@@ -11,12 +11,13 @@ counted-requires c κs = search needs
 counted-requires-2 : tie.Need-counted-requires-2
 counted-requires-2 c κs = search needs
 
-counted-requires-3 : tie.Need-counted-requires-3
-counted-requires-3 c κs = search needs
+wrapping-add-u64-requires : tie.Need-wrapping-add-u64-requires
+wrapping-add-u64-requires c κs = search needs
 
 returns : tie.Need-returns
 unfolding recordAfter tally
 returns c = cc
 
 pub rogue-spec : {M : Type 1} → statement M
-rogue-spec = tie.close (tie.spec counted-requires counted-requires-2 counted-requires-3 returns)
+rogue-spec =
+    tie.close (tie.spec counted-requires counted-requires-2 wrapping-add-u64-requires returns)
