@@ -1,6 +1,5 @@
 -- `stream::duplicate` meets its contract. Assumes nothing.
-use Rattle.stream.specs.Decisions.{tally}
-use Rattle.stream.specs.Steps.{recordAfter}
+use Rattle.stream.proofs.Steps.{duplicate-is}
 use borrow.Author.Needs.{needs}
 use Rattle.stream.proofs.duplicate.Statement.{statement}
 use Rattle.stream.proofs.duplicate.Tie as tie
@@ -15,8 +14,7 @@ wrapping-add-u64-requires : tie.Need-wrapping-add-u64-requires
 wrapping-add-u64-requires c κs = search needs
 
 returns : tie.Need-returns
-unfolding recordAfter tally
-returns c = cc
+returns c = duplicate-is _ _ (search needs) (search needs) (search needs)
 
 pub duplicate-spec : {M : Type 1} → statement M
 duplicate-spec =

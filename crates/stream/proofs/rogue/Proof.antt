@@ -1,6 +1,5 @@
 -- `stream::rogue` meets its contract. Assumes nothing.
-use Rattle.stream.specs.Decisions.{tally}
-use Rattle.stream.specs.Steps.{recordAfter}
+use Rattle.stream.proofs.Steps.{rogue-is}
 use borrow.Author.Needs.{needs}
 use Rattle.stream.proofs.rogue.Statement.{statement}
 use Rattle.stream.proofs.rogue.Tie as tie
@@ -15,8 +14,7 @@ wrapping-add-u64-requires : tie.Need-wrapping-add-u64-requires
 wrapping-add-u64-requires c κs = search needs
 
 returns : tie.Need-returns
-unfolding recordAfter tally
-returns c = cc
+returns c = rogue-is _ _ (search needs) (search needs) (search needs)
 
 pub rogue-spec : {M : Type 1} → statement M
 rogue-spec =
