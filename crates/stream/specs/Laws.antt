@@ -102,6 +102,13 @@ AnchorStays =
     → difference number (s .state .anchor) ≡ behind k
     → decided s number network .state .anchor ≡ s .state .anchor
 
+-- A tick leaves damaged records "and the free ones untouched"; and so it does a lawful one that has no tick left.
+abbrev pub TickLeaves : Type 0
+TickLeaves = (s : Stream) → lawful s ≡ false → ticked s ≡ s
+
+abbrev pub TickNoneLeft : Type 0
+TickNoneLeft = (s : Stream) → lawful s ≡ true → s .state .remaining ≡ 0 → ticked s ≡ s
+
 -- The two steps that the code takes are the decision: for a lawful record the first tells its verdict, and the second gives
 -- its record; for every other record there is no verdict, and the record stays.
 abbrev pub StepsTellVerdict : Type 0
