@@ -1,4 +1,4 @@
--- `stream::by_vector` meets its contract. Assumes nothing.
+-- `stream::cases::by_vector` meets its contract. Assumes nothing.
 use mathlib.Core.Path.{_≡_, ap, _∙_}
 use mathlib.Core.Bool.{Bool, true, false}
 use Prim.Native.Nat.{_<_}
@@ -16,8 +16,8 @@ use Rattle.stream.proofs.Flags.{is-yes, is-no}
 use Rattle.stream.proofs.Reading.{forward, minus-fits, at-least, at-most, not-above}
 use Rattle.stream.proofs.Sorts.{case-first, case-vector, far-ahead, far-back, inside, positive, in-past, in-front}
 use borrow.Author.Needs.{needs}
-use Rattle.stream.proofs.by_vector.Statement.{statement}
-use Rattle.stream.proofs.by_vector.Tie as tie
+use Rattle.stream.proofs.cases.by_vector.Statement.{statement}
+use Rattle.stream.proofs.cases.by_vector.Tie as tie
 
 -- Where d and the window are known: the function's start, and d as the definitions have it.
 abbrev start : tie.After-struct-known2 → tie.Start

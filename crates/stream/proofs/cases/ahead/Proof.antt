@@ -1,4 +1,4 @@
--- `stream::ahead` meets its contract. Assumes nothing.
+-- `stream::cases::ahead` meets its contract. Assumes nothing.
 use mathlib.Core.Path.{ap₂}
 use mathlib.Core.Bool.{not}
 use Prim.Native.Nat.{ℕ}
@@ -6,8 +6,8 @@ use lib.Dec.{eqb}
 use Rattle.stream.specs.Decisions.{stateAfter, losses, outOfOrder}
 use Rattle.stream.specs.Steps.{HandedUp, weighedAs}
 use borrow.Author.Needs.{needs}
-use Rattle.stream.proofs.ahead.Statement.{statement}
-use Rattle.stream.proofs.ahead.Tie as tie
+use Rattle.stream.proofs.cases.ahead.Statement.{statement}
+use Rattle.stream.proofs.cases.ahead.Tie as tie
 
 advanced-requires : tie.Need-advanced-requires
 advanced-requires c κs = search needs

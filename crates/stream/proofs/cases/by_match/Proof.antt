@@ -1,4 +1,4 @@
--- `stream::by_match` meets its contract. Assumes nothing.
+-- `stream::cases::by_match` meets its contract. Assumes nothing.
 use mathlib.Core.Path.{_≡_, ap, sym, _∙_}
 use mathlib.Core.Bool.{true, false}
 use Prim.Native.Nat.{ℕ, _<_, _^_}
@@ -14,8 +14,8 @@ use Rattle.stream.proofs.Flags.{is-yes, is-no}
 use Rattle.stream.proofs.Reading.{forward, isℤ, bits-are}
 use Rattle.stream.proofs.Sorts.{case-first, case-match, match-same, match-other}
 use borrow.Author.Needs.{needs}
-use Rattle.stream.proofs.by_match.Statement.{statement}
-use Rattle.stream.proofs.by_match.Tie as tie
+use Rattle.stream.proofs.cases.by_match.Statement.{statement}
+use Rattle.stream.proofs.cases.by_match.Tie as tie
 
 -- Where d is known: the function's start, and d as the definitions have it.
 abbrev start : tie.After-difference → tie.Start

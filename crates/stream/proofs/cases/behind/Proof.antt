@@ -1,4 +1,4 @@
--- `stream::behind` meets its contract. Assumes nothing.
+-- `stream::cases::behind` meets its contract. Assumes nothing.
 use mathlib.Core.Path.{_≡_, sym}
 use mathlib.Core.Bool.{true, false}
 use Rattle.stream.specs.History.{bit}
@@ -6,8 +6,8 @@ use Rattle.stream.specs.Decisions.{stateAfter, losses, outOfOrder}
 use Rattle.stream.specs.Steps.{weighedAs}
 use Rattle.stream.proofs.Flags.{flags}
 use borrow.Author.Needs.{needs}
-use Rattle.stream.proofs.behind.Statement.{statement}
-use Rattle.stream.proofs.behind.Tie as tie
+use Rattle.stream.proofs.cases.behind.Statement.{statement}
+use Rattle.stream.proofs.cases.behind.Tie as tie
 
 has-bit-requires : tie.Need-has-bit-requires
 has-bit-requires c κs = search needs

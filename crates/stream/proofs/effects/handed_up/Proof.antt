@@ -1,9 +1,9 @@
--- `stream::handed_up` meets its contract. Assumes nothing.
+-- `stream::effects::handed_up` meets its contract. Assumes nothing.
 use Rattle.stream.specs.Decisions.{tally}
 use Rattle.stream.specs.Steps.{recordAfter}
 use borrow.Author.Needs.{needs}
-use Rattle.stream.proofs.handed_up.Statement.{statement}
-use Rattle.stream.proofs.handed_up.Tie as tie
+use Rattle.stream.proofs.effects.handed_up.Statement.{statement}
+use Rattle.stream.proofs.effects.handed_up.Tie as tie
 
 counted-requires : tie.Need-counted-requires
 counted-requires c κs = search needs

@@ -1,8 +1,8 @@
--- `stream::duplicate` meets its contract. Assumes nothing.
-use Rattle.stream.proofs.Steps.{duplicate-is}
+-- `stream::effects::rogue` meets its contract. Assumes nothing.
+use Rattle.stream.proofs.Steps.{rogue-is}
 use borrow.Author.Needs.{needs}
-use Rattle.stream.proofs.duplicate.Statement.{statement}
-use Rattle.stream.proofs.duplicate.Tie as tie
+use Rattle.stream.proofs.effects.rogue.Statement.{statement}
+use Rattle.stream.proofs.effects.rogue.Tie as tie
 
 counted-requires : tie.Need-counted-requires
 counted-requires c κs = search needs
@@ -14,8 +14,8 @@ wrapping-add-u64-requires : tie.Need-wrapping-add-u64-requires
 wrapping-add-u64-requires c κs = search needs
 
 returns : tie.Need-returns
-returns c = duplicate-is _ _ (search needs) (search needs) (search needs)
+returns c = rogue-is _ _ (search needs) (search needs) (search needs)
 
-pub duplicate-spec : {M : Type 1} → statement M
-duplicate-spec =
+pub rogue-spec : {M : Type 1} → statement M
+rogue-spec =
     tie.close (tie.spec counted-requires counted-requires-2 wrapping-add-u64-requires returns)
