@@ -1,0 +1,9 @@
+pub mod Logic
+pub mod Bits
+pub mod Past
+pub mod Law
+pub mod Told
+pub mod Keeps
+pub mod Changes
+pub mod Steps
+pub mod Wrap
