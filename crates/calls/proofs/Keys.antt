@@ -1,0 +1,48 @@
+-- Whether a record has the key, field by field, in the order in which the code compares. Assumes nothing.
+use mathlib.Core.Path.{_≡_, refl}
+use Prim.Native.Nat.{ℕ}
+use mathlib.Core.Bool.{Bool, true, false, not, _&&_}
+use lib.Dec.{T, eqb, eqb→eq, eqb-refl}
+use Rattle.record.specs.declared.Stream.{Stream}
+use Rattle.record.specs.Words.{yes}
+use Rattle.calls.specs.Table.{hasKey}
+
+holds : (t : Bool) → T t → t ≡ true
+holds true _ = refl
+holds false z = absurd z
+
+fails : (t : Bool) → (T t → ⊥) → t ≡ false
+fails true f = absurd (f tt)
+fails false _ = refl
+
+same : (a b : ℕ) → a ≡ b → eqb a b ≡ true
+same a b e = rw e (holds (eqb b b) (eqb-refl b))
+
+differs : (a b : ℕ) → (a ≡ b → ⊥) → eqb a b ≡ false
+differs a b f = fails (eqb a b) (λ t. f (eqb→eq a b t))
+
+second-fails : (x y z : Bool) → y ≡ false → false ≡ (x && y && z)
+second-fails true y z e = rw e
+second-fails false y z e = refl
+
+third-fails : (x y z : Bool) → z ≡ false → false ≡ (x && y && z)
+third-fails true true z e = rw e
+third-fails true false z e = refl
+third-fails false y z e = refl
+
+others-hold : (x y z : Bool) → y ≡ true → z ≡ true → x ≡ (x && y && z)
+others-hold true y z e f = rw (e, f)
+others-hold false y z e f = refl
+
+module _ (dest vlan : ℕ) (s : Stream) where
+  pub other-dest : (s .dest ≡ dest → ⊥) → false ≡ hasKey dest vlan s
+  unfolding hasKey
+  other-dest f = second-fails (yes (s .used)) (eqb (s .dest) dest) (eqb (s .vlan) vlan) (differs _ _ f)
+
+  pub other-vlan : (s .vlan ≡ vlan → ⊥) → false ≡ hasKey dest vlan s
+  unfolding hasKey
+  other-vlan f = third-fails (yes (s .used)) (eqb (s .dest) dest) (eqb (s .vlan) vlan) (differs _ _ f)
+
+  pub same-key : s .dest ≡ dest → s .vlan ≡ vlan → not (eqb (s .used) 0) ≡ hasKey dest vlan s
+  unfolding hasKey yes
+  same-key d v = others-hold (yes (s .used)) (eqb (s .dest) dest) (eqb (s .vlan) vlan) (same _ _ d) (same _ _ v)
