@@ -2,24 +2,11 @@
 use mathlib.Core.Path.{_≡_, refl}
 use Prim.Native.Nat.{ℕ}
 use mathlib.Core.Bool.{Bool, true, false, not, _&&_}
-use lib.Dec.{T, eqb, eqb→eq, eqb-refl}
+use lib.Dec.{eqb}
 use Rattle.record.specs.declared.Stream.{Stream}
 use Rattle.record.specs.Words.{yes}
 use Rattle.calls.specs.Table.{hasKey}
-
-holds : (t : Bool) → T t → t ≡ true
-holds true _ = refl
-holds false z = absurd z
-
-fails : (t : Bool) → (T t → ⊥) → t ≡ false
-fails true f = absurd (f tt)
-fails false _ = refl
-
-same : (a b : ℕ) → a ≡ b → eqb a b ≡ true
-same a b e = rw e (holds (eqb b b) (eqb-refl b))
-
-differs : (a b : ℕ) → (a ≡ b → ⊥) → eqb a b ≡ false
-differs a b f = fails (eqb a b) (λ t. f (eqb→eq a b t))
+use Rattle.calls.proofs.Bools.{same, differs}
 
 second-fails : (x y z : Bool) → y ≡ false → false ≡ (x && y && z)
 second-fails true y z e = rw e
