@@ -93,8 +93,7 @@ module _ {M : Type 1} (𝓤 : URA M) (H : Heap 𝓤) (A : Atoms 𝓤) (W : Given
         rewrite ! 3 (λ (p : ℕ). ‵ (fat fullShare tyPtr l₇ 0 (vptr b p))) (sym (place-is size o i)) refl $
         opens-at ! tt ys i blank b o l (λ g.
         assigns-last ! (of-opd ! (load ! (from ! (stop !)) (look-cell ! 14 refl))) (from ! (hop ! (look-cell ! 6 refl) (stop !))) (store-raw ! 0 refl (typed 𝓤 H A W e g-e)) $
-        closes-at ! tt ys i blank e b o l g-e $
-        exec ! C Λ (En l₀ l₁ l₂ l₃ l₄ l₅ l₆ l₇) mir′.t-4 (atRet (En l₀ l₁ l₂ l₃ l₄ l₅ l₆ l₇) Post′) $
+        exec ! C Λ (En l₀ l₁ l₂ l₃ l₄ l₅ l₆ l₇) mir′.t-4 (atRet (En l₀ l₁ l₂ l₃ l₄ l₅ l₆ l₇) Post′) $ closes-at ! tt ys i blank e b o l g-e $
         assigns ! (of-opd ! (unit-lit !)) (from ! (stop !)) (init ! 17 refl (tt, tt)) $
         returns ! (look-cell ! 17 refl) $ forget ! 17 refl $ forget ! 15 refl $ forget ! 13 refl $ forget ! 11 refl $ forget ! 9 refl $ forget ! 7 refl $ forget ! 5 refl $ forget ! 3 refl $
         move ! (17 ∷ 18 ∷ []) $ free1 ! $ move ! (15 ∷ 16 ∷ []) $ free1 ! $ move ! (13 ∷ 14 ∷ []) $ free1 ! $ move ! (11 ∷ 12 ∷ []) $ free1 ! $ move ! (9 ∷ 10 ∷ []) $ free1 ! $ move ! (7 ∷ 8 ∷ []) $ free1 ! $ move ! (5 ∷ 6 ∷ []) $ free1 ! $ move ! (3 ∷ 4 ∷ []) $ free1 ! $ free0 ! $ keep ! (0 ∷ 1 ∷ 2 ∷ []) $ by ! (exits g-ys (set ys i e) (length-set ys i e) refl)))
