@@ -87,7 +87,6 @@ Rows: R val size ty shrTy mutTy Ok fits-at typed spells tells has looks-at shuts
 Calling: calls-value calls-with
 Lending: calls-shr calls-mut
 Pieces: after arm-of
-Values: found-row found-ty found-val found-ok found-typed found-has found-spells found-tells at-ok nothing-ok
 '''
 
 
@@ -493,7 +492,8 @@ unfolding code.routine tablesOf
         body = re.sub(r'\n\n\n+', '\n\n', body)
         f, own = dash(self.name), f'Rattle.{self.crate}.proofs'
         head = [f'-- `{self.crate}::{self.name}` meets its contract: {self.about}', f'-- A walk of its MIR, made by tools/walks/walk.py from tools/walks/{self.crate}/{self.name}.walk: edit that. Assumes nothing.']
-        head += imports(IMPORTS, body, '') + uses + imports(OWN, body, own + '.') + self.callee_uses()
+        values = ' '.join(sorted(set(re.findall(r'[a-z]+-(?:row|ty|val|ok|typed|has|spells|tells)(?![\w-])', body)) - {'uint-tells', 'bool-tells', 'slice-tells'}))
+        head += imports(IMPORTS, body, '') + uses + imports(OWN + (f'Values: {values}\n' if values else ''), body, own + '.') + self.callee_uses()
         head += [f'use {own}.{self.name}.Key.{{name as #{self.crate}·{f}}}', f'use {own}.{self.name} as fn', f'use {own}.{self.name}.Statement as stated', f'use {own}.{self.name}.Code as code']
         if 'mir′.' in body: head += [f'use {own}.{self.name}.Code.Mir as mir′']
         return '\n'.join(head) + '\n\n' + body

@@ -23,6 +23,9 @@ use denote.Enum.Laws as EL
 use Rattle.calls.specs.declared.Found.{Found}
 use Rattle.calls.proofs.Found as F
 use Rattle.calls.proofs.Found.Laws as F′
+use Rattle.calls.specs.declared.Survey.{Survey}
+use Rattle.calls.proofs.Survey as S
+use Rattle.calls.proofs.Survey.Laws as S′
 
 -- ---- Found
 abbrev pub found-row : RattleType
@@ -56,3 +59,30 @@ module _ {M : Type 1} (𝓤 : URA M) (H : Heap 𝓤) (A : Atoms 𝓤) (W : Given
 module _ {M : Type 1} {𝓤 : URA M} {H : Heap 𝓤} {A : Atoms 𝓤} {K : Type 0} {W : Given 𝓤 H A} {Γ : List (Item 𝓤)} {G : Goal 𝓤 H} where
   pub found-has : K → (r : Found) → found-ok r → Step K W (‵ (found-row .own r (found-val r ∷ [])) ∷ Γ) G Γ G
   found-has t r g = owned t found-row (Is found-row) (EL.makes F.the-type F′.the-plain 𝓤 H A) r _ g
+
+-- ---- Survey
+abbrev pub survey-row : RattleType
+survey-row = S.the-row
+
+abbrev pub survey-ty : Ty
+survey-ty = S′.mir
+
+abbrev pub survey-val : Survey → Val
+survey-val = LL.val S.the-type S′.the-laws
+
+abbrev pub survey-spells : Survey → List Val
+survey-spells = LL.vals S.the-type S′.the-laws
+
+pub survey-tells : Tells survey-row (Is survey-row) survey-spells
+survey-tells = LL.tells S.the-type S′.the-laws
+
+abbrev pub survey-ok : Survey → Type 0
+survey-ok a = Is survey-row a (survey-val a ∷ [])
+
+module _ {M : Type 1} (𝓤 : URA M) (H : Heap 𝓤) (A : Atoms 𝓤) (W : Given 𝓤 H A) where
+  pub survey-typed : (a : Survey) → survey-ok a → T (hasTy survey-ty (survey-val a)) × WT (survey-val a)
+  survey-typed a g = LL.lawful S.the-type S′.the-laws 𝓤 H A W .typed a _ g .0
+
+module _ {M : Type 1} {𝓤 : URA M} {H : Heap 𝓤} {A : Atoms 𝓤} {K : Type 0} {W : Given 𝓤 H A} {Γ : List (Item 𝓤)} {G : Goal 𝓤 H} where
+  pub survey-has : K → (a : Survey) → survey-ok a → Step K W (‵ (survey-row .own a (survey-val a ∷ [])) ∷ Γ) G Γ G
+  survey-has t a g = owned t survey-row (Is survey-row) (LL.makes S.the-type S′.the-plain 𝓤 H A) a _ g

@@ -51,7 +51,7 @@ use Rattle.calls.proofs.Search.{found-nil, found-snoc, found-front}
 use Rattle.receiver.proofs.Rows.{R, val, size, ty, shrTy, fits-at, typed, has, looks-at, shuts-at, enters-shr}
 use Rattle.receiver.proofs.Calling.{calls-value}
 use Rattle.receiver.proofs.Pieces.{after}
-use Rattle.receiver.proofs.Values.{found-ty, found-val, found-ok, found-typed, found-has, at-ok, nothing-ok}
+use Rattle.receiver.proofs.Values.{at-ok, found-has, found-ok, found-ty, found-typed, found-val, nothing-ok}
 use Rattle.calls.proofs.has_key as fn-has-key
 use Rattle.calls.proofs.has_key.Symbol as fn-has-key-def
 use Rattle.calls.proofs.has_key.Symbol.{name as #calls·has-key}
