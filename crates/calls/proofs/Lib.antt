@@ -1,0 +1,4 @@
+pub mod Bools
+pub mod Keys
+pub mod Looks
+pub mod Search
