@@ -69,3 +69,8 @@ foundHere p s i = if p s then At i else Nothing
 
 unfoldable pub looked : (dest vlan : ℕ) → Survey → Stream → ℕ → Survey
 looked dest vlan a s i = record { taken = a .taken || hasKey dest vlan s; free = orElse (a .free) (foundHere isFree s i) }
+
+-- in how many slots the record passes the test
+unfoldable pub count : (Stream → Bool) → Table → ℕ
+count p [] = zero
+count p (s ∷ t) = if p s then suc (count p t) else count p t
