@@ -65,12 +65,19 @@ fn first_four(s: &[u8]) -> u32
     (wide(s[0]) << 24) | (wide(s[1]) << 16) | (wide(s[2]) << 8) | wide(s[3])
 }
 
-// The destination as one number.
+// The destination at the start of a frame, as one number.
 fn dest_of(s: &[u8]) -> u64
     requires { ⌜ 6 ≤ length (now s) ⌝ }
     ensures { λ r. ⌜ r ≡ destOf (now (s .entry)) ⌝ }
 {
     ((first_four(s) as u64) << 16) | (word_at(s, 4) as u64)
+}
+
+// A destination by itself as the same number: what an open is given.
+pub fn destination(dest: [u8; 6]) -> u64
+    ensures { λ r. ⌜ r ≡ destOf dest ⌝ }
+{
+    dest_of(&dest)
 }
 
 // Destination, VLAN id, place of the type field, and whether F1C1 stands there: the 14 and 18 byte rules only.

@@ -1,7 +1,8 @@
--- Facts on lists that the walks cite and the library has not. Assumes nothing.
+-- Facts on lists and counting that the walks cite and the library has not. Assumes nothing.
 use mathlib.Core.Path.{_≡_, refl}
-use Prim.Native.Nat.{ℕ, zero, suc, _≤_}
+use Prim.Native.Nat.{ℕ, zero, suc, _+_, _-_, _≤_, _<_}
 use native.Mathlib.Nat.{not-suc-le-zero, le-of-suc-le-suc}
+use native.Mathlib.Omega.{arith}
 use mathlib.Core.List.{List, [], _∷_}
 use lib.ListN.{length, getD}
 
@@ -9,3 +10,13 @@ pub getD-past : {A : Type 0} (xs : List A) (i : ℕ) (d : A) → length xs ≤ i
 getD-past [] i d h = refl
 getD-past (x ∷ xs) zero d h = absurd (not-suc-le-zero h)
 getD-past (x ∷ xs) (suc i) d h = getD-past xs i d (le-of-suc-le-suc h)
+
+-- ---- a loop that counts up
+pub from-0 : (k : ℕ) → 0 ≤ k
+from-0 k = omega arith
+
+pub one-more : (i : ℕ) → i + 1 ≡ suc i
+one-more i = omega arith
+
+pub less : (n i : ℕ) → i < n → n - suc i < n - i
+less n i l = omega (arith, l)

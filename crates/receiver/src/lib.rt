@@ -1,6 +1,7 @@
 // The table that the caller lends: a slice of stream records. Each function here is a thin walk over it; what is decided of one record is decided by value in the crates below.
+use calls::Found;
+use calls::Survey;
 use record::Stream;
-use calls::{Found, Survey};
 ghost use mathlib.Core.Path.{_≡_};
 ghost use lib.ListN.{set};
 ghost use Rattle.calls.specs.Table.{at, found, hasKey, surveyed};

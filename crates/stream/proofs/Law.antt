@@ -1,9 +1,9 @@
 -- What a lawful record is, part by part. Assumes nothing.
 use Prim.Native.Nat.{ℕ, _≤_, _<_}
 use mathlib.Core.Path.{_≡_, refl, sym, _∙_}
-use mathlib.Core.Bool.{Bool, true, false, _&&_}
+use mathlib.Core.Bool.{Bool, true, false, _&&_, Bool·beq}
 use native.Mathlib.Omega.{arith}
-use lib.Dec.{eqb}
+use lib.Dec.{eqb, leb}
 use borrow.Author.Tests.{eq-eqb, ne-eqb}
 use Rattle.record.specs.Words.{yes}
 use Rattle.record.specs.Sizes.{windowLeast, windowMost, timeLeast, timeMost, vlanMost}
@@ -58,6 +58,18 @@ unfolding isFresh
 fresh-parts {t} e =
     let p = simp tests at e in
     record { anchor = p .0 .0 .0; history = is-empty (t .history) (p .0 .0 .1); any = p .0 .1; remaining = p .1 }
+
+-- With take-any, being lawful is being fresh: the rest of it is then there.
+pub taking-any : (s : Stream) → true ≡ yes (s .used) → true ≡ settled s → true ≡ leb (s .state .remaining) (s .time)
+    → true ≡ yes (s .state .any) → lawful s ≡ isFresh (s .state)
+unfolding lawful shaped isFresh
+taking-any s u e r a = rw (← u, ← e, ← r, ← a) (go (eqb (s .state .anchor) anchorFresh && isEmpty (s .state .history)) (eqb (s .state .remaining) 0))
+  where
+    go : (x z : Bool) → (Bool·beq z true && (x && true && z)) ≡ (x && true && z)
+    go true true = refl
+    go true false = refl
+    go false true = refl
+    go false false = refl
 
 -- A lawful record with take-any is fresh, and so is one with no ticks left.
 pub idle-fresh : {s : Stream} → Law s → yes (s .state .any) ≡ true → isFresh (s .state) ≡ true

@@ -4,6 +4,7 @@ use Prim.Native.Nat.{ℕ}
 use mathlib.Core.Bool.{Bool, true, false}
 use mathlib.Core.Option.{Option, none, some}
 use Rattle.record.specs.Words.{if_then_else_}
+use Rattle.stream.specs.History.{setBit}
 use Rattle.stream.specs.Record.{Stream, lawful, damaged}
 use Rattle.stream.specs.Decisions.{Case, caseOf, Verdict, up, duplicate, rogue, verdictOf, handedUp, stateAfter, outOfOrder, losses, tally, with, expires, ticked}
 pub use Rattle.stream.specs.declared.Marks.{Marks}
@@ -19,6 +20,10 @@ marksOf s number c = record {
   anchor = stateAfter s number c .anchor;
   disorder = outOfOrder c;
 }
+
+-- What a late number leaves, k behind the anchor.
+abbrev pub lateMarks : Stream → (k : ℕ) → Marks
+lateMarks s k = record { history = setBit k (s .state .history); lost = 0; anchor = s .state .anchor; disorder = true }
 
 -- The paper's verdict as the first step answers it.
 abbrev pub said : Verdict → Marks → Weighed

@@ -51,6 +51,7 @@ use Rattle.calls.proofs.Search.{found-nil, found-snoc, found-front}
 use Rattle.receiver.proofs.Rows.{R, val, size, ty, shrTy, fits-at, typed, has, looks-at, shuts-at, enters-shr}
 use Rattle.receiver.proofs.Calling.{calls-value}
 use Rattle.receiver.proofs.Pieces.{after}
+use Rattle.receiver.proofs.Lists.{from-0, one-more, less}
 use Rattle.receiver.proofs.Values.{at-ok, found-has, found-ok, found-ty, found-typed, found-val, nothing-ok}
 use Rattle.calls.proofs.has_key as fn-has-key
 use Rattle.calls.proofs.has_key.Symbol as fn-has-key-def
@@ -71,9 +72,6 @@ module _ {M : Type 1} (𝓤 : URA M) (H : Heap 𝓤) (A : Atoms 𝓤) (mem : Mem
 
   pub record Known (C : Calls 𝓤 H) : Type 1 where
     pub has-key′ : Triple 𝓤 (C #calls·has-key) HasKey
-
-from-0 : (k : ℕ) → 0 ≤ k
-from-0 k = omega arith
 
 here : (p : Stream → Bool) (e : Stream) (i : ℕ) (r : Bool) → r ≡ p e → T r → foundHere p e i ≡ Found.At i
 here p e i true said _ = rw (← said)
@@ -115,9 +113,6 @@ module _ {M : Type 1} (𝓤 : URA M) (H : Heap 𝓤) (A : Atoms 𝓤) (W : Given
   abbrev X : Type 0
   X = (i : ℕ) × Facts i
 
-  abbrev ≺ : X → X → Type 0
-  ≺ t u = n - t .0 < n - u .0
-
   abbrev start : X
   start = (0, (from-0 n, found-nil p))
 
@@ -153,11 +148,17 @@ module _ {M : Type 1} (𝓤 : URA M) (H : Heap 𝓤) (A : Atoms 𝓤) (W : Given
       abbrev I : X → List (Item 𝓤)
       I t = ‵ (fshr-bor κ (λ p. arr-parts (shares R) n .part p ys b o)) ∷ ‵ (flft κ q) ∷ ‵ (froom ty l₁₀ 0) ∷ ‵ (fdies ty l₁₀) ∷ ‵ (froom tyPtr l₉ 0) ∷ ‵ (fdies tyPtr l₉) ∷ ‵ (froom tyBool l₈ 0) ∷ ‵ (fdies tyBool l₈) ∷ ‵ (froom tyBool l₇ 0) ∷ ‵ (fdies tyBool l₇) ∷ ‵ (froom (tyInt w64) l₆ 0) ∷ ‵ (fdies (tyInt w64) l₆) ∷ ‵ (froom found-ty l₅ 0) ∷ ‵ (fdies found-ty l₅) ∷ ‵ (fat fullShare (tyInt w64) l₄ 0 (vint w64 (t .0))) ∷ ‵ (fdies (tyInt w64) l₄) ∷ ‵ (fat fullShare (tyInt w16) l₃ 0 (vint w16 vlan)) ∷ ‵ (fdies (tyInt w16) l₃) ∷ ‵ (fat fullShare (tyInt w64) l₂ 0 (vint w64 dest)) ∷ ‵ (fdies (tyInt w64) l₂) ∷ ‵ (fat fullShare shrTy l₁ 0 s) ∷ ‵ (fdies shrTy l₁) ∷ ‵ (froom found-ty l₀ 0) ∷ ‵ (fdies found-ty l₀) ∷ []
 
-      -- when the loop is left, the rest of the body runs
+      -- when the loop is left, the rest of the body runs; a turn that goes on ends in a later state
       abbrev Left : Post 𝓤 H
       Left = anyQ (afterBlock 𝓤 H (afterSeq 𝓤 H (Wp 𝓤 H C Λ En mir′.t-3 (atReturn 𝓤 H En Post′)) (atReturn 𝓤 H En Post′)))
 
-      turn : (t : X) → Sq W (I t) (runs C Λ En mir′.turn-1 (anyQ (afterTurn 𝓤 H (Below 𝓤 H A ≺ I t) (post 𝓤 H Left))))
+      abbrev ≺ : X → X → Type 0
+      ≺ t u = n - t .0 < n - u .0
+
+      abbrev Next : X → Post 𝓤 H
+      Next t = anyQ (afterTurn 𝓤 H (Below 𝓤 H A ≺ I t) (post 𝓤 H Left))
+
+      turn : (t : X) → Sq W (I t) (runs C Λ En mir′.turn-1 (Next t))
       unfolding afterTurn
       turn t =
           let i : ℕ = t .0 in
@@ -172,7 +173,7 @@ module _ {M : Type 1} (𝓤 : URA M) (H : Heap 𝓤) (A : Atoms 𝓤) (W : Given
           returns ! (look-cell ! 22 refl) $ forget ! 22 refl $ forget ! 20 refl $ forget ! 18 refl $ forget ! 16 refl $ forget ! 14 refl $ forget ! 12 refl $ forget ! 10 refl $ forget ! 8 refl $
           move ! (22 ∷ 23 ∷ []) $ free1 ! $ move ! (20 ∷ 21 ∷ []) $ free1 ! $ move ! (18 ∷ 19 ∷ []) $ free1 ! $ move ! (16 ∷ 17 ∷ []) $ free1 ! $ move ! (14 ∷ 15 ∷ []) $ free1 ! $ move ! (12 ∷ 13 ∷ []) $ free1 ! $ move ! (10 ∷ 11 ∷ []) $ free1 ! $ move ! (8 ∷ 9 ∷ []) $ free1 ! $ move ! (6 ∷ 7 ∷ []) $ free1 ! $ move ! (4 ∷ 5 ∷ []) $ free1 ! $ move ! (2 ∷ 3 ∷ []) $ free1 ! $ free0 ! $ keep ! (1 ∷ []) $ by ! (exits Found.Nothing nothing-ok (ends-here i (t .1) (leb→le n i over))))
           (λ within. let l : i < n = nleb→lt n i within in let gp : i * size < 2 ^ 64 = fits-at n i g-ys l in
-          skips ! $ exec ! C Λ En (after 3 mir′.turn-1) (anyQ (afterTurn 𝓤 H (Below 𝓤 H A ≺ I t) (post 𝓤 H Left))) $
+          skips ! $ exec ! C Λ En (after 3 mir′.turn-1) (Next t) $
           assigns ! (bin ! (load ! (from ! (stop !)) (look-cell ! 14 refl)) (lit ! tt) (record { fits = gp })) (from ! (stop !)) (store-cell ! 10 refl (tt, record { fits = gp })) $
           assigns ! (bin ! (load ! (from ! (fld ! refl (stop !))) (look-in ! 20 (sub ! 0 refl (whole !)))) (load ! (from ! (stop !)) (look-cell ! 10 refl)) tt) (from ! (stop !)) (init ! 4 refl (tt, tt)) $
           rewrite ! 4 (λ (p : ℕ). ‵ (fat fullShare tyPtr l₉ 0 (vptr b p))) (sym (place-is size o i)) refl $
@@ -189,19 +190,13 @@ module _ {M : Type 1} (𝓤 : URA M) (H : Heap 𝓤) (A : Atoms 𝓤) (W : Given
           returns ! (look-cell ! 22 refl) $ forget ! 22 refl $ forget ! 20 refl $ forget ! 18 refl $ forget ! 16 refl $ forget ! 14 refl $ forget ! 12 refl $ forget ! 10 refl $ forget ! 8 refl $ forget ! 6 refl $ forget ! 4 refl $ forget ! 2 refl $
           move ! (22 ∷ 23 ∷ []) $ free1 ! $ move ! (20 ∷ 21 ∷ []) $ free1 ! $ move ! (18 ∷ 19 ∷ []) $ free1 ! $ move ! (16 ∷ 17 ∷ []) $ free1 ! $ move ! (14 ∷ 15 ∷ []) $ free1 ! $ move ! (12 ∷ 13 ∷ []) $ free1 ! $ move ! (10 ∷ 11 ∷ []) $ free1 ! $ move ! (8 ∷ 9 ∷ []) $ free1 ! $ move ! (6 ∷ 7 ∷ []) $ free1 ! $ move ! (4 ∷ 5 ∷ []) $ free1 ! $ move ! (2 ∷ 3 ∷ []) $ free1 ! $ free0 ! $ keep ! (0 ∷ []) $ by ! (exits (Found.At i) (at-ok i gi) (hits i (t .1) l r said yes′)))
           (λ not′. let next : i + 1 < 2 ^ 64 = (let r : n < 2 ^ 64 = g-ys .0 in omega (arith, l, r)) in
-          skips ! $ exec ! C Λ En (after 8 mir′.turn-1) (anyQ (afterTurn 𝓤 H (Below 𝓤 H A ≺ I t) (post 𝓤 H Left))) $
+          skips ! $ exec ! C Λ En (after 8 mir′.turn-1) (Next t) $
           assigns-last ! (bin ! (load ! (from ! (stop !)) (look-cell ! 14 refl)) (lit ! tt) (record { fits = next })) (from ! (stop !)) (store-cell ! 14 refl (tt, record { fits = next })) $
           forget ! 10 refl $ forget ! 8 refl $ forget ! 6 refl $ forget ! 4 refl $ forget ! 2 refl $ rewrite ! 14 (λ (k : ℕ). ‵ (fat fullShare (tyInt w64) l₄ 0 (vint w64 k))) (one-more i) refl $ move ! (1 ∷ 0 ∷ []) $
-          again ! ≺ I t (suc i, misses i (t .1) l r said not′) (less i l)))))
-        where
-          one-more : (i : ℕ) → i + 1 ≡ suc i
-          one-more i = omega arith
+          again ! ≺ I t (suc i, misses i (t .1) l r said not′) (less n i l)))))
 
-          less : (i : ℕ) → i < n → n - suc i < n - i
-          less i l = omega (arith, l)
-
-      runs-on : Sq W (I start) (runs C Λ En mir′.t-2 (atRet En Post′))
-      runs-on = first ! $ blocks ! $ loops ! 𝓣 ≺ (InvImage·wf (λ (t : X). n - t .0) (Nat·lt-wfRel .wf)) I turn start
+      runs-on : (t : X) → Sq W (I t) (runs C Λ En mir′.t-2 (atRet En Post′))
+      runs-on t = first ! $ blocks ! $ loops ! 𝓣 ≺ (InvImage·wf (λ (t : X). n - t .0) (Nat·lt-wfRel .wf)) I turn t
 
     walk : ent 𝓤 (onEntry 𝓤 H A fn.signature (κ, tt) (q, tt) x mv) (WpFn 𝓤 H C Λ code.function (sliceVal (b, o) (length ys) ∷ vint w64 dest ∷ vint w16 vlan ∷ []) Post′)
     walk =
@@ -210,7 +205,7 @@ module _ {M : Type 1} (𝓤 : URA M) (H : Heap 𝓤) (A : Atoms 𝓤) (W : Given
         pass1 ! (init ! 18 refl (tt, (tt, (record { fits = g-ys .0 }, tt)))) $ pass1 ! (init ! 16 refl (tt, record { fits = g-dest })) $ pass1 ! (init ! 14 refl (tt, record { fits = g-vlan })) $ pass0 ! $
         move ! (23 ∷ 22 ∷ []) $ enters-shr ! (x .0) $
         assigns ! (of-opd ! (lit ! tt)) (from ! (stop !)) (init ! 14 refl (tt, record { fits = lit< tt })) $
-        runs-on l₀ l₁ l₂ l₃ l₄ l₅ l₆ l₇ l₈ l₉ l₁₀)))))))))))
+        runs-on l₀ l₁ l₂ l₃ l₄ l₅ l₆ l₇ l₈ l₉ l₁₀ start)))))))))))
 
 pub find-spec : {M : Type 1} → stated.statement M
 unfolding code.routine tablesOf

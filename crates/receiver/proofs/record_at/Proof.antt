@@ -37,9 +37,9 @@ use denote.Triple.Walked.{says, Stays, stay-dropped, walkOf, goes-dropped, ends-
 use denote.Exit.{yes}
 use Rattle.record.specs.declared.Stream.{Stream}
 use Rattle.calls.specs.Table.{blank}
-use Rattle.receiver.proofs.Lists.{getD-past}
 use Rattle.receiver.proofs.Rows.{R, val, size, ty, shrTy, Ok, fits-at, typed, tells, has, looks-at, shuts-at, enters-shr}
 use Rattle.receiver.proofs.Calling.{calls-value}
+use Rattle.receiver.proofs.Lists.{getD-past}
 use Rattle.calls.proofs.blank as fn-blank
 use Rattle.calls.proofs.blank.Symbol as fn-blank-def
 use Rattle.calls.proofs.blank.Symbol.{name as #calls·blank}

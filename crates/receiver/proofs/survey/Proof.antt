@@ -49,6 +49,7 @@ use Rattle.calls.proofs.Search.{surveyed-nil, surveyed-snoc}
 use Rattle.receiver.proofs.Rows.{R, val, size, ty, shrTy, fits-at, typed, has, looks-at, shuts-at, enters-shr}
 use Rattle.receiver.proofs.Calling.{calls-value}
 use Rattle.receiver.proofs.Pieces.{after}
+use Rattle.receiver.proofs.Lists.{from-0, one-more, less}
 use Rattle.receiver.proofs.Values.{survey-has, survey-ok, survey-tells, survey-ty, survey-typed, survey-val}
 use Rattle.calls.proofs.unseen as fn-unseen
 use Rattle.calls.proofs.unseen.Symbol as fn-unseen-def
@@ -77,9 +78,6 @@ module _ {M : Type 1} (𝓤 : URA M) (H : Heap 𝓤) (A : Atoms 𝓤) (mem : Mem
   pub record Known (C : Calls 𝓤 H) : Type 1 where
     pub unseen′ : Triple 𝓤 (C #calls·unseen) Unseen
     pub look′ : Triple 𝓤 (C #calls·look) Look
-
-from-0 : (k : ℕ) → 0 ≤ k
-from-0 k = omega arith
 
 module _ {M : Type 1} (𝓤 : URA M) (H : Heap 𝓤) (A : Atoms 𝓤) (W : Given 𝓤 H A) (mem : Memory → SProp 𝓤) (run : Routine → Fun 𝓤) (κ : Lft) (q : Share) (b o : ℕ) (γ : GName) (ys : List Stream) (dest : ℕ) (vlan : ℕ) where
   abbrev x : RefT (List Stream) × (ℕ × (ℕ × Unit {0}))
@@ -110,9 +108,6 @@ module _ {M : Type 1} (𝓤 : URA M) (H : Heap 𝓤) (A : Atoms 𝓤) (W : Given
   abbrev X : Type 0
   X = (i : ℕ) × (a : Survey) × Facts i a
 
-  abbrev ≺ : X → X → Type 0
-  ≺ t u = n - t .0 < n - u .0
-
   abbrev start : (a : Survey) → survey-ok a → a ≡ unseen → X
   start a g e = (0, a, (from-0 n, (g, e ∙ sym (surveyed-nil dest vlan))))
 
@@ -137,11 +132,17 @@ module _ {M : Type 1} (𝓤 : URA M) (H : Heap 𝓤) (A : Atoms 𝓤) (W : Given
       abbrev I : X → List (Item 𝓤)
       I t = ‵ (fshr-bor κ (λ p. arr-parts (shares R) n .part p ys b o)) ∷ ‵ (flft κ q) ∷ ‵ (froom ty l₉ 0) ∷ ‵ (fdies ty l₉) ∷ ‵ (froom tyPtr l₈ 0) ∷ ‵ (fdies tyPtr l₈) ∷ ‵ (froom tyBool l₇ 0) ∷ ‵ (fdies tyBool l₇) ∷ ‵ (froom (tyInt w64) l₆ 0) ∷ ‵ (fdies (tyInt w64) l₆) ∷ ‵ (fat fullShare (tyInt w64) l₅ 0 (vint w64 (t .0))) ∷ ‵ (fdies (tyInt w64) l₅) ∷ ‵ (fat fullShare survey-ty l₄ 0 (survey-val (t .1))) ∷ ‵ (fdies survey-ty l₄) ∷ ‵ (fat fullShare (tyInt w16) l₃ 0 (vint w16 vlan)) ∷ ‵ (fdies (tyInt w16) l₃) ∷ ‵ (fat fullShare (tyInt w64) l₂ 0 (vint w64 dest)) ∷ ‵ (fdies (tyInt w64) l₂) ∷ ‵ (fat fullShare shrTy l₁ 0 s) ∷ ‵ (fdies shrTy l₁) ∷ ‵ (froom survey-ty l₀ 0) ∷ ‵ (fdies survey-ty l₀) ∷ []
 
-      -- when the loop is left, the rest of the body runs
+      -- when the loop is left, the rest of the body runs; a turn that goes on ends in a later state
       abbrev Left : Post 𝓤 H
       Left = anyQ (afterBlock 𝓤 H (afterSeq 𝓤 H (Wp 𝓤 H C Λ En mir′.t-4 (atReturn 𝓤 H En Post′)) (atReturn 𝓤 H En Post′)))
 
-      turn : (t : X) → Sq W (I t) (runs C Λ En mir′.turn-1 (anyQ (afterTurn 𝓤 H (Below 𝓤 H A ≺ I t) (post 𝓤 H Left))))
+      abbrev ≺ : X → X → Type 0
+      ≺ t u = n - t .0 < n - u .0
+
+      abbrev Next : X → Post 𝓤 H
+      Next t = anyQ (afterTurn 𝓤 H (Below 𝓤 H A ≺ I t) (post 𝓤 H Left))
+
+      turn : (t : X) → Sq W (I t) (runs C Λ En mir′.turn-1 (Next t))
       unfolding afterTurn
       turn t =
           let i : ℕ = t .0 in let a : Survey = t .1 in
@@ -150,7 +151,7 @@ module _ {M : Type 1} (𝓤 : URA M) (H : Heap 𝓤) (A : Atoms 𝓤) (W : Given
           assigns ! (bin ! (load ! (from ! (stop !)) (look-cell ! 10 refl)) (load ! (from ! (stop !)) (look-cell ! 8 refl)) tt) (from ! (stop !)) (init ! 6 refl (tt, tt)) $
           first ! $ branches ! (load ! (from ! (stop !)) (look-cell ! 6 refl))
           (λ within. let l : i < n = ltb→lt i n within in let gp : i * size < 2 ^ 64 = fits-at n i g-ys l in let next : i + 1 < 2 ^ 64 = (let r : n < 2 ^ 64 = g-ys .0 in omega (arith, l, r)) in
-          skips ! $ exec ! C Λ En (after 3 mir′.turn-1) (anyQ (afterTurn 𝓤 H (Below 𝓤 H A ≺ I t) (post 𝓤 H Left))) $
+          skips ! $ exec ! C Λ En (after 3 mir′.turn-1) (Next t) $
           assigns ! (bin ! (load ! (from ! (stop !)) (look-cell ! 10 refl)) (lit ! tt) (record { fits = gp })) (from ! (stop !)) (store-cell ! 8 refl (tt, record { fits = gp })) $
           assigns ! (bin ! (load ! (from ! (fld ! refl (stop !))) (look-in ! 18 (sub ! 0 refl (whole !)))) (load ! (from ! (stop !)) (look-cell ! 8 refl)) tt) (from ! (stop !)) (init ! 4 refl (tt, tt)) $
           rewrite ! 4 (λ (p : ℕ). ‵ (fat fullShare tyPtr l₈ 0 (vptr b p))) (sym (place-is size o i)) refl $
@@ -162,18 +163,12 @@ module _ {M : Type 1} (𝓤 : URA M) (H : Heap 𝓤) (A : Atoms 𝓤) (W : Given
           land ! (from ! (stop !)) (store-cell ! 12 refl (survey-typed 𝓤 H A W r g-r)) $
           assigns-last ! (bin ! (load ! (from ! (stop !)) (look-cell ! 10 refl)) (lit ! tt) (record { fits = next })) (from ! (stop !)) (store-cell ! 10 refl (tt, record { fits = next })) $
           forget ! 8 refl $ forget ! 6 refl $ forget ! 4 refl $ forget ! 2 refl $ rewrite ! 10 (λ (k : ℕ). ‵ (fat fullShare (tyInt w64) l₅ 0 (vint w64 k))) (one-more i) refl $ move ! (1 ∷ 0 ∷ []) $
-          again ! ≺ I t (suc i, r, went-on i a (t .2) l r g-r said) (less i l))))
+          again ! ≺ I t (suc i, r, went-on i a (t .2) l r g-r said) (less n i l))))
           -- the end of the table
           (λ over. jumps ! $ exec ! C Λ En mir′.t-4 (atRet En Post′) $
           assigns ! (of-opd ! (load ! (from ! (stop !)) (look-cell ! 12 refl))) (from ! (stop !)) (init ! 20 refl (survey-typed 𝓤 H A W a (t .2 .1 .0))) $
           returns ! (look-cell ! 20 refl) $ forget ! 20 refl $ forget ! 18 refl $ forget ! 16 refl $ forget ! 14 refl $ forget ! 12 refl $ forget ! 10 refl $ forget ! 8 refl $ forget ! 6 refl $
           move ! (20 ∷ 21 ∷ []) $ free1 ! $ move ! (18 ∷ 19 ∷ []) $ free1 ! $ move ! (16 ∷ 17 ∷ []) $ free1 ! $ move ! (14 ∷ 15 ∷ []) $ free1 ! $ move ! (12 ∷ 13 ∷ []) $ free1 ! $ move ! (10 ∷ 11 ∷ []) $ free1 ! $ move ! (8 ∷ 9 ∷ []) $ free1 ! $ move ! (6 ∷ 7 ∷ []) $ free1 ! $ move ! (4 ∷ 5 ∷ []) $ free1 ! $ move ! (2 ∷ 3 ∷ []) $ free1 ! $ free0 ! $ keep ! (1 ∷ []) $ by ! (exits a (t .2 .1 .0) (ended i a (t .2) (nltb→le i n over))))
-        where
-          one-more : (i : ℕ) → i + 1 ≡ suc i
-          one-more i = omega arith
-
-          less : (i : ℕ) → i < n → n - suc i < n - i
-          less i l = omega (arith, l)
 
       runs-on : (t : X) → Sq W (I t) (runs C Λ En mir′.t-3 (atRet En Post′))
       runs-on t = first ! $ blocks ! $ loops ! 𝓣 ≺ (InvImage·wf (λ (t : X). n - t .0) (Nat·lt-wfRel .wf)) I turn t
