@@ -2,4 +2,8 @@ pub mod Bools
 pub mod Keys
 pub mod Looks
 pub mod Search
+pub mod Places
 pub mod Steps
+pub mod Acts
+pub mod Arrivals
+pub mod Slots
