@@ -1,0 +1,116 @@
+-- The decision, a tick, a reset and an open leave a record lawful. Assumes nothing.
+use Prim.Native.Nat.{ℕ, zero, suc, _-_, _≤_, _<_, zero-le}
+use mathlib.Core.Path.{_≡_, refl, ap, sym, _∙_}
+use mathlib.Core.Bool.{Bool, true, false, _&&_, _||_, Bool·beq}
+use native.Mathlib.Omega.{arith}
+use lib.Dec.{eqb}
+use borrow.Author.Tests.{eqb-false, ne-eqb}
+use Rattle.record.specs.Words.{if_then_else_, yes}
+use Rattle.record.specs.Sizes.{vectorRule}
+use Rattle.stream.specs.History.{History, empty, isEmpty, bit, within, single, setBit, advance}
+use Rattle.stream.specs.Record.{State, Counts, Stream, fresh, isFresh, settled, shaped, lawful, opened}
+use Rattle.stream.specs.Decisions.{Case, first, far, again, late, next, moved, caseOf, handedUp, with, stateAfter, countsAfter, decided, reset, expires, aged, ticked}
+use Rattle.stream.specs.Laws.{LawfulWithoutCounters, DecidedLawful, TickedLawful, ResetLawful, OpenedLawful}
+use Rattle.stream.proofs.Logic.{tests}
+use Rattle.stream.proofs.Law.{Law, Sizes, law, unlaw, sizes, size}
+use Rattle.stream.proofs.Told.{Fact, case-told}
+use Rattle.stream.proofs.Past.{empty-is, set-bit, set-within, single-bit, single-within, advance-zero, advance-within}
+
+pub lawful-without-counters : LawfulWithoutCounters
+unfolding lawful settled
+lawful-without-counters s c = refl
+
+pub law-with : {s : Stream} (t : State) (c : Counts) → Law s → t ≡ s .state → Law (with s t c)
+unfolding settled
+law-with {s} t c l e = record {
+  used = l .used;
+  settled = l .settled;
+  rest = rw e (l .rest);
+  idle = rw e (l .idle);
+  shape = rw e (l .shape);
+}
+
+-- A reset.
+fresh-shape : (rule window : ℕ) → shaped rule window fresh ≡ true
+unfolding shaped isFresh yes isEmpty
+fresh-shape rule window = refl
+
+pub law-reset : (s : Stream) → yes (s .used) ≡ true → settled s ≡ true → Law (reset s)
+unfolding reset settled yes
+law-reset s u e =
+    record { used = u; settled = e; rest = zero-le; idle = refl; shape = fresh-shape (s .rule) (s .window) }
+
+pub reset-lawful : ResetLawful
+reset-lawful s u e = unlaw (law-reset s u e)
+
+pub opened-lawful : OpenedLawful
+unfolding yes
+opened-lawful dest vlan rule window time e =
+    unlaw (record { used = refl; settled = e; rest = zero-le; idle = refl; shape = fresh-shape rule window })
+
+-- A tick.
+idle-aged : (n : ℕ) → eqb n 1 ≡ false → eqb (n - 1) 0 ≡ eqb n 0
+idle-aged zero e = refl
+idle-aged (suc zero) e = absurd (eqb-false 1 1 e refl)
+idle-aged (suc (suc n)) e =
+    ne-eqb (suc (suc n) - 1) 0 (omega arith) ∙ sym (ne-eqb (suc (suc n)) 0 (omega arith))
+
+law-aged : {s : Stream} → Law s → eqb (s .state .remaining) 1 ≡ false → Law (with s (aged (s .state)) (s .counts))
+unfolding settled shaped isFresh
+law-aged {s} l e = record {
+  used = l .used;
+  settled = l .settled;
+  rest = omega (arith, l .rest);
+  idle = idle-aged (s .state .remaining) e ∙ l .idle;
+  shape = rw (idle-aged (s .state .remaining) e) (l .shape);
+}
+
+pub law-ticked : {s : Stream} → Law s → Law (ticked s)
+unfolding ticked expires
+law-ticked {s} l = go (eqb (s .state .remaining) 1) refl
+  where
+    go : (b : Bool) → eqb (s .state .remaining) 1 ≡ b → Law (ticked s)
+    go true e = rw (unlaw l, e) (law-reset s (l .used) (l .settled))
+    go false e = rw (unlaw l, e) (law-aged l e)
+
+pub ticked-lawful : TickedLawful
+ticked-lawful s l = unlaw (law-ticked (law l))
+
+-- The decision: what is handed up leaves a lawful record if its history has the right shape.
+or-true : (b : Bool) → b || true ≡ true
+or-true true = refl
+or-true false = refl
+
+handed : {s : Stream} → Law s → (anchor : ℕ) (history : History) (c : Counts)
+    → shaped (s .rule) (s .window) (handedUp s anchor history) ≡ true
+    → Law (with s (handedUp s anchor history) c)
+unfolding settled yes
+handed {s} l anchor history c p = record {
+  used = l .used;
+  settled = l .settled;
+  rest = omega arith;
+  idle = let z : Sizes s = size l in ne-eqb (s .time) 0 (omega arith);
+  shape = p;
+}
+
+keeps-case : {s : Stream} (n : ℕ) (c : Case) (d : Counts) → Law s → Fact s c → Law (with s (stateAfter s n c) d)
+unfolding stateAfter shaped yes
+keeps-case {s} n first d l f = handed l _ _ d (go (eqb (s .rule) vectorRule) refl)
+  where
+    go : (b : Bool) → eqb (s .rule) vectorRule ≡ b
+        → shaped (s .rule) (s .window) (handedUp s n (if eqb (s .rule) vectorRule then single else empty)) ≡ true
+    go true e = rw e (rw (single-bit 0, single-within (s .window) (size l .most) (omega (arith, size l .least))))
+    go false e = rw e empty-is
+keeps-case {s} n far d l f = law-with (s .state) d l refl
+keeps-case {s} n again d l f = law-with (s .state) d l refl
+keeps-case {s} n (late k) d l (a, r, b, z) =
+    let p = simp tests at (rw (a, r) at (l .shape)) in
+    handed l _ _ d (rw r (rw (set-bit (s .window) (size l .most) k 0 (s .state .history) b (omega (arith, size l .least)), p .0, or-true (eqb 0 k), set-within (s .window) (size l .most) k (s .state .history) b (p .1))))
+keeps-case {s} n (next e) d l (a, r, f) =
+    let w : 0 < s .window = omega (arith, size l .least) in
+    handed l _ _ d (rw r (rw (advance-zero (s .window) (size l .most) e (s .state .history) w, advance-within (s .window) (size l .most) e (s .state .history) f w)))
+keeps-case {s} n (moved b) d l (a, r) = handed l _ _ d (rw r (rw (a, r) at (l .shape)))
+
+pub decided-lawful : DecidedLawful
+unfolding decided
+decided-lawful s n w l = unlaw (keeps-case n (caseOf s n) (countsAfter s w (caseOf s n)) (law l) (case-told s n .fact))

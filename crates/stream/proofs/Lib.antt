@@ -1,0 +1,16 @@
+pub mod Logic
+pub mod Bits
+pub mod Past
+pub mod Digits
+pub mod Moves
+pub mod Law
+pub mod Flags
+pub mod Told
+pub mod Reading
+pub mod Modulo
+pub mod Sorts
+pub mod Keeps
+pub mod Changes
+pub mod Steps
+pub mod Ticks
+pub mod Wrap

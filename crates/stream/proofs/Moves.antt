@@ -1,0 +1,110 @@
+-- d places up at once: the history is shifted and cut once, and lost are the zeros among the d places that leave. It is
+-- what d single places give. Assumes nothing.
+use mathlib.Core.Path.{_≡_, refl, ap, ap₂, _∙_, sym}
+use mathlib.Core.Bool.{Bool, true, false, not}
+use Prim.Native.Nat.{ℕ, zero, suc, _+_, _-_, _*_, _/_, _%_, _^_, _<_, _≤_}
+use native.Mathlib.Nat.{mod-lt, mod-mod, mul-one, mul-comm, mul-assoc, mul-right-comm, add-comm, add-mul, div-add-mod', add-mul-mod-self-right, pow-suc}
+use native.Mathlib.Omega.{arith}
+use lib.Dec.{eqb, lit<}
+use lib.Count.{ones, ones-cat, ones-le}
+use lib.Pow.{pow-pos, field, shr-shr, shl-shr}
+use lib.Arith.{mod-mul}
+use Rattle.record.specs.Words.{if_then_else_}
+use Rattle.stream.specs.History.{bitOf, bit, one, push, pushes, leaving}
+
+mod-times : (x c m : ℕ) → (x % m * c) % m ≡ (x * c) % m
+mod-times x c m =
+    let parts : x * c ≡ x % m * c + x / m * c * m =
+    ap (λ (y : ℕ). y * c) (sym (div-add-mod' x m)) ∙ add-mul (x / m * m) (x % m) c
+    ∙ add-comm (x / m * m * c) (x % m * c) ∙ ap (λ (y : ℕ). x % m * c + y) (mul-right-comm (x / m) m c) in
+    sym (ap (λ (y : ℕ). y % m) parts ∙ add-mul-mod-self-right (x % m * c) (x / m * c) m)
+
+-- the history
+pub pushes-at-once : (l d h : ℕ) → 1 ≤ d → pushes l d h ≡ h * 2 ^ d % 2 ^ l
+unfolding pushes push
+pushes-at-once l zero h p = absurd (omega arith)
+pushes-at-once l (suc zero) h p = refl
+pushes-at-once l (suc (suc d)) h p =
+    let twice : 2 * 2 ^ suc d ≡ 2 ^ suc (suc d) = omega arith in
+    pushes-at-once l (suc d) (h * 2 % 2 ^ l) (omega arith)
+    ∙ mod-times (h * 2) (2 ^ suc d) (2 ^ l)
+    ∙ ap (λ (y : ℕ). y % 2 ^ l) (mul-assoc h 2 (2 ^ suc d) ∙ ap (λ (y : ℕ). h * y) twice)
+
+-- how many of the d places below place L are set
+abbrev setIn : (l d h : ℕ) → ℕ
+setIn l d h = ones (h / 2 ^ (l - d) % 2 ^ d)
+
+pub set-le : (l d h : ℕ) → setIn l d h ≤ d
+set-le l d h = ones-le d (h / 2 ^ (l - d) % 2 ^ d) (mod-lt (h / 2 ^ (l - d)) (pow-pos d))
+
+-- the top one of them, and the rest, which are those of the history one place up
+ones-bit : (b : ℕ) → b < 2 → ones b ≡ b
+unfolding ones
+ones-bit zero p = refl
+ones-bit (suc zero) p = refl
+ones-bit (suc (suc b)) p = absurd (omega arith)
+
+top-apart : (l d h : ℕ) → d < l → setIn l (suc d) h ≡ h / 2 ^ (l - 1) % 2 + ones (h / 2 ^ (l - suc d) % 2 ^ d)
+top-apart l d h p =
+    let x : ℕ = h / 2 ^ (l - suc d) in
+    let twice : 2 ^ suc d ≡ 2 * 2 ^ d = omega arith in
+    let place : l - suc d + d ≡ l - 1 = omega arith in
+    let top : x / 2 ^ d % 2 ≡ h / 2 ^ (l - 1) % 2 =
+    ap (λ (y : ℕ). y % 2) (shr-shr h (l - suc d) d ∙ ap (λ (n : ℕ). h / 2 ^ n) place) in
+    ap (λ (m : ℕ). ones (x % m)) twice
+    ∙ ap ones (mod-mul x {m = 2} {c = 2 ^ d} (lit< tt) (pow-pos d))
+    ∙ ones-cat d (x / 2 ^ d % 2) (x % 2 ^ d) (mod-lt x (pow-pos d))
+    ∙ ap (λ (n : ℕ). n + ones (x % 2 ^ d)) (ones-bit (x / 2 ^ d % 2) (omega arith) ∙ top)
+
+rest-pushed : (l d h : ℕ) → d < l → setIn l d (push l h) ≡ ones (h / 2 ^ (l - suc d) % 2 ^ d)
+unfolding push
+rest-pushed l d h p =
+    let whole : l ≡ d + (l - d) = omega arith in
+    let next : l - d ≡ 1 + (l - suc d) = omega arith in
+    let half : h * 2 / 2 ≡ h = omega arith in
+    ap (λ (y : ℕ). ones (y % 2 ^ d))
+    (ap (λ (n : ℕ). h * 2 % 2 ^ n / 2 ^ (l - d)) whole
+    ∙ field (h * 2) d (l - d))
+    ∙ ap ones (mod-mod (h * 2 / 2 ^ (l - d)) (2 ^ d))
+    ∙ ap (λ (n : ℕ). ones (h * 2 / 2 ^ n % 2 ^ d)) next
+    ∙ ap (λ (y : ℕ). ones (y % 2 ^ d)) (sym (shr-shr (h * 2) 1 (l - suc d)) ∙ ap (λ (y : ℕ). y / 2 ^ (l - suc d)) half)
+
+one-leaves : (b d o : ℕ) → b < 2 → o ≤ d → one (not (eqb b 1)) + (d - o) ≡ suc d - (b + o)
+one-leaves zero d o p q = omega arith
+one-leaves (suc zero) d o p q = omega arith
+one-leaves (suc (suc b)) d o p q = absurd (omega arith)
+
+-- what is lost
+pub leaving-at-once : (l d h : ℕ) → d ≤ l → leaving l d h ≡ d - setIn l d h
+unfolding leaving bit bitOf
+leaving-at-once l zero h p = omega arith
+leaving-at-once l (suc d) h p =
+    ap (λ (n : ℕ). one (not (eqb (h / 2 ^ (l - 1) % 2) 1)) + n)
+    (leaving-at-once l d (push l h) (omega arith) ∙ ap (λ (n : ℕ). d - n) (rest-pushed l d h p))
+    ∙ one-leaves (h / 2 ^ (l - 1) % 2) d (ones (h / 2 ^ (l - suc d) % 2 ^ d)) (omega arith)
+    (ones-le d (h / 2 ^ (l - suc d) % 2 ^ d) (mod-lt (h / 2 ^ (l - suc d)) (pow-pos d)))
+    ∙ ap (λ (n : ℕ). suc d - n) (sym (top-apart l d h p))
+
+pub leaving-one : (l h : ℕ) → leaving l 1 h ≡ 1 - h / 2 ^ (l - 1) % 2
+unfolding leaving bit bitOf
+leaving-one l h = one-leaves (h / 2 ^ (l - 1) % 2) 0 0 (omega arith) (omega arith) ∙ omega arith
+
+-- the same in one word of 64 bits, the window at its top
+pub top-field : (h l d : ℕ) → d ≤ l → l ≤ 64 → (h * 2 ^ (64 - l)) % 2 ^ 64 / 2 ^ (64 - d) ≡ h / 2 ^ (l - d) % 2 ^ d
+top-field h l d p q =
+    let x : ℕ = h * 2 ^ (64 - l) in
+    let whole : 64 ≡ d + (64 - d) = omega arith in
+    let parts : 64 - d ≡ 64 - l + (l - d) = omega arith in
+    ap (λ (n : ℕ). x % 2 ^ n / 2 ^ (64 - d)) whole
+    ∙ field x d (64 - d)
+    ∙ ap (λ (n : ℕ). x / 2 ^ n % 2 ^ d) parts
+    ∙ ap (λ (y : ℕ). y % 2 ^ d) (sym (shr-shr x (64 - l) (l - d)) ∙ ap (λ (y : ℕ). y / 2 ^ (l - d)) (shl-shr h (64 - l)))
+
+pub top-shift : (h l d : ℕ) → l ≤ 64 → (h * 2 ^ (64 - l)) % 2 ^ 64 * 2 ^ d % 2 ^ 64 / 2 ^ (64 - l) ≡ h * 2 ^ d % 2 ^ l
+top-shift h l d q =
+    let up : ℕ = 64 - l in
+    let whole : 64 ≡ l + (64 - l) = omega arith in
+    ap (λ (y : ℕ). y / 2 ^ up) (mod-times (h * 2 ^ up) (2 ^ d) (2 ^ 64) ∙ ap (λ (y : ℕ). y % 2 ^ 64) (mul-right-comm h (2 ^ up) (2 ^ d)))
+    ∙ ap (λ (n : ℕ). (h * 2 ^ d * 2 ^ up) % 2 ^ n / 2 ^ up) whole
+    ∙ field (h * 2 ^ d * 2 ^ up) l up
+    ∙ ap (λ (y : ℕ). y % 2 ^ l) (shl-shr (h * 2 ^ d) up)

@@ -1,0 +1,120 @@
+-- The signed reading as the code computes it, and the code's tests on it as tests on the definitions. Assumes nothing.
+use mathlib.Core.Path.{_≡_, refl, ap, ap₂, _∙_, sym}
+use mathlib.Core.Bool.{Bool, true, false}
+use Prim.Native.Nat.{ℕ, zero, suc, _+_, _-_, _%_, _<_, _≤_, _^_}
+use native.Mathlib.Omega.{arith}
+use lib.IntN.{ℤ, pos, negsuc, negℤ, _-ℤ_, natAbs, +ℤ-idl}
+use lib.Signed.{mag, leZ, ltZ, nonNeg}
+use lib.Dec.{T, eqb, leb, ltb}
+use borrow.Author.Tests.{lt-ltb, le-ltb, eq-eqb, ne-eqb, leb-false, leb-true, ltb-true}
+use mir.Syntax.{w16, w32}
+use mir.Val.{SFits, Fits, toZ, ofZ}
+use mir.Facts.{toZ-pos, toZ-ofZ}
+use Rattle.record.specs.Words.{if_then_else_}
+use Rattle.stream.specs.History.{History, bit}
+use Rattle.stream.specs.Decisions.{Signed, ahead, behind, signed, difference, asInt, Case, far, again, late, next, moved, vectorCase, matchCase}
+use Rattle.stream.proofs.Told.{Forward}
+
+-- 1. The reading. A number of 16 bits, in 32:
+pub wide : (w : ℕ) → w < 2 ^ 16 → toZ w32 w ≡ pos w
+wide w h = toZ-pos w32 (omega arith)
+
+below : (w : ℕ) → w < 2 ^ 16 → pos w -ℤ pos 65536 ≡ negsuc (65535 - w)
+below w h = simp (lt-ltb w 65536 h) (ap negsuc (omega arith))
+
+pub signed-low : (w : ℕ) → w < 32768 → asInt (signed w) ≡ pos w
+unfolding signed
+signed-low zero h = refl
+signed-low (suc w) h = rw (ne-eqb (suc w) 0 (omega arith), lt-ltb (suc w) 32768 h)
+
+pub signed-high : (w : ℕ) → 32768 ≤ w → w < 2 ^ 16 → asInt (signed w) ≡ negsuc (65535 - w)
+unfolding signed
+signed-high w l h =
+    let n : 65536 - w ≡ suc (65535 - w) = omega arith in
+    rw (ne-eqb w 0 (omega arith), le-ltb w 32768 l, n)
+
+pub sub-fits : (w : ℕ) → w < 2 ^ 16 → SFits w32 (toZ w32 w -ℤ pos 65536)
+sub-fits w h = record { sfits = rw (wide w h, below w h) (omega arith) }
+
+pub read-low : (w : ℕ) → w < 32768 → w < 2 ^ 16 → toZ w32 w ≡ asInt (signed w)
+read-low w l h = wide w h ∙ sym (signed-low w l)
+
+pub read-high : (w : ℕ) → 32768 ≤ w → w < 2 ^ 16 → toZ w32 (ofZ w32 (toZ w32 w -ℤ pos 65536)) ≡ asInt (signed w)
+read-high w l h =
+    toZ-ofZ (sub-fits w h) ∙ ap (λ (z : ℤ). z -ℤ pos 65536) (wide w h) ∙ below w h ∙ sym (signed-high w l h)
+
+-- what wraps back to number is the difference
+pub wraps : (r number anchor : ℕ) → r < 2 ^ 16 → anchor < 2 ^ 16 → (r + anchor) % 2 ^ 16 ≡ number
+    → asInt (signed r) ≡ asInt (difference number anchor)
+unfolding difference
+wraps r number anchor hr ha e =
+    let same : r ≡ (number + 65536 - anchor) % 65536 = omega arith in
+    ap (λ (w : ℕ). asInt (signed w)) same
+
+-- 2. The code's tests on a signed local, as tests on its number.
+module _ (w : ℕ) (d : ℤ) (hw : w < 2 ^ 16) (hd : SFits w32 d) where
+  minus : pos 0 -ℤ toZ w32 w ≡ negℤ (pos w)
+  minus = ap (λ (z : ℤ). pos 0 -ℤ z) (wide w hw) ∙ +ℤ-idl (negℤ (pos w))
+
+  mag-minus : (n : ℕ) → n < 2 ^ 16 → mag (negℤ (pos n)) < 2 ^ 31
+  mag-minus zero h = omega arith
+  mag-minus (suc n) h = omega arith
+
+  pub minus-fits : SFits w32 (pos 0 -ℤ toZ w32 w)
+  minus-fits = record { sfits = rw minus (mag-minus w hw) }
+
+  pub at-least : (b : Bool) → leZ (toZ w32 w) (toZ w32 (ofZ w32 d)) ≡ b → leZ (pos w) d ≡ b
+  at-least b e = sym (ap₂ leZ (wide w hw) (toZ-ofZ hd)) ∙ e
+
+  pub at-most : (b : Bool) → leZ (toZ w32 (ofZ w32 d)) (toZ w32 (ofZ w32 (pos 0 -ℤ toZ w32 w))) ≡ b → leZ d (negℤ (pos w)) ≡ b
+  at-most b e = sym (ap₂ leZ (toZ-ofZ hd) (toZ-ofZ minus-fits ∙ minus)) ∙ e
+
+pub not-above : (d : ℤ) → SFits w32 d → (b : Bool) → leZ (toZ w32 (ofZ w32 d)) (pos 0) ≡ b → leZ d (pos 0) ≡ b
+not-above d hd b e = sym (ap (λ (z : ℤ). leZ z (pos 0)) (toZ-ofZ hd)) ∙ e
+
+-- the test for a number n, on the bits
+abbrev pub isℤ : ℤ → ℕ → Bool
+isℤ (pos a) n = eqb a n
+isℤ (negsuc a) n = false
+
+pub bits-are : (d : ℤ) (n : ℕ) → SFits w32 d → n < 2 ^ 31 → eqb (ofZ w32 d) n ≡ isℤ d n
+bits-are (pos a) n hd hn = refl
+bits-are (negsuc a) n hd hn = ne-eqb (2 ^ 32 - suc a) n (λ e. let h : a < 2 ^ 31 = hd .sfits in omega arith)
+
+-- 3. The size, as the code computes it.
+abs-neg : (d : ℤ) → natAbs (negℤ d) ≡ natAbs d
+abs-neg (pos zero) = refl
+abs-neg (pos (suc n)) = refl
+abs-neg (negsuc n) = refl
+
+mag-neg : (d : ℤ) → natAbs d < 65536 → mag (negℤ d) < 2 ^ 31
+mag-neg (pos zero) h = omega arith
+mag-neg (pos (suc n)) h = omega arith
+mag-neg (negsuc n) h = omega arith
+
+neg-up : (d : ℤ) → ltZ d (pos 0) ≡ true → T (nonNeg (negℤ d))
+neg-up (pos a) e = let h : a < 0 = ltb-true a 0 e in absurd (omega arith)
+neg-up (negsuc n) e = tt
+
+up-up : (d : ℤ) → ltZ d (pos 0) ≡ false → T (nonNeg d)
+up-up (pos a) e = tt
+up-up (negsuc n) e = let z : _≡_ {A = ℕ} 0 1 = cc in absurd (omega arith)
+
+module _ (d : ℤ) (hd : SFits w32 d) (small : natAbs d < 65536) where
+  minus-d : pos 0 -ℤ toZ w32 (ofZ w32 d) ≡ negℤ d
+  minus-d = ap (λ (z : ℤ). pos 0 -ℤ z) (toZ-ofZ hd) ∙ +ℤ-idl (negℤ d)
+
+  pub negated-fits : SFits w32 (pos 0 -ℤ toZ w32 (ofZ w32 d))
+  negated-fits = record { sfits = rw minus-d (mag-neg d small) }
+
+  negated : toZ w32 (ofZ w32 (pos 0 -ℤ toZ w32 (ofZ w32 d))) ≡ negℤ d
+  negated = toZ-ofZ negated-fits ∙ minus-d
+
+  pub size-below : ltZ (toZ w32 (ofZ w32 d)) (pos 0) ≡ true → T (nonNeg (toZ w32 (ofZ w32 (pos 0 -ℤ toZ w32 (ofZ w32 d))))) × Fits w16 (natAbs (toZ w32 (ofZ w32 (pos 0 -ℤ toZ w32 (ofZ w32 d)))))
+  size-below e = rw negated (neg-up d (rw (toZ-ofZ hd) at e), record { fits = rw (abs-neg d) small })
+
+  pub size-above : ltZ (toZ w32 (ofZ w32 d)) (pos 0) ≡ false → T (nonNeg (toZ w32 (ofZ w32 d))) × Fits w16 (natAbs (toZ w32 (ofZ w32 d)))
+  size-above e = rw (toZ-ofZ hd) (up-up d (rw (toZ-ofZ hd) at e), record { fits = small })
+
+  pub size-is : natAbs (toZ w32 (ofZ w32 (pos 0 -ℤ toZ w32 (ofZ w32 d)))) ≡ natAbs d
+  size-is = ap natAbs negated ∙ abs-neg d

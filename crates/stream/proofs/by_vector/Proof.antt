@@ -1,0 +1,168 @@
+use mathlib.Core.Path.{_≡_, ap, sym, _∙_}
+use mathlib.Core.Bool.{Bool, true, false}
+use Prim.Native.Nat.{_<_}
+use native.Mathlib.Omega.{arith}
+use lib.IntN.{ℤ, pos, negℤ, _-ℤ_, natAbs}
+use lib.Signed.{leZ}
+use borrow.Author.Tests.{eq-eqb}
+use mir.Syntax.{w32}
+use mir.Val.{SFits, toZ, ofZ}
+use mir.Facts.{toZ-ofZ}
+use Rattle.record.specs.Sizes.{vectorRule}
+use Rattle.stream.specs.History.{bit}
+use Rattle.stream.specs.Decisions.{difference, asInt, caseOf, vectorCase, stateAfter, losses, outOfOrder}
+use Rattle.stream.specs.Steps.{weighedAs}
+use Rattle.stream.proofs.Flags.{is-yes, is-no}
+use Rattle.stream.proofs.Told.{forward}
+use Rattle.stream.proofs.Reading.{minus-fits, at-least, at-most, not-above}
+use Rattle.stream.proofs.Sorts.{case-first, case-vector, weighed-behind, far-ahead, far-back, inside, positive, in-past, in-front}
+use borrow.Author.Needs.{needs}
+use Rattle.stream.proofs.by_vector.Statement.{statement}
+use Rattle.stream.proofs.by_vector.Tie as tie
+use Rattle.stream.proofs.by_vector.Reads as reads
+use Rattle.stream.proofs.by_vector.Lts as lts
+use Rattle.stream.proofs.ahead.Reads as ahead-reads
+use Rattle.stream.proofs.behind.Reads as behind-reads
+use Rattle.stream.proofs.difference.Reads as difference-reads
+use Rattle.stream.proofs.size.Reads as size-reads
+
+-- Where d and the window are known, the case is the vector rule's at d,
+sorted : (c : tie.After-struct-known2)
+    → caseOf (c .before .before .before .before .args .s) (c .before .before .before .before .args .number)
+    ≡ vectorCase (c .before .before .before .before .args .s .window) (c .before .before .before .before .args .s .state .history) (difference (c .before .before .before .before .args .number) (c .before .before .before .before .args .s .state .anchor))
+sorted c =
+    let a = c .before .before .before .before in
+    case-vector (a .args .s) (a .args .number) (is-no (a .args .s .state .any) (c .before .before .if1 .left)) (eq-eqb (a .args .s .rule) vectorRule (a .pre .1 .1))
+
+-- and the tests on the local are tests on d.
+over : (c : tie.After-struct-known2) (b : Bool)
+    → leZ (toZ w32 (c .before .before .before .before .args .s .window)) (toZ w32 (ofZ w32 (c .before .difference .result))) ≡ b
+    → leZ (pos (c .before .before .before .before .args .s .window)) (asInt (difference (c .before .before .before .before .args .number) (c .before .before .before .before .args .s .state .anchor))) ≡ b
+over c b e =
+    let fits : SFits w32 (c .before .difference .result) = search needs in
+    rw (← c .before .difference .ensures) (at-least (c .before .before .before .before .args .s .window) (c .before .difference .result) (omega arith) fits b e)
+
+under : (c : tie.After-struct-known2) (b : Bool)
+    → leZ (toZ w32 (ofZ w32 (c .before .difference .result))) (toZ w32 (ofZ w32 (pos 0 -ℤ toZ w32 (c .before .before .before .before .args .s .window)))) ≡ b
+    → leZ (asInt (difference (c .before .before .before .before .args .number) (c .before .before .before .before .args .s .state .anchor))) (negℤ (pos (c .before .before .before .before .args .s .window))) ≡ b
+under c b e =
+    let fits : SFits w32 (c .before .difference .result) = search needs in
+    rw (← c .before .difference .ensures) (at-most (c .before .before .before .before .args .s .window) (c .before .difference .result) (omega arith) fits b e)
+
+signed-test : (c : tie.After-struct-known2) (b : Bool)
+    → leZ (toZ w32 (ofZ w32 (c .before .difference .result))) (pos 0) ≡ b → leZ (asInt (difference (c .before .before .before .before .args .number) (c .before .before .before .before .args .s .state .anchor))) (pos 0) ≡ b
+signed-test c b e =
+    let fits : SFits w32 (c .before .difference .result) = search needs in
+    rw (← c .before .difference .ensures) (not-above (c .before .difference .result) fits b e)
+
+-- After the two bounds d is inside the window, and its size is what the definitions have.
+near : (c : tie.Else3)
+    → natAbs (asInt (difference (c .before .before .before .before .before .before .args .number) (c .before .before .before .before .before .before .args .s .state .anchor))) < c .before .before .before .before .before .before .args .s .window
+near c =
+    let k = c .before .before in
+    let a = k .before .before .before .before .args in
+    inside (a .s .window) (asInt (difference (a .number) (a .s .state .anchor))) (over k false (c .before .if2 .left)) (under k false (c .if3 .left))
+
+sized : (c : tie.After-size)
+    → c .size .result ≡ natAbs (asInt (difference (c .before .before .before .before .before .before .before .args .number) (c .before .before .before .before .before .before .before .args .s .state .anchor)))
+sized c =
+    let k = c .before .before .before in
+    let fits : SFits w32 (k .before .difference .result) = search needs in
+    c .size .ensures ∙ ap natAbs (toZ-ofZ fits ∙ k .before .difference .ensures)
+
+-- src/lib.rt:237:9
+returns : tie.Need-returns
+unfolding weighedAs stateAfter losses outOfOrder
+returns c =
+    let a = c .before .before in
+    rw (case-first (a .args .s) (a .args .number) (is-yes (a .args .s .state .any) (c .if1 .taken)), eq-eqb (a .args .s .rule) vectorRule (a .pre .1 .1))
+
+-- src/lib.rt:246:9
+difference-requires : tie.Need-difference-requires
+difference-requires c κs = search needs
+
+-- src/lib.rt:247:13
+cast-w : tie.Need-cast-w
+cast-w c = search needs
+
+-- src/lib.rt:249:9
+returns-2 : tie.Need-returns-2
+unfolding weighedAs
+returns-2 c =
+    let k = c .before in
+    let a = k .before .before .before .before .args in
+    let e = over (c .before) true (c .if2 .taken) in
+    rw (sorted k ∙ far-ahead (a .s .window) (a .s .state .history) (difference (a .number) (a .s .state .anchor)) e)
+
+-- src/lib.rt:251:13
+sub-if3 : tie.Need-sub-if3
+sub-if3 c =
+    let a = c .before .before .before .before .before .args in
+    minus-fits (a .s .window) (pos 0) (omega arith) (record { sfits = omega arith })
+
+-- src/lib.rt:252:9
+returns-3 : tie.Need-returns-3
+unfolding weighedAs
+returns-3 c =
+    let k = c .before .before in
+    let a = k .before .before .before .before .args in
+    let e = under k true (c .if3 .taken) in
+    rw (sorted k ∙ far-back (a .s .window) (a .s .state .history) (difference (a .number) (a .s .state .anchor)) e)
+
+-- src/lib.rt:254:9
+size-requires : tie.Need-size-requires
+size-requires c κs =
+    let k = c .before .before in
+    let fits : SFits w32 (k .before .difference .result) = search needs in
+    rw (toZ-ofZ fits, k .before .difference .ensures) (omega (arith, near c))
+
+-- src/lib.rt:256:9
+behind-requires : tie.Need-behind-requires
+behind-requires c κs = omega (arith, sized (c .before), near (c .before .before))
+
+-- src/lib.rt:256:9
+returns-4 : tie.Need-returns-4
+returns-4 c =
+    let e = c .before .before .before in
+    let k = e .before .before in
+    let a = k .before .before .before .before .args in
+    let x = difference (a .number) (a .s .state .anchor) in
+    let past = in-past (a .s .window) (a .s .state .history) x (forward (a .number) (a .s .state .anchor)) (near e) (signed-test k true (c .before .if4 .taken)) in
+    rw (c .behind .ensures, sized (c .before .before), sorted k ∙ past) (sym (weighed-behind (a .s) (a .number) (bit (natAbs (asInt x)) (a .s .state .history)) (natAbs (asInt x))))
+
+-- src/lib.rt:258:5
+ahead-requires : tie.Need-ahead-requires
+ahead-requires c κs =
+    let e = c .before .before in
+    let k = e .before .before in
+    let a = k .before .before .before .before .args in
+    let some = positive (asInt (difference (a .number) (a .s .state .anchor))) (signed-test k false (c .if4 .left)) in
+    let known = sized (c .before) in
+    let less = near e in
+    (omega (arith, some, known), (omega (arith, known, less), search needs))
+
+-- src/lib.rt:232:1
+returns-5 : tie.Need-returns-5
+returns-5 c =
+    let e = c .before .before .before in
+    let k = e .before .before in
+    let a = k .before .before .before .before .args in
+    let x = difference (a .number) (a .s .state .anchor) in
+    let front = in-front (a .s .window) (a .s .state .history) x (near e) (signed-test k false (c .before .if4 .left)) in
+    rw (c .ahead .ensures, sized (c .before .before), sorted k ∙ front)
+
+pub by-vector-spec : {M : Type 1} → statement M
+by-vector-spec =
+    tie.close
+    (tie.spec
+    returns
+    difference-requires
+    cast-w
+    returns-2
+    sub-if3
+    returns-3
+    size-requires
+    behind-requires
+    returns-4
+    ahead-requires
+    returns-5)

@@ -1,0 +1,58 @@
+-- Document 01, "The stream record": the history, whose bit k stands for the number anchor - k. This file alone knows how
+-- a history is held; every other file goes through these names. Assumes nothing.
+use Prim.Native.Nat.{ℕ, zero, suc, _+_, _-_, _*_, _/_, _%_, _^_}
+use mathlib.Core.Bool.{Bool, true, false, not}
+use lib.Dec.{eqb, ltb}
+use Rattle.record.specs.Words.{if_then_else_}
+
+abbrev pub History : Type 0
+History = ℕ
+
+-- bit k of the number n is set
+unfoldable pub bitOf : (k n : ℕ) → Bool
+bitOf k n = eqb (n / 2 ^ k % 2) 1
+
+-- 1 where the test holds
+abbrev pub one : Bool → ℕ
+one test = if test then 1 else 0
+
+-- history zero: no bit is set
+abbrev pub empty : History
+empty = 0
+
+unfoldable pub isEmpty : History → Bool
+isEmpty history = eqb history 0
+
+-- bit k is set
+unfoldable pub bit : (k : ℕ) (history : History) → Bool
+bit k history = bitOf k history
+
+-- no bit is set at L or above
+unfoldable pub within : (window : ℕ) (history : History) → Bool
+within window history = ltb history (2 ^ window)
+
+-- only bit 0
+abbrev pub single : History
+single = 1
+
+-- the history with bit k set
+unfoldable pub setBit : (k : ℕ) (history : History) → History
+setBit k history = if bit k history then history else history + 2 ^ k
+
+-- one place up; the bit at place L - 1 leaves
+unfoldable pub push : (window : ℕ) (history : History) → History
+push window history = history * 2 % 2 ^ window
+
+-- d places up, one place at a time
+unfoldable pub pushes : (window d : ℕ) (history : History) → History
+pushes window zero history = history
+pushes window (suc d) history = pushes window d (push window history)
+
+-- how many zero bits leave at place L - 1 on the way
+unfoldable pub leaving : (window d : ℕ) (history : History) → ℕ
+leaving window zero history = 0
+leaving window (suc d) history = one (not (bit (window - 1) history)) + leaving window d (push window history)
+
+-- d places up, and bit 0 set
+unfoldable pub advance : (window d : ℕ) (history : History) → History
+advance window d history = setBit 0 (pushes window d history)

@@ -1,0 +1,6 @@
+pub mod History
+pub mod Record
+pub mod Decisions
+pub mod Steps
+pub mod WrapRun
+pub mod Laws

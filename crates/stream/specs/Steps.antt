@@ -1,0 +1,58 @@
+-- Document 01, "Decisions": the decision in the two steps that the code takes, and the answer of a tick. The first step
+-- says what an arrival is to a record and reads no counter; the second gives the record after it. Assumes nothing.
+use Prim.Native.Nat.{ℕ}
+use mathlib.Core.Bool.{Bool, true, false}
+use mathlib.Core.Option.{Option, none, some}
+use Rattle.record.specs.Words.{if_then_else_}
+use Rattle.stream.specs.History.{setBit}
+use Rattle.stream.specs.Record.{Stream, lawful, damaged}
+use Rattle.stream.specs.Decisions.{Case, caseOf, Verdict, up, duplicate, rogue, verdictOf, handedUp, stateAfter, outOfOrder, losses, tally, with, expires, ticked}
+pub use Rattle.stream.specs.declared.Marks.{Marks}
+pub use Rattle.stream.specs.declared.Weighed.{Weighed}
+pub use Rattle.stream.specs.declared.Weighed.the-variants.{Damaged, HandedUp, Duplicate, Rogue}
+pub use Rattle.stream.specs.declared.Ticked.{Ticked}
+
+-- What an arrival that is handed up leaves.
+abbrev pub marksOf : Stream → (number : ℕ) → Case → Marks
+marksOf s number c = record {
+  history = stateAfter s number c .history;
+  lost = losses s c;
+  anchor = stateAfter s number c .anchor;
+  disorder = outOfOrder c;
+}
+
+-- What a late number leaves, k behind the anchor.
+abbrev pub lateMarks : Stream → (k : ℕ) → Marks
+lateMarks s k = record { history = setBit k (s .state .history); lost = 0; anchor = s .state .anchor; disorder = true }
+
+-- The paper's verdict as the first step answers it.
+abbrev pub said : Verdict → Marks → Weighed
+said up m = HandedUp m
+said duplicate m = Duplicate
+said rogue m = Rogue
+
+-- The first step. A record that is not lawful, be it damaged or free, has no verdict.
+unfoldable pub weighedAs : Stream → (number : ℕ) → Case → Weighed
+weighedAs s number c = said (verdictOf c) (marksOf s number c)
+
+-- What each of its answers says in the paper's words.
+abbrev pub verdictIn : Weighed → Option Verdict
+verdictIn Damaged = none
+verdictIn (HandedUp m) = some up
+verdictIn Duplicate = some duplicate
+verdictIn Rogue = some rogue
+
+unfoldable pub weighed : Stream → (number : ℕ) → Weighed
+weighed s number = if lawful s then weighedAs s number (caseOf s number) else Damaged
+
+-- The second step. Without a verdict the record stays as it is.
+unfoldable pub recordAfter : Stream → (network : ℕ) → Weighed → Stream
+recordAfter s network Damaged = s
+recordAfter s network (HandedUp m) =
+    with s (handedUp s (m .anchor) (m .history)) (tally (s .counts) network up (m .disorder) (m .lost))
+recordAfter s network Duplicate = with s (s .state) (tally (s .counts) network duplicate false 0)
+recordAfter s network Rogue = with s (s .state) (tally (s .counts) network rogue false 0)
+
+-- A tick: the record after it, whether the stream was reset, and whether the record is damaged.
+unfoldable pub tickOf : Stream → Ticked
+tickOf s = record { stream = ticked s; reset = expires s; damaged = damaged s }
