@@ -2,3 +2,4 @@ pub mod Bools
 pub mod Keys
 pub mod Looks
 pub mod Search
+pub mod Visits

@@ -4,6 +4,8 @@ use record::State;
 use record::Stream;
 ghost use mathlib.Core.Path.{_≡_};
 ghost use mathlib.Core.Bool.{_||_};
+ghost use Rattle.stream.specs.Decisions.{counted};
+ghost use Rattle.calls.specs.Ticks.{noSums, visited};
 ghost use Rattle.calls.specs.Table.{blank, hasKey, isFree, unseen, looked, orElse, foundHere};
 
 // Is this a slot in use that has the key? The destination is compared first: it differs most often.
@@ -109,4 +111,48 @@ fn free_too(before: Found, s: Stream, i: usize) -> Found
             }
         }
     }
+}
+
+// What a tick counts: streams that it reset, and records in use that are damaged.
+pub struct Sums {
+    pub resets: u64,
+    pub damaged: u64,
+}
+
+// A record after its tick, and what was counted so far.
+pub struct Turn {
+    pub stream: Stream,
+    pub sums: Sums,
+}
+
+// What is counted before any record is looked at.
+pub fn no_sums() -> Sums
+    ensures { λ r. ⌜ r ≡ noSums ⌝ }
+{
+    Sums {
+        resets: 0,
+        damaged: 0,
+    }
+}
+
+// A count, risen by 1 where the test holds.
+fn counted(test: bool, count: u64) -> u64
+    ensures { λ r. ⌜ r ≡ counted test count ⌝ }
+{
+    if test {
+        return std::num::wrapping_add_u64(count, 1);
+    }
+    count
+}
+
+// The tick of one record, after those that c counts.
+pub fn visit(c: Sums, s: Stream) -> Turn
+    ensures { λ r. ⌜ r ≡ visited c s ⌝ }
+{
+    let k = stream::tick(s);
+    let resets = counted(k.reset, c.resets);
+    let damaged = counted(k.damaged, c.damaged);
+    let stream = k.stream;
+    let sums = Sums { resets, damaged };
+    Turn { stream, sums }
 }
