@@ -1,7 +1,7 @@
 -- A tick of a whole table, record by record. Assumes nothing.
 --     risen, visits                the code's steps are the definitions'
 --     sums-nil, sums-snoc          the sums of a table with one record more, behind: one visit more, as long as they fit
---     ticked-snoc, ticked-length   the table after it, likewise; it is as long
+--     ticked-nil, ticked-snoc, ticked-length   the table after it, likewise; it is as long
 use mathlib.Core.Path.{_≡_, refl, sym, _∙_, ap}
 use Prim.Native.Nat.{ℕ, suc, _+_, _%_, _^_, _<_, _≤_}
 use native.Mathlib.Omega.{arith}
@@ -67,6 +67,10 @@ sums-nil = refl
 pub sums-snoc : (t : Table) (s : Stream) → length t + 1 < 2 ^ 64 → sums (t ++ s ∷ []) ≡ visited (sums t) s .sums
 unfolding sums visited
 sums-snoc t s l i = record { resets = one-more expires t s l i; damaged = one-more damaged t s l i }
+
+pub ticked-nil : tickedAll [] ≡ []
+unfolding tickedAll
+ticked-nil = refl
 
 pub ticked-snoc : (t : Table) (s : Stream) (c : Sums) → tickedAll (t ++ s ∷ []) ≡ tickedAll t ++ visited c s .stream ∷ []
 unfolding tickedAll visited
