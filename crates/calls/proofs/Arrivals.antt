@@ -60,7 +60,7 @@ module _ (t : Table) (network : ℕ) (f out : List ℕ) where
 
   pub asked-tag : (g : Tag) → asked (length t) network f ≡ answers g → TagIs f (g .header) (g .number)
   unfolding asked
-  asked-tag g e = 
+  asked-tag g e =
       let a = passed (ltb slotsMost (length t)) TABLE (sym e) in
       let b = passed (ltb 1 network) NETWORK (a .1) in
       tag-of f g (sym (b .1))

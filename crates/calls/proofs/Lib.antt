@@ -7,3 +7,4 @@ pub mod Steps
 pub mod Acts
 pub mod Arrivals
 pub mod Slots
+pub mod Visits

@@ -1,7 +1,7 @@
 -- The steps of an open, a close and a reset together are the call, and so is what a tick counts and stores: each law ends a
 -- walk. Assumes nothing.
 --     open-meets, close-meets, reset-meets
---     tick-refused, tick-meets
+--     tick-refused, tick-meets, sweep-meets
 use Prim.Native.Nat.{ℕ, _≤_, _<_}
 use native.Mathlib.Nat.{le-refl}
 use mathlib.Core.Path.{_≡_, refl, sym, ap, _∙_}
@@ -22,6 +22,7 @@ use Rattle.stream.specs.Decisions.{expires, ticked}
 use Rattle.stream.specs.Decisions as decisions
 use Rattle.calls.specs.Table.{Table, at, search, someSlot, found, hasKey, isFree, surveyed, count}
 use Rattle.calls.specs.Calls.{Call, opening, closing, resetting, ticking, Act, refuse, opens, closes, resets, ticks, inUse, open-call, checked, act, after, answer, output, outOf, Meets}
+use Rattle.calls.specs.Ticks.{tickedAll, sums}
 use Rattle.calls.specs.Said.{saidOpened, saidDone, saidSwept}
 use Rattle.calls.specs.Steps.{notPlaced, placedAt, placingOf, unchanged, closeChange, resetChange}
 use Rattle.calls.specs.declared.Survey.{Survey}
@@ -30,6 +31,7 @@ use Rattle.calls.specs.declared.Opened.the-variants as opened
 use Rattle.calls.specs.declared.Done.{Done}
 use Rattle.calls.specs.declared.Done.the-variants as done
 use Rattle.calls.specs.declared.Swept.the-variants as swept
+use Rattle.calls.specs.declared.Sums.{Sums}
 use Rattle.calls.specs.declared.Placing.{Placing}
 use Rattle.calls.specs.declared.Change.{Change}
 use Rattle.calls.proofs.Acts.{by-act}
@@ -125,3 +127,9 @@ pub tick-meets : (t : Table) {a b : ℕ} {u : Table} → length t ≤ slotsMost 
     → Meets t ticking (record { said = saidSwept (swept.Counted a b); table = u; output = [] })
 unfolding act checked after answer output
 tick-meets t m a b e = by-act t ticking ticks (simp (le-ltb _ _ m)) (rw (a, b)) e refl
+
+-- the same by the sums of a sweep
+pub sweep-meets : (t : Table) {c : Sums} {u : Table} → length t ≤ slotsMost → c ≡ sums t → u ≡ tickedAll t
+    → Meets t ticking (record { said = saidSwept (swept.Counted (c .resets) (c .damaged)); table = u; output = [] })
+unfolding sums tickedAll
+sweep-meets t m e w = tick-meets t m (ap (λ (c : Sums). c .resets) e) (ap (λ (c : Sums). c .damaged) e) w

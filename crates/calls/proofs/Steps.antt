@@ -1,7 +1,7 @@
 -- What the steps of a call come to, by the tests that the code makes. Assumes nothing.
 use Prim.Native.Nat.{ℕ, _≤_, _<_}
 use mathlib.Core.Path.{_≡_, refl, sym, ap, _∙_}
-use mathlib.Core.Bool.{Bool, true, false, not, _&&_}
+use mathlib.Core.Bool.{Bool, true, false, not, _&&_, and-true, and-false}
 use mathlib.Core.List.{List}
 use mathlib.Core.Option.{Option, none, some}
 use native.Mathlib.Omega.{arith}
@@ -111,11 +111,13 @@ module _ (slots : ℕ) (v : Survey) (s : Stream) where
 
 -- ---- close and reset
 
-pub beyond : (slots slot : ℕ) (s : Stream) → slots ≤ slot → false ≡ (ltb slot slots && yes (s .used))
-beyond slots slot s e = simp (le-ltb _ _ e)
+pub free-slot : (slots slot : ℕ) (s : Stream) → s .used ≡ 0 → false ≡ (ltb slot slots && yes (s .used))
+unfolding yes
+free-slot slots slot s e = rw (eq-eqb _ _ e) (sym (and-false (ltb slot slots)))
 
-pub within-table : (slots slot : ℕ) (s : Stream) → slot < slots → yes (s .used) ≡ (ltb slot slots && yes (s .used))
-within-table slots slot s e = simp (lt-ltb _ _ e)
+pub used-slot : (slots slot : ℕ) (s : Stream) → (s .used ≡ 0 → ⊥) → ltb slot slots ≡ (ltb slot slots && yes (s .used))
+unfolding yes
+used-slot slots slot s e = rw (ne-eqb _ _ e) (sym (and-true (ltb slot slots)))
 
 module _ (slots slot : ℕ) (s : Stream) where
   pub close-many : slotsMost < slots → unchanged slots s TABLE ≡ closeChange slots slot s

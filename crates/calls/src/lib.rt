@@ -11,6 +11,8 @@ ghost use Prim.Native.Nat.{_-_};
 ghost use mathlib.Core.Bool.{_&&_, _||_};
 ghost use lib.Dec.{ltb};
 ghost use lib.ListN.{length};
+ghost use Rattle.stream.specs.Decisions.{counted};
+ghost use Rattle.calls.specs.Ticks.{noSums, visited};
 ghost use Rattle.calls.specs.Table.{blank, hasKey, isFree, unseen, looked, orElse, foundHere};
 ghost use Rattle.record.specs.Words.{yes};
 ghost use Rattle.stream.specs.Record.{opened};
@@ -50,7 +52,7 @@ pub enum Done {
 // The answer of a tick: how many streams it reset, and how many records in use are damaged.
 pub enum Swept {
     Refused(u8),
-    Counted(usize, usize),
+    Counted(u64, u64),
 }
 
 // What an arrival asks of the table, by its frame's header and number; or 1 to 5.
@@ -373,10 +375,10 @@ pub fn reset(slots: usize, slot: usize, s: Stream) -> Change
 fn in_use(slots: usize, slot: usize, s: Stream) -> bool
     ensures { λ r. ⌜ r ≡ (ltb slot slots && yes (s .used)) ⌝ }
 {
-    if slot >= slots {
+    if s.used == 0 {
         return false;
     }
-    s.used != 0
+    slot < slots
 }
 
 fn unchanged(slots: usize, s: Stream, n: u8) -> Change
@@ -387,4 +389,48 @@ fn unchanged(slots: usize, s: Stream, n: u8) -> Change
         slot: slots,
         stream: s,
     }
+}
+
+// What a tick counts: streams that it reset, and records in use that are damaged.
+pub struct Sums {
+    pub resets: u64,
+    pub damaged: u64,
+}
+
+// A record after its tick, and what was counted so far.
+pub struct Turn {
+    pub stream: Stream,
+    pub sums: Sums,
+}
+
+// What is counted before any record is looked at.
+pub fn no_sums() -> Sums
+    ensures { λ r. ⌜ r ≡ noSums ⌝ }
+{
+    Sums {
+        resets: 0,
+        damaged: 0,
+    }
+}
+
+// A count, risen by 1 where the test holds.
+fn counted(test: bool, count: u64) -> u64
+    ensures { λ r. ⌜ r ≡ counted test count ⌝ }
+{
+    if test {
+        return std::num::wrapping_add_u64(count, 1);
+    }
+    count
+}
+
+// The tick of one record, after those that c counts.
+pub fn visit(c: Sums, s: Stream) -> Turn
+    ensures { λ r. ⌜ r ≡ visited c s ⌝ }
+{
+    let k = stream::tick(s);
+    let resets = counted(k.reset, c.resets);
+    let damaged = counted(k.damaged, c.damaged);
+    let stream = k.stream;
+    let sums = Sums { resets, damaged };
+    Turn { stream, sums }
 }
