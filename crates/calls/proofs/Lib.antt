@@ -8,7 +8,7 @@ pub mod Acts
 pub mod Arrivals
 pub mod Slots
 pub mod Visits
-pub mod Refused
+pub mod Exactly
 pub mod Kept
 pub mod Sound
 pub mod Lowest
