@@ -4,11 +4,11 @@
 --     arrival-settled    every other arrival, refused by 7 and 8 or not
 use Prim.Native.Nat.{ℕ, _-_, _+_, _≤_, _<_}
 use mathlib.Core.Path.{_≡_, refl, sym, ap, _∙_}
-use mathlib.Core.Bool.{Bool, true, false, cond, not}
+use mathlib.Core.Bool.{Bool, true, false, cond}
 use mathlib.Core.List.{List}
 use mathlib.Core.Option.{some}
 use native.Mathlib.Omega.{arith}
-use lib.Dec.{ltb, leb}
+use lib.Dec.{ltb}
 use lib.ListN.{length, set, length-append, length-take, length-drop}
 use lib.Seq.{set-getD}
 use borrow.Author.Tests.{lt-ltb, le-ltb, lt-leb, le-leb, leb-true, leb-false}
@@ -16,7 +16,6 @@ use Rattle.refusal.specs.Checks.Said.{refused, answers}
 use Rattle.refusal.specs.Numbers.{TABLE, NETWORK, UNKNOWN, DAMAGED, ROOM}
 use Rattle.refusal.proofs.Checks.{passed}
 use Rattle.record.specs.Sizes.{slotsMost}
-use Rattle.frame.specs.Bytes.{overlay}
 use Rattle.frame.specs.Frame.{Tag, typeAt, cutAt, untagged, readOf}
 use Rattle.frame.specs.TagCalls.{writtenWithout}
 use Rattle.frame.specs.declared.Header.{Header}
@@ -24,12 +23,12 @@ use Rattle.frame.proofs.Heads.{TagIs, tag-of}
 use Rattle.frame.proofs.Writes.{type-place, without-fits}
 use Rattle.stream.specs.Record.{lawful}
 use Rattle.stream.specs.Decisions as decisions
-use Rattle.stream.specs.Steps.{weighed, verdictIn}
+use Rattle.stream.specs.Steps.{weighed}
 use Rattle.stream.proofs.Steps.{steps-tell-verdict, steps-decide}
 use Rattle.calls.specs.Table.{Table, blank, at, search, found, hasKey}
-use Rattle.calls.specs.Calls.{arriving, Act, refuse, arrive, arrivalAt, arrival, checked, act, after, answer, output, writtenFor, Meets}
+use Rattle.calls.specs.Calls.{arriving, refuse, arrive, arrivalAt, arrival, checked, act, after, answer, output, writtenFor, Meets}
 use Rattle.calls.specs.Said.{saidArrival}
-use Rattle.calls.specs.Steps.{asked, saidAsked, hasRoom, judged, recordOf, answerFor, finished, bytesFor, bytesOf}
+use Rattle.calls.specs.Steps.{asked, saidAsked, hasRoom, judged, recordOf, finished, bytesFor, bytesOf}
 use Rattle.calls.specs.declared.Found.the-variants.{At, Nothing}
 use Rattle.calls.specs.declared.Asked.{Asked}
 use Rattle.calls.specs.declared.Asked.the-variants as asks

@@ -21,7 +21,7 @@ use Rattle.stream.specs.Record as records
 use Rattle.stream.specs.Decisions.{expires, ticked}
 use Rattle.stream.specs.Decisions as decisions
 use Rattle.calls.specs.Table.{Table, at, search, someSlot, found, hasKey, isFree, surveyed, count}
-use Rattle.calls.specs.Calls.{Call, opening, closing, resetting, ticking, Act, refuse, opens, closes, resets, ticks, inUse, open-call, checked, act, after, answer, output, outOf, Meets}
+use Rattle.calls.specs.Calls.{Call, opening, closing, resetting, ticking, refuse, opens, closes, resets, ticks, inUse, open-call, checked, act, after, answer, output, outOf, Meets}
 use Rattle.calls.specs.Ticks.{tickedAll, sums}
 use Rattle.calls.specs.Said.{saidOpened, saidDone, saidSwept}
 use Rattle.calls.specs.Steps.{notPlaced, placedAt, placingOf, unchanged, closeChange, resetChange}
