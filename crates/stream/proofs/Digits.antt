@@ -7,7 +7,7 @@ use native.Mathlib.Decide.{decLt}
 use native.Mathlib.Omega.{arith}
 use lib.Dec.{eqb, ltb, lit<}
 use lib.Bits.{bitOr, or-block, or-step, or-zero-r}
-use lib.Pow.{pow-pos, pow-lt, pow-mono, split, shl-exact}
+use lib.Pow.{pow-pos, pow-mono, split, shl-exact}
 use lib.Arith.{mod-mul}
 use borrow.Author.Tests.{lt-ltb, le-ltb, eqb-true, eqb-false}
 use Rattle.record.specs.Words.{if_then_else_}

@@ -1,5 +1,5 @@
 -- `stream::lawful` meets its contract. Assumes nothing.
-use mathlib.Core.Path.{_≡_, _∙_, sym}
+use mathlib.Core.Path.{_∙_, sym}
 use Rattle.stream.specs.Record.{shaped, lawful}
 use Rattle.stream.proofs.Flags.{flags}
 use Rattle.stream.proofs.Law.{sizes, taking-any}

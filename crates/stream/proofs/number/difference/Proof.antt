@@ -1,11 +1,11 @@
--- `stream::difference` meets its contract. Assumes nothing.
+-- `stream::number::difference` meets its contract. Assumes nothing.
 use mathlib.Core.Path.{_≡_, _∙_}
 use mir.Syntax.{w32}
 use mir.Val.{toZ, ofZ}
 use Rattle.stream.proofs.Reading.{wraps}
 use borrow.Author.Needs.{needs}
-use Rattle.stream.proofs.difference.Statement.{statement}
-use Rattle.stream.proofs.difference.Tie as tie
+use Rattle.stream.proofs.number.difference.Statement.{statement}
+use Rattle.stream.proofs.number.difference.Tie as tie
 
 wrapping-sub-u16-requires : tie.Need-wrapping-sub-u16-requires
 wrapping-sub-u16-requires c κs = search needs

@@ -1,8 +1,8 @@
--- `stream::signed` meets its contract. Assumes nothing.
+-- `stream::number::signed` meets its contract. Assumes nothing.
 use Rattle.stream.proofs.Reading.{sub-fits, read-low, read-high}
 use borrow.Author.Needs.{needs}
-use Rattle.stream.proofs.signed.Statement.{statement}
-use Rattle.stream.proofs.signed.Tie as tie
+use Rattle.stream.proofs.number.signed.Statement.{statement}
+use Rattle.stream.proofs.number.signed.Tie as tie
 
 cast-result : tie.Need-cast-result
 cast-result c = search needs

@@ -1,8 +1,8 @@
--- `stream::counted` meets its contract. Assumes nothing.
+-- `stream::effects::counted` meets its contract. Assumes nothing.
 use Rattle.stream.proofs.Flags.{flags}
 use borrow.Author.Needs.{needs}
-use Rattle.stream.proofs.counted.Statement.{statement}
-use Rattle.stream.proofs.counted.Tie as tie
+use Rattle.stream.proofs.effects.counted.Statement.{statement}
+use Rattle.stream.proofs.effects.counted.Tie as tie
 
 wrapping-add-u64-requires : tie.Need-wrapping-add-u64-requires
 wrapping-add-u64-requires c κs = search needs

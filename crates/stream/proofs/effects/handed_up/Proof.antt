@@ -1,9 +1,9 @@
--- `stream::handed_up` meets its contract. Assumes nothing.
+-- `stream::effects::handed_up` meets its contract. Assumes nothing.
 use Rattle.stream.specs.Decisions.{tally}
 use Rattle.stream.specs.Steps.{recordAfter}
 use borrow.Author.Needs.{needs}
-use Rattle.stream.proofs.handed_up.Statement.{statement}
-use Rattle.stream.proofs.handed_up.Tie as tie
+use Rattle.stream.proofs.effects.handed_up.Statement.{statement}
+use Rattle.stream.proofs.effects.handed_up.Tie as tie
 
 counted-requires : tie.Need-counted-requires
 counted-requires c κs = search needs
@@ -11,14 +11,14 @@ counted-requires c κs = search needs
 counted-requires-2 : tie.Need-counted-requires-2
 counted-requires-2 c κs = search needs
 
+wrapping-add-u64-requires : tie.Need-wrapping-add-u64-requires
+wrapping-add-u64-requires c κs = search needs
+
 counted-requires-3 : tie.Need-counted-requires-3
 counted-requires-3 c κs = search needs
 
-counted-requires-4 : tie.Need-counted-requires-4
-counted-requires-4 c κs = search needs
-
-wrapping-add-u64-requires : tie.Need-wrapping-add-u64-requires
-wrapping-add-u64-requires c κs = search needs
+wrapping-add-u64-requires-2 : tie.Need-wrapping-add-u64-requires-2
+wrapping-add-u64-requires-2 c κs = search needs
 
 returns : tie.Need-returns
 unfolding recordAfter tally
@@ -30,7 +30,7 @@ handed-up-spec =
     (tie.spec
     counted-requires
     counted-requires-2
-    counted-requires-3
-    counted-requires-4
     wrapping-add-u64-requires
+    counted-requires-3
+    wrapping-add-u64-requires-2
     returns)

@@ -1,8 +1,8 @@
--- `stream::size` meets its contract. Assumes nothing.
+-- `stream::number::size` meets its contract. Assumes nothing.
 use Rattle.stream.proofs.Reading.{negated-fits, size-below, size-above, size-is}
 use borrow.Author.Needs.{needs}
-use Rattle.stream.proofs.size.Statement.{statement}
-use Rattle.stream.proofs.size.Tie as tie
+use Rattle.stream.proofs.number.size.Statement.{statement}
+use Rattle.stream.proofs.number.size.Tie as tie
 
 sub-result : tie.Need-sub-result
 sub-result c = negated-fits (c .before .args .d) (c .before .fits .d) (c .before .pre)
