@@ -213,7 +213,7 @@ class Frame:
         call = f'walk 𝓤 H A W mem run {" ".join(args)} 𝓣 (fmOf 𝓤 H (W .laws) 𝓣){known} {" ".join(are)}'
         if self.requires:
             fact = re.sub(r"[^\s()]+", lambda m: where.get(m.group(0), m.group(0)), self.requires)
-            last = f'needs 𝓤 ({fact}) _ (λ given. {call})'
+            last = f'needs 𝓤 ({fact}) _ (λ given. {call} given)'
         else:
             last = f'via 𝓤 _ (fst∗ 𝓤 _ (emp 𝓤)) ({call})'
         return f'''pub {f}-spec : {{M : Type 1}} → stated.statement M
