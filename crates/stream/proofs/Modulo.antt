@@ -1,13 +1,11 @@
 -- The difference is the integer from -32768 to 32767 that is congruent to number - anchor. Assumes nothing.
 use mathlib.Core.Path.{_≡_, refl, ap, _∙_, sym}
-use mathlib.Core.Bool.{Bool, true, false, _&&_, and-eq-true-iff}
+use mathlib.Core.Bool.{true, and-eq-true-iff}
 use Prim.Native.Nat.{ℕ, zero, suc, _+_, _-_, _*_, _%_, _<_, _≤_}
 use native.Mathlib.Omega.{arith}
 use native.Mathlib.Decide.{decLt}
-use lib.IntN.{ℤ, pos, negsuc, negℤ, _+ℤ_, _-ℤ_, _*ℤ_}
-use lib.Signed.{leZ}
-use lib.Dec.{leb, ltb}
-use borrow.Author.Tests.{lt-ltb, le-ltb, leb-true, le-leb, ltb-true, ltb-false}
+use lib.IntN.{ℤ, pos, negsuc, _+ℤ_, _-ℤ_, _*ℤ_}
+use borrow.Author.Tests.{lt-ltb, le-ltb, leb-true, le-leb}
 use Rattle.stream.specs.Decisions.{signed, difference, asInt}
 use Rattle.stream.specs.Laws.{Congruent, sixteenBits, DifferenceInRange, DifferenceCongruent, DifferenceOnly}
 use Rattle.stream.proofs.Reading.{signed-low, signed-high}
