@@ -1,77 +1,65 @@
 #!/usr/bin/env python3
 """Expands a walk: tools/walks/CRATE/F.walk to crates/CRATE/proofs/F/Proof.antt.
 
-    tools/walks/walk.py CRATE F G ..       from the repository's root
-    tools/walks/walk.py CRATE --check      do the proofs say what their walks expand to? (after `rt fmt`)
+    tools/walks/walk.py CRATE F G ..       from the repository's root, then `rt fmt`
+    tools/walks/walk.py CRATE --check      do the proofs say what their walks expand to?
 
-A walk is a proof in antt, with these short forms. docs/WALKS.md says how one is written.
+A walk is a proof in antt with these short forms. docs/WALKS.md says how one is written.
+
+Of the function:
   %about TEXT               the file's first comment
   %param NAME TYPE          a parameter, in order: &[Stream], &mut [Stream], &[u8], &mut [u8], a number, bool, Stream, or a type of Values.antt.
-                            NAME is its value (of a slice: its list), g-NAME the fact that it fits
-  %result TYPE              what the function returns; () for nothing
-  %requires FACT            over the parameters' names; the proof of it is `given`
+                            NAME is its value (of a slice: its list; the table is ys), g-NAME the fact that it fits
+  %result TYPE              what it returns; () for nothing
+  %requires FACT            over the parameters' names; `given` is the proof of it
   %calls CRATE::G ..        the callees; known .g′ is the theorem of each
-  %locals N                 the function has N locals;  %ty 1 4: T   the MIR type of locals 1 and 4
-  %module                   opens the module over the parameters, with x, mv, Post′ (and n, s of the first slice)
-  %exits FACT               the lemma `exits`, for a function of one slice: from what is kept to Post′. FACT is over r and, of a &mut, zs
+  %locals N   %ty 1 4: T    it has N locals; the MIR type of locals 1 and 4
+Of the proof:
+  %module                   opens the module over the parameters, with x, mv, Post′ (and n, s: length and machine value of the first slice)
+  %exits FACT               the lemma `exits`, from what is kept to Post′. FACT is over r and the last lists of what is &mut: zs of ys, us′ of us
   %tables                   opens the module over the callees' theorems and the g-NAMEs
-  %walk                     the statement `walk` and its start: locals made, parameters passed, and of a function of one slice that slice entered
+  %walk                     the statement `walk` and its start: locals made, parameters passed, slices entered
   %loop turn-1 then t-3     a loop over the records: opens the proof `turn` of a turn from the state t; t-3 is the code behind the loop
   %loops t-2                ends it: `runs-on t`, the code t-2, which the loop begins, from the state t
   %end                      the ending: from the walk to the contract
   %off K                    K entries stand before the locals from here on
   @i  &i                    where local i stands;  where entry i behind the locals stands
-  <<ls>> <<env>> <<cells 1 = v; 3 = w>> <<forgets 1 2>> <<frees>> <<close>>
-                            the locals' names; the environment; the locals' part of a context; locals become room; locals are freed; brackets of %walk
-  lines that begin with a colon are statements of the MIR. An operand is a local, 3, or a field of one, 3.1. `:=` is into room, `<-` over a value.
-  A value's EVIDENCE is `fits FACT` for a number, `bool`, `ptr`, or a term
+  <<ls>> <<env>>            the locals' names; the environment
+  <<cells 1 = v; 3 = w>>    the locals' part of a context;  <<front zs us>>  what stands before it in a function of several slices, at these lists
+  <<opd 3>> <<tag 3>>       local 3 as an operand; the tag of the enum in it
+  <<forgets 1 2>> <<frees>> <<keeps>> <<close>>      locals become room; locals are freed; what `exits` wants is kept; the brackets of %walk
+Statements of the MIR, on lines that begin with a colon. An operand is a local 3, a field 3.1, or field 0 of variant 1, 3#1.0.
+`:=` is into room, `<-` over a value, `last` before it ends an arm or a turn. EVIDENCE is `fits FACT` for a number, `bool`, `ptr`, or a term.
   : 5 := 1.1 ; EVIDENCE                     a copy                      : 5 := lit ; EVIDENCE
   : 6 := 5 cmp 3                            a comparison                : 3 <- 3 plus ; fits FACT       plus 1
   : place 8 := 1[3] via := 5 ; FACT         local 8 points to record number _3 of the slice _1; _5 is its distance, of which FACT says that it fits
   : 9 := *8 ; EVIDENCE                      a record is read            : *8 := 4.0 ; EVIDENCE          a record is stored
-  : call CRATE::G | TYPE VALUE FACT OPERAND | .. -> TYPE r said. FACT       a callee by value; r is its result, g-r that it fits, `said` the FACT of it. A bracket is left open
-  : lands := 7 ; EVIDENCE                   where its result goes
   : reborrow 8 := 1 via 7 ; FACT            local 8 is the slice _1 once more, of which FACT says that its length fits; _7 is its place
-  : lend CRATE::G 8 LIST FACT | .. -> TYPE r said. FACT         a callee whose first parameter is a &[Stream]: _8, which is a loan of the &mut [Stream]
-                            at the head of the context, now LIST. The FACT before the bar is that its length fits. `| given PROOF` shows the callee's `requires`
-  : lend mut CRATE::G 8 LIST FACT | .. -> TYPE r zs said. FACT  the same of a &mut [Stream]; zs is the list that it leaves, `len` that it is as long
+Calls leave a bracket open. r is the result, g-r that it fits, `said` the FACT of it. An argument is `TYPE VALUE FACT OPERAND`; `| given PROOF` shows a `requires`.
+  : call CRATE::G | .. | .. -> TYPE r said. FACT                by value
+  : lend CRATE::G 8 LIST FACT | .. -> TYPE r said. FACT         lent the table as a &[Stream], _8, while the caller keeps it; it is LIST, and FACT is that its length fits
+  : lend mut CRATE::G 8 LIST FACT | .. -> TYPE r zs said. FACT  as a &mut [Stream]; zs is the list that it leaves, `len` that it is as long
+  : read CRATE::G | & NAME OPERAND | .. -> TYPE r said. FACT    handed a & parameter
+  : write CRATE::G | & NAME OPERAND | &mut NAME LIST FACT OPERAND | .. -> TYPE r vs said. FACT      and lent a &mut one; vs is what it leaves, len-vs that it is as long
+  : lands := 7 ; EVIDENCE                   where the result goes
 """
 import os, re, sys
 
 sys.dont_write_bytecode = True
 
-from frame import Frame
-from names import IMPORTS, Type, dash, imports, local, nest, own, paren
+from calls import Steps
+from names import IMPORTS, dash, imports, local, own, paren
 
 
-class Walk(Frame):
+class Walk(Steps):
     # ---- the statements of the MIR
-    def pos(self, i): return self.off + 2 * (self.n - 1 - int(i))
-
-    def opd(self, o, extra=0):
-        if o == 'lit':
-            return '(lit ! tt)'
-        if '.' in o:
-            i, j = o.split('.')
-            return f'(load ! (from ! (fld ! refl (stop !))) (look-in ! {self.pos(i) + extra} (sub ! {j} refl (whole !))))'
-        return f'(load ! (from ! (stop !)) (look-cell ! {self.pos(o) + extra} refl))'
-
-    def cell(self, how, d, ev):
-        return f'(from ! (stop !)) ({"init" if how == ":=" else "store-cell"} ! {self.pos(d)} refl {ev})'
-
-    @staticmethod
-    def shown(ev):
-        ev = ev.strip()
-        if ev in ('', 'bool', 'ptr'):
-            return '(tt, tt)'
-        if ev.startswith('fits '):
-            return f'(tt, record {{ fits = {ev[5:]} }})'
-        return paren(ev)
-
     def statement(self, ind, text):
         m = re.fullmatch(r'call (\S+)(.*?) -> (\S+) (\S+) (\S+)\. (.*)', text)
         if m:
             return ind + self.call(*m.groups())
+        m = re.fullmatch(r'(read|write) (\S+)(.*?) -> (\S+) (\S+) (?:(\S+) )?(\S+)\. (.*)', text)
+        if m:
+            return ind + self.hand(*m.groups())
         m = re.fullmatch(r'lend (mut )?(\S+) (\d+) (\S+) (\S+)(.*?) -> (\S+) (\S+) (?:(\S+) )?(\S+)\. (.*)', text)
         if m:
             return ind + self.lend(*m.groups())
@@ -110,53 +98,6 @@ class Walk(Frame):
         if m:
             return f'{ind}{step} ! (of-opd ! {self.opd(m[3])}) {self.cell(m[2], m[1], self.shown(ev))} $'
         raise SystemExit(f'{self.name}: no such statement: {text}')
-
-    # ---- calls: arguments are `TYPE VALUE FACT OPERAND`
-    @staticmethod
-    def arguments(args):
-        given, shown = [], ''
-        for a in args.split('|')[1:]:
-            words = re.findall(r'\([^()]*(?:\([^()]*(?:\([^()]*\)[^()]*)*\)[^()]*)*\)|[^\s()]+', a)
-            if words[0] == 'given':
-                shown = f'says ! {words[1]} $ '
-            else:
-                given.append(words)
-        return given, shown
-
-    def operands(self, given, extra, last='(no-more !)'):
-        for a in reversed(given):
-            last = f'(and-then ! {self.opd(a[3], extra)} {last})'
-        return last
-
-    def call(self, g, args, kind, r, said, fact):
-        _, f, _, alias, _, _ = self.callee(g)
-        given, shown = self.arguments(args)
-        types, t = [Type(a[0]) for a in given], Type(kind)
-        y = f'((tt, tt, tt, {nest([a[1] for a in given], "tt")}, {nest([u.val(a[1]) + " ∷ []" for u, a in zip(types, given)], "tt")}), tt)'
-        goes = shown + 'nothing ! $ ' + ''.join(f'{u.owned(a[1], a[2])} $ fjoin ! $ ' for u, a in reversed(list(zip(types, given)))) + 'nothing ! $ join ! $ frame ! $ done !'
-        return (f'calls-value {{𝓤 = 𝓤}} {{H = H}} {{A = A}} ! fm {alias}.ended ({alias}.clauses 𝓤 H A mem run) (known .{dash(f)}′) {y} (qed W [] ∵ {goes})'
-                f' {paren(t.make)} (λ {r} vs p. {t.tells} {r} vs p) (λ ({r} : {t.denot}). {fact}) (λ {r} ws. id⊢ 𝓤 _) {self.operands(given, 1)} (λ {r} g-{r} {said}.')
-
-    def lend(self, mut, g, local_, ys, room, args, kind, r, zs, said, fact):
-        _, f, _, alias, _, _ = self.callee(g)
-        given, shown = self.arguments(args)
-        types, t = [Type(a[0]) for a in given], Type(kind)
-        how = 'mut' if mut else 'shr'
-        y = (f'(((ν ∷ [], tt), (fullShare, tt), tt, {nest([f"record {{ ptr = (b, o); name = δ; now = {ys} }}"] + [a[1] for a in given], "tt")}, '
-             f'{nest([f"sliceVal (b, o) (length {ys}) ∷ []"] + [u.val(a[1]) + " ∷ []" for u, a in zip(types, given)], "tt")}), tt)')
-        goes = (f'qed W (‵ (flft (ν ∷ []) fullShare) ∷ ‵ ({how}-own R b o ν δ {ys}) ∷ []) ∵ {shown}nothing ! $ move ! (1 ∷ 0 ∷ []) $ join ! $ move ! (1 ∷ []) $ nothing ! $ '
-                + ''.join(f'{u.owned(a[1], a[2])} $ fjoin ! $ ' for u, a in reversed(list(zip(types, given))))
-                + 'move ! (1 ∷ 0 ∷ []) $ fjoin ! $ move ! (1 ∷ 0 ∷ []) $ join ! $ frame ! $ done !')
-        opds = f'(and-then ! {self.opd(local_, -1 if mut else 2)} {self.operands(given, -1 if mut else 2)})'
-        last, binds, more = '', f'({r} : {t.denot})', ''
-        if mut:
-            rest = 'ftrue'
-            for _ in given:
-                rest = f'fsep ftrue ({rest})'.replace('(ftrue)', 'ftrue')
-            last = f' (λ ν δ ws. ws .0) (λ ν δ ws. fst∗ 𝓤 (sem 𝓤 H A (fsep (finally R δ (ws .0)) (feq ℕ (length (ws .0)) (length {ys})))) (sem 𝓤 H A ({rest})))'
-            binds, more = f'({r} : {t.denot}) ({zs} : List Stream)', f' {zs}'
-        return (f'calls-{how} {{𝓤 = 𝓤}} {{H = H}} {{A = A}} ! fm R {ys} b o {room} {alias}.ended ({alias}.clauses 𝓤 H A mem run) (known .{dash(f)}′) (λ ν δ. {y}) (λ ν δ. {goes}) (λ ν δ. fst∗ 𝓤 _ (emp 𝓤)) '
-                f'(λ ν δ. {t.make}) (λ ν δ {r} vs p. {t.tells} {r} vs p){last} (λ ν δ {binds}. {fact}) (λ ν δ {r} ws. id⊢ 𝓤 _) (λ ν δ. {opds}) (λ ν δ {r}{more} g-{r}{" len" if mut else ""} {said}.')
 
     # ---- a loop that counts up to the table's length: its state is (i, .., facts), and n - i falls
     @staticmethod
@@ -199,6 +140,9 @@ class Walk(Frame):
             line = line.replace('<<env>>', ' ∷ '.join(f'({self.ty[i]}, {local(i)})' for i in range(self.n)) + ' ∷ []')
         line = re.sub(r'<<cells (.*?)>>', cells, line)
         line = re.sub(r'<<opd (\S+)>>', lambda m: self.opd(m[1]), line)
+        line = re.sub(r'<<tag (\d+)>>', lambda m: f'(load ! (from ! (vrt ! refl (fld ! refl (stop !)))) (look-tag ! {self.pos(m[1])} (whole !)))', line)
+        line = re.sub(r'<<front (.*?)>>', lambda m: self.fronts(m[1].split()), line)
+        line = line.replace('<<keeps>>', 'keep ! (' + ' ∷ '.join(str(i) for i, e in enumerate(self.front()) if e[0] != 'own') + ' ∷ []) $')
         line = line.replace('<<close>>', ')' * self.n)
         line = line.replace('<<ls>>', ' '.join(local(i) for i in range(self.n)))
         line = re.sub(r'<<forgets ([\d ]+)>>', lambda m: ' '.join(f'forget ! {pos(i)} refl $' for i in m[1].split()), line)
@@ -256,7 +200,7 @@ def main():
         text = Walk(crate, f, open(f'{here}/{f}.walk').read()).expanded()
         path = f'crates/{crate}/proofs/{f}/Proof.antt'
         if check:
-            squeezed = lambda t: ' '.join(t.split())
+            squeezed = lambda t: ''.join(t.split()).replace(',)', ')')
             if squeezed(text) != squeezed(open(path).read()):
                 raise SystemExit(f'{path} is not what {here}/{f}.walk expands to')
         else:

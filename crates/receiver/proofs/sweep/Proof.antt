@@ -45,10 +45,12 @@ use Rattle.calls.specs.declared.Sums.{Sums}
 use Rattle.calls.specs.declared.Turn.{Turn}
 use Rattle.calls.proofs.Visits.{sums-nil, sums-snoc, ticked-nil, ticked-snoc, ticked-length}
 use Rattle.receiver.proofs.Calling.{calls-value}
+use Rattle.receiver.proofs.Fields.{turn-stream, turn-sums}
+use Rattle.receiver.proofs.Handing.{owns-slice}
 use Rattle.receiver.proofs.Lists.{drop-past, from-0, one-more, less}
 use Rattle.receiver.proofs.Pieces.{after}
-use Rattle.receiver.proofs.Rows.{R, val, ty, size, mutTy, fits-at, typed, has, opens-at, closes-at, owns-mut, enters-mut}
-use Rattle.receiver.proofs.Values.{sums-ty, sums-val, sums-tells, sums-ok, sums-typed, sums-has, turn-ty, turn-val, turn-tells, turn-ok, turn-typed, turn-stream, turn-sums}
+use Rattle.receiver.proofs.Rows.{R, val, ty, size, mutTy, fits-at, typed, has, opens-at, closes-at, enters-mut}
+use Rattle.receiver.proofs.Values.{sums-ty, sums-val, sums-tells, sums-ok, sums-typed, sums-has, turn-ty, turn-val, turn-tells, turn-ok, turn-typed}
 use Rattle.calls.proofs.no_sums as fn-no-sums
 use Rattle.calls.proofs.no_sums.Symbol as fn-no-sums-def
 use Rattle.calls.proofs.no_sums.Symbol.{name as #calls·no-sums}
@@ -97,7 +99,7 @@ module _ {M : Type 1} (𝓤 : URA M) (H : Heap 𝓤) (A : Atoms 𝓤) (W : Given
   exits gn zs len r g said =
       qed W (‵ (fobs γ (codedHoleys R .code (heres R zs))) ∷ ‵ (fbor κ (Held R (length zs) b o γ)) ∷ ‵ (flft κ q) ∷ []) ∵
       suffices ! _ (ends-at 𝓤 H A fn.ended stayed (fn.clauses 𝓤 H A mem run) W (((κ, tt), (q, tt), tt, x, mv), tt) (sums-val r) r (zs, tt) (len, tt)) $ says ! said $
-      nothing ! $ move ! (3 ∷ 0 ∷ []) $ join ! $ frame ! $ owns-mut ! (named 0) ys zs b o len gn $ nothing ! $ move ! (1 ∷ 0 ∷ []) $ fjoin ! $ frame ! $ sums-has ! r g $ done !
+      nothing ! $ move ! (3 ∷ 0 ∷ []) $ join ! $ frame ! $ owns-slice ! R (named 0) ys zs b o len gn $ nothing ! $ move ! (1 ∷ 0 ∷ []) $ fjoin ! $ frame ! $ sums-has ! r g $ done !
 
   -- ---- the loop: the first i records had their tick, c are their sums, and zs is the table
   abbrev Facts : ℕ → Sums → List Stream → Type 0
