@@ -21,7 +21,7 @@ use Rattle.stream.specs.Record.{settled, lawful, closed}
 use Rattle.stream.specs.Decisions as decisions
 use Rattle.stream.specs.declared.Weighed.{Weighed}
 use Rattle.stream.specs.declared.Weighed.the-variants.{Damaged}
-use Rattle.stream.specs.Steps.{weighed, verdictIn}
+use Rattle.stream.specs.Steps.{weighed, said}
 use Rattle.stream.proofs.Steps.{steps-tell-verdict}
 use Rattle.calls.specs.declared.Found.the-variants.{At, Nothing}
 use Rattle.calls.specs.declared.Survey.{Survey}
@@ -63,7 +63,7 @@ no-verdict s n e = go (lawful s) refl
     clash x = let z : _≡_ {A = ℕ} 0 1 = cc in omega arith
 
     go : (b : Bool) → lawful s ≡ b → lawful s ≡ false
-    go true l = absurd (clash (ap verdictIn (sym e) ∙ steps-tell-verdict s n l))
+    go true l = absurd (clash (ap said (sym e) ∙ steps-tell-verdict s n l))
     go false l = l
 
 module _ (s : Stream) (number : ℕ) (room : Bool) where
