@@ -1,0 +1,76 @@
+-- Document 01, "The stream record" and "Calls and the order of checks": a table of streams and the search in it.
+-- Assumes nothing.
+use Prim.Native.Nat.{ℕ, zero, suc, _+_}
+use mathlib.Core.Bool.{Bool, true, false, _&&_, _||_, not}
+use mathlib.Core.List.{List, [], _∷_}
+use lib.Dec.{eqb, ltb}
+use lib.ListN.{getD, length}
+use Rattle.record.specs.declared.Stream.{Stream}
+use Rattle.record.specs.Words.{if_then_else_, yes}
+use Rattle.calls.specs.declared.Found.{Found}
+use Rattle.calls.specs.declared.Found.the-variants.{At, Nothing}
+use Rattle.calls.specs.declared.Survey.{Survey}
+
+abbrev pub Table : Type 0
+Table = List Stream
+
+-- a slot that never was in use
+abbrev pub blank : Stream
+blank = record {
+  dest = 0;
+  vlan = 0;
+  window = 0;
+  time = 0;
+  rule = 0;
+  used = 0;
+  state = record { history = 0; anchor = 0; remaining = 0; any = 0 };
+  counts = record { arrivals0 = 0; arrivals1 = 0; passed = 0; discarded = 0; rogue = 0; disorder = 0; lost = 0; resets = 0 };
+}
+
+-- the record in a slot (beyond the table, where no call looks, a free one)
+abbrev pub at : Table → ℕ → Stream
+at t i = getD t i blank
+
+-- the lowest slot whose record passes the test, and the table's length where none does
+unfoldable pub search : (Stream → Bool) → Table → ℕ
+search p [] = zero
+search p (s ∷ t) = if p s then zero else suc (search p t)
+
+-- is there a slot whose record passes?
+unfoldable pub someSlot : (Stream → Bool) → Table → Bool
+someSlot p t = ltb (search p t) (length t)
+
+-- "the search stops at it and yields its place": the lowest slot whose record passes, where there is one
+unfoldable pub found : (Stream → Bool) → Table → Found
+found p t = if someSlot p t then At (search p t) else Nothing
+
+-- how many slots have a record that passes
+unfoldable pub count : (Stream → Bool) → Table → ℕ
+count p [] = 0
+count p (s ∷ t) = (if p s then 1 else 0) + count p t
+
+-- a slot in use that has the key
+unfoldable pub hasKey : (dest vlan : ℕ) → Stream → Bool
+hasKey dest vlan s = yes (s .used) && eqb (s .dest) dest && eqb (s .vlan) vlan
+
+-- a free slot
+unfoldable pub isFree : Stream → Bool
+isFree s = not (yes (s .used))
+
+-- what an open has to know of a table: has a slot in use the key, and which is the lowest free slot?
+unfoldable pub surveyed : (dest vlan : ℕ) → Table → Survey
+surveyed dest vlan t = record { taken = someSlot (hasKey dest vlan) t; free = found isFree t }
+
+-- The same slot by slot: the survey of no slot, and one that looks at slot i, which holds s, after those below it.
+abbrev pub unseen : Survey
+unseen = record { taken = false; free = Nothing }
+
+abbrev pub orElse : Found → Found → Found
+orElse (At i) f = At i
+orElse Nothing f = f
+
+abbrev pub foundHere : (Stream → Bool) → Stream → ℕ → Found
+foundHere p s i = if p s then At i else Nothing
+
+unfoldable pub looked : (dest vlan : ℕ) → Survey → Stream → ℕ → Survey
+looked dest vlan a s i = record { taken = a .taken || hasKey dest vlan s; free = orElse (a .free) (foundHere isFree s i) }

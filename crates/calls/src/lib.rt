@@ -1,0 +1,236 @@
+// The by-value part of each call on a table: what it answers, what it stores, what it writes (document 01, "Calls and the
+// order of checks"). The walks over the table are in the crate `receiver`.
+mod arrival;
+mod slot;
+
+pub use arrival::ask;
+pub use arrival::finish;
+pub use arrival::fits;
+pub use arrival::judge;
+pub use arrival::record_after;
+pub use arrival::refused;
+pub use arrival::unknown;
+use frame::Header;
+use record::Counts;
+use record::State;
+use record::Stream;
+pub use slot::close;
+pub use slot::place;
+pub use slot::reset;
+use stream::Weighed;
+ghost use mathlib.Core.Path.{_≡_};
+ghost use mathlib.Core.Bool.{_||_};
+ghost use Rattle.stream.specs.Decisions.{counted};
+ghost use Rattle.calls.specs.Ticks.{noSums, visited};
+ghost use Rattle.calls.specs.Table.{blank, hasKey, isFree, unseen, looked, orElse, foundHere};
+
+// What an arrival was found to be.
+pub enum Verdict {
+    // With the length of the frame that was written.
+    HandedUp(usize),
+    Duplicate,
+    Rogue,
+}
+
+// The answer of an arrival: a refusal's number, or its stream's slot, its number and its verdict.
+pub enum Answer {
+    Refused(u8),
+    Arrival {
+        slot: usize,
+        number: u16,
+        verdict: Verdict,
+    },
+}
+
+// The answer of an open: the slot.
+pub enum Opened {
+    Refused(u8),
+    At(usize),
+}
+
+// The answer of a close and of a reset.
+pub enum Done {
+    Refused(u8),
+    Ok,
+}
+
+// The answer of a tick: how many streams it reset, and how many records in use are damaged.
+pub enum Swept {
+    Refused(u8),
+    Counted(u64, u64),
+}
+
+// What an arrival asks of the table, by its frame's header and number; or 1 to 5.
+pub enum Asked {
+    Refused(u8),
+    For(Header, u16),
+}
+
+// What an arrival is to its record; or 7 and 8.
+pub enum Judged {
+    Refused(u8),
+    Weighed(Weighed),
+}
+
+// The answer of an open, and what it stores. Where it is refused the slot lies beyond the table, so nothing is stored.
+pub struct Placing {
+    pub answer: Opened,
+    pub slot: usize,
+    pub stream: Stream,
+}
+
+// The answer of a close or a reset, and what it stores, in the same way.
+pub struct Change {
+    pub answer: Done,
+    pub slot: usize,
+    pub stream: Stream,
+}
+
+// Is this a slot in use that has the key? The destination is compared first: it differs most often.
+pub fn has_key(s: Stream, dest: u64, vlan: u16) -> bool
+    ensures { λ r. ⌜ r ≡ hasKey dest vlan s ⌝ }
+{
+    if s.dest != dest {
+        return false;
+    }
+    if s.vlan != vlan {
+        return false;
+    }
+    s.used != 0
+}
+
+// The slot that a search was for.
+pub enum Found {
+    At(usize),
+    Nothing,
+}
+
+// What an open has to know of a table.
+pub struct Survey {
+    // A slot in use has the key.
+    pub taken: bool,
+    // The lowest free slot.
+    pub free: Found,
+}
+
+// A slot that never was in use.
+pub fn blank() -> Stream
+    ensures { λ r. ⌜ r ≡ blank ⌝ }
+{
+    let state = State {
+        history: 0,
+        anchor: 0,
+        remaining: 0,
+        any: 0,
+    };
+    let counts = Counts {
+        arrivals0: 0,
+        arrivals1: 0,
+        passed: 0,
+        discarded: 0,
+        rogue: 0,
+        disorder: 0,
+        lost: 0,
+        resets: 0,
+    };
+    Stream {
+        dest: 0,
+        vlan: 0,
+        window: 0,
+        time: 0,
+        rule: 0,
+        used: 0,
+        state,
+        counts,
+    }
+}
+
+// The survey before any slot is looked at.
+pub fn unseen() -> Survey
+    ensures { λ r. ⌜ r ≡ unseen ⌝ }
+{
+    Survey {
+        taken: false,
+        free: Found::Nothing,
+    }
+}
+
+// The survey once slot i, which holds s, is looked at too.
+pub fn look(acc: Survey, s: Stream, i: usize, dest: u64, vlan: u16) -> Survey
+    ensures { λ r. ⌜ r ≡ looked dest vlan acc s i ⌝ }
+{
+    let taken = taken_too(acc.taken, s, dest, vlan);
+    let before = acc.free;
+    let free = free_too(before, s, i);
+    Survey { taken, free }
+}
+
+// A slot in use has the key: one that was looked at before, or this one.
+fn taken_too(before: bool, s: Stream, dest: u64, vlan: u16) -> bool
+    ensures { λ r. ⌜ r ≡ (before || hasKey dest vlan s) ⌝ }
+{
+    if before {
+        return true;
+    }
+    has_key(s, dest, vlan)
+}
+
+// The lowest free slot: one that was looked at before, or else this one.
+fn free_too(before: Found, s: Stream, i: usize) -> Found
+    ensures { λ r. ⌜ r ≡ orElse before (foundHere isFree s i) ⌝ }
+{
+    match before {
+        Found::At(j) => Found::At(j),
+        Found::Nothing => {
+            if s.used == 0 {
+                Found::At(i)
+            } else {
+                Found::Nothing
+            }
+        }
+    }
+}
+
+// What a tick counts: streams that it reset, and records in use that are damaged.
+pub struct Sums {
+    pub resets: u64,
+    pub damaged: u64,
+}
+
+// A record after its tick, and what was counted so far.
+pub struct Turn {
+    pub stream: Stream,
+    pub sums: Sums,
+}
+
+// What is counted before any record is looked at.
+pub fn no_sums() -> Sums
+    ensures { λ r. ⌜ r ≡ noSums ⌝ }
+{
+    Sums {
+        resets: 0,
+        damaged: 0,
+    }
+}
+
+// A count, risen by 1 where the test holds.
+fn counted(test: bool, count: u64) -> u64
+    ensures { λ r. ⌜ r ≡ counted test count ⌝ }
+{
+    if test {
+        return std::num::wrapping_add_u64(count, 1);
+    }
+    count
+}
+
+// The tick of one record, after those that c counts.
+pub fn visit(c: Sums, s: Stream) -> Turn
+    ensures { λ r. ⌜ r ≡ visited c s ⌝ }
+{
+    let k = stream::tick(s);
+    let resets = counted(k.reset, c.resets);
+    let damaged = counted(k.damaged, c.damaged);
+    let stream = k.stream;
+    let sums = Sums { resets, damaged };
+    Turn { stream, sums }
+}
