@@ -7,6 +7,7 @@ pub mod Law
 pub mod Flags
 pub mod Told
 pub mod Reading
+pub mod Modulo
 pub mod Sorts
 pub mod Keeps
 pub mod Changes

@@ -22,12 +22,12 @@ wide w h = toZ-pos w32 (omega arith)
 below : (w : ℕ) → w < 2 ^ 16 → pos w -ℤ pos 65536 ≡ negsuc (65535 - w)
 below w h = simp (lt-ltb w 65536 h) (ap negsuc (omega arith))
 
-signed-low : (w : ℕ) → w < 32768 → asInt (signed w) ≡ pos w
+pub signed-low : (w : ℕ) → w < 32768 → asInt (signed w) ≡ pos w
 unfolding signed
 signed-low zero h = refl
 signed-low (suc w) h = rw (ne-eqb (suc w) 0 (omega arith), lt-ltb (suc w) 32768 h)
 
-signed-high : (w : ℕ) → 32768 ≤ w → w < 2 ^ 16 → asInt (signed w) ≡ negsuc (65535 - w)
+pub signed-high : (w : ℕ) → 32768 ≤ w → w < 2 ^ 16 → asInt (signed w) ≡ negsuc (65535 - w)
 unfolding signed
 signed-high w l h =
     let n : 65536 - w ≡ suc (65535 - w) = omega arith in

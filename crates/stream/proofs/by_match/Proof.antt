@@ -1,3 +1,4 @@
+-- `stream::by_match` meets its contract. Assumes nothing.
 use mathlib.Core.Path.{_≡_, ap, sym, _∙_}
 use mathlib.Core.Bool.{true, false}
 use Prim.Native.Nat.{ℕ, _<_, _^_}
@@ -16,9 +17,6 @@ use Rattle.stream.proofs.Sorts.{case-first, case-match, match-same, mat
 use borrow.Author.Needs.{needs}
 use Rattle.stream.proofs.by_match.Statement.{statement}
 use Rattle.stream.proofs.by_match.Tie as tie
-use Rattle.stream.proofs.by_match.Reads as reads
-use Rattle.stream.proofs.by_match.Lts as lts
-use Rattle.stream.proofs.difference.Reads as difference-reads
 
 -- where d is known: the case is the match rule's, and the tests on d's bits are tests on the integer
 matched : (c : tie.After-difference)
@@ -35,18 +33,15 @@ bits c n h =
     let fits : SFits w32 (c .difference .result) = search needs in
     bits-are (c .difference .result) n fits h ∙ ap (λ (z : ℤ). isℤ z n) (c .difference .ensures)
 
--- src/lib.rt:267:9
 returns : tie.Need-returns
 unfolding weighedAs stateAfter losses outOfOrder
 returns c =
     let a = c .before .before in
     rw (case-first (a .args .s) (a .args .number) (is-yes (a .args .s .state .any) (c .if1 .taken)), a .pre)
 
--- src/lib.rt:276:9
 difference-requires : tie.Need-difference-requires
 difference-requires c κs = search needs
 
--- src/lib.rt:278:9
 returns-2 : tie.Need-returns-2
 unfolding weighedAs
 returns-2 c =
@@ -55,7 +50,6 @@ returns-2 c =
     sym (bits (c .before) 0 (omega arith)) ∙ eq-eqb (ofZ w32 (c .before .difference .result)) 0 (c .if2 .taken) in
     rw (matched (c .before) ∙ match-same (difference (a .number) (a .s .state .anchor)) (forward (a .number) (a .s .state .anchor)) e)
 
--- src/lib.rt:262:1
 returns-3 : tie.Need-returns-3
 unfolding weighedAs stateAfter losses outOfOrder
 returns-3 c =

@@ -1,3 +1,4 @@
+-- `stream::by_vector` meets its contract. Assumes nothing.
 use mathlib.Core.Path.{_≡_, ap, sym, _∙_}
 use mathlib.Core.Bool.{Bool, true, false}
 use Prim.Native.Nat.{_<_}
@@ -19,12 +20,6 @@ use Rattle.stream.proofs.Sorts.{case-first, case-vector, weighed-behind
 use borrow.Author.Needs.{needs}
 use Rattle.stream.proofs.by_vector.Statement.{statement}
 use Rattle.stream.proofs.by_vector.Tie as tie
-use Rattle.stream.proofs.by_vector.Reads as reads
-use Rattle.stream.proofs.by_vector.Lts as lts
-use Rattle.stream.proofs.ahead.Reads as ahead-reads
-use Rattle.stream.proofs.behind.Reads as behind-reads
-use Rattle.stream.proofs.difference.Reads as difference-reads
-use Rattle.stream.proofs.size.Reads as size-reads
 
 -- Where d and the window are known, the case is the vector rule's at d,
 sorted : (c : tie.After-struct-known2)
@@ -70,22 +65,18 @@ sized c =
     let fits : SFits w32 (k .before .difference .result) = search needs in
     c .size .ensures ∙ ap natAbs (toZ-ofZ fits ∙ k .before .difference .ensures)
 
--- src/lib.rt:237:9
 returns : tie.Need-returns
 unfolding weighedAs stateAfter losses outOfOrder
 returns c =
     let a = c .before .before in
     rw (case-first (a .args .s) (a .args .number) (is-yes (a .args .s .state .any) (c .if1 .taken)), eq-eqb (a .args .s .rule) vectorRule (a .pre .1 .1))
 
--- src/lib.rt:246:9
 difference-requires : tie.Need-difference-requires
 difference-requires c κs = search needs
 
--- src/lib.rt:247:13
 cast-w : tie.Need-cast-w
 cast-w c = search needs
 
--- src/lib.rt:249:9
 returns-2 : tie.Need-returns-2
 unfolding weighedAs
 returns-2 c =
@@ -94,13 +85,11 @@ returns-2 c =
     let e = over (c .before) true (c .if2 .taken) in
     rw (sorted k ∙ far-ahead (a .s .window) (a .s .state .history) (difference (a .number) (a .s .state .anchor)) e)
 
--- src/lib.rt:251:13
 sub-if3 : tie.Need-sub-if3
 sub-if3 c =
     let a = c .before .before .before .before .before .args in
     minus-fits (a .s .window) (pos 0) (omega arith) (record { sfits = omega arith })
 
--- src/lib.rt:252:9
 returns-3 : tie.Need-returns-3
 unfolding weighedAs
 returns-3 c =
@@ -109,18 +98,15 @@ returns-3 c =
     let e = under k true (c .if3 .taken) in
     rw (sorted k ∙ far-back (a .s .window) (a .s .state .history) (difference (a .number) (a .s .state .anchor)) e)
 
--- src/lib.rt:254:9
 size-requires : tie.Need-size-requires
 size-requires c κs =
     let k = c .before .before in
     let fits : SFits w32 (k .before .difference .result) = search needs in
     rw (toZ-ofZ fits, k .before .difference .ensures) (omega (arith, near c))
 
--- src/lib.rt:256:9
 behind-requires : tie.Need-behind-requires
 behind-requires c κs = omega (arith, sized (c .before), near (c .before .before))
 
--- src/lib.rt:256:9
 returns-4 : tie.Need-returns-4
 returns-4 c =
     let e = c .before .before .before in
@@ -130,7 +116,6 @@ returns-4 c =
     let past = in-past (a .s .window) (a .s .state .history) x (forward (a .number) (a .s .state .anchor)) (near e) (signed-test k true (c .before .if4 .taken)) in
     rw (c .behind .ensures, sized (c .before .before), sorted k ∙ past) (sym (weighed-behind (a .s) (a .number) (bit (natAbs (asInt x)) (a .s .state .history)) (natAbs (asInt x))))
 
--- src/lib.rt:258:5
 ahead-requires : tie.Need-ahead-requires
 ahead-requires c κs =
     let e = c .before .before in
@@ -141,7 +126,6 @@ ahead-requires c κs =
     let less = near e in
     (omega (arith, some, known), (omega (arith, known, less), search needs))
 
--- src/lib.rt:232:1
 returns-5 : tie.Need-returns-5
 returns-5 c =
     let e = c .before .before .before in

@@ -1,25 +1,19 @@
+-- `stream::duplicate` meets its contract. Assumes nothing.
 use Rattle.stream.specs.Decisions.{tally}
 use Rattle.stream.specs.Steps.{recordAfter}
 use borrow.Author.Needs.{needs}
 use Rattle.stream.proofs.duplicate.Statement.{statement}
 use Rattle.stream.proofs.duplicate.Tie as tie
-use Rattle.stream.proofs.duplicate.Reads as reads
-use Rattle.stream.proofs.duplicate.Lts as lts
-use Rattle.stream.proofs.counted.Reads as counted-reads
 
--- src/lib.rt:338:5
 counted-requires : tie.Need-counted-requires
 counted-requires c κs = search needs
 
--- src/lib.rt:339:5
 counted-requires-2 : tie.Need-counted-requires-2
 counted-requires-2 c κs = search needs
 
--- src/lib.rt:340:5
 counted-requires-3 : tie.Need-counted-requires-3
 counted-requires-3 c κs = search needs
 
--- src/lib.rt:334:1
 returns : tie.Need-returns
 unfolding recordAfter tally
 returns c = cc

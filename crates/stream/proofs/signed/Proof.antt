@@ -1,27 +1,21 @@
+-- `stream::signed` meets its contract. Assumes nothing.
 use Rattle.stream.proofs.Reading.{sub-fits, read-low, read-high}
 use borrow.Author.Needs.{needs}
 use Rattle.stream.proofs.signed.Statement.{statement}
 use Rattle.stream.proofs.signed.Tie as tie
-use Rattle.stream.proofs.signed.Reads as reads
-use Rattle.stream.proofs.signed.Lts as lts
 
--- src/lib.rt:176:9
 cast-result : tie.Need-cast-result
 cast-result c = search needs
 
--- src/lib.rt:178:10
 cast-result-2 : tie.Need-cast-result-2
 cast-result-2 c = search needs
 
--- src/lib.rt:178:9
 sub-result : tie.Need-sub-result
 sub-result c = sub-fits (c .before .args .w) (c .before .fits .w .fits)
 
--- src/lib.rt:172:1
 returns : tie.Need-returns
 returns c = read-low (c .before .args .w) (c .if1 .taken) (c .before .fits .w .fits)
 
--- src/lib.rt:172:1
 returns-2 : tie.Need-returns-2
 returns-2 c = read-high (c .before .args .w) (c .if1 .left) (c .before .fits .w .fits)
 
