@@ -1,0 +1,9 @@
+pub mod Alike
+pub mod Moves
+pub mod Slot
+pub mod Gap
+pub mod Wrap
+pub mod Handed
+pub mod Linked
+pub mod Follow
+pub mod Three

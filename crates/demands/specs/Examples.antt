@@ -1,0 +1,1 @@
+-- Against vacuity: runs with numbers. Assumes nothing.
