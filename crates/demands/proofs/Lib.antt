@@ -7,3 +7,7 @@ pub mod Handed
 pub mod Linked
 pub mod Follow
 pub mod Three
+pub mod Told
+pub mod Once
+pub mod Sums
+pub mod After

@@ -50,7 +50,7 @@ found p (s ∷ t) b = go (p s) refl b (found p t)
 abbrev pub resultOf : Table → Call → Act → Result
 resultOf t c a = record { said = answer t a; table = after t a; output = output t (outOf c) a }
 
-told-with : (l : ℕ) (v : Verdict) → told (verdictWith l v) ≡ v
+pub told-with : (l : ℕ) (v : Verdict) → told (verdictWith l v) ≡ v
 told-with l up = refl
 told-with l duplicate = refl
 told-with l rogue = refl
