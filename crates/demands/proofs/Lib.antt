@@ -11,3 +11,6 @@ pub mod Told
 pub mod Once
 pub mod Sums
 pub mod After
+pub mod Computing
+pub mod Runs
+pub mod Wrong
