@@ -31,13 +31,17 @@ A walk is a proof in antt, with these short forms. docs/WALKS.md says how one is
   : 9 := *8 ; EVIDENCE                      a record is read            : *8 := 4.0 ; EVIDENCE          a record is stored
   : call CRATE::G | TYPE VALUE FACT OPERAND | .. -> TYPE r said. FACT       a callee by value; r is its result, g-r that it fits, `said` the FACT of it. A bracket is left open
   : lands := 7 ; EVIDENCE                   where its result goes
+  : reborrow 8 := 1 via 7 ; FACT            local 8 is the slice _1 once more, of which FACT says that its length fits; _7 is its place
+  : lend CRATE::G 8 LIST FACT | .. -> TYPE r said. FACT         a callee whose first parameter is a &[Stream]: _8, which is a loan of the &mut [Stream]
+                            at the head of the context, now LIST. The FACT before the bar is that its length fits. `| given PROOF` shows the callee's `requires`
+  : lend mut CRATE::G 8 LIST FACT | .. -> TYPE r zs said. FACT  the same of a &mut [Stream]; zs is the list that it leaves, `len` that it is as long
 """
 import os, re, sys
 
 sys.dont_write_bytecode = True
 
 from frame import Frame
-from names import IMPORTS, OWN, Type, dash, imports, local, nest, paren
+from names import IMPORTS, Type, dash, imports, local, nest, own, paren
 
 
 class Walk(Frame):
@@ -68,6 +72,9 @@ class Walk(Frame):
         m = re.fullmatch(r'call (\S+)(.*?) -> (\S+) (\S+) (\S+)\. (.*)', text)
         if m:
             return ind + self.call(*m.groups())
+        m = re.fullmatch(r'lend (mut )?(\S+) (\d+) (\S+) (\S+)(.*?) -> (\S+) (\S+) (?:(\S+) )?(\S+)\. (.*)', text)
+        if m:
+            return ind + self.lend(*m.groups())
         body, _, ev = text.partition(' ; ')
         body = body.strip()
         m = re.fullmatch(r'lands (:=|<-) (\d+)', body)
@@ -79,6 +86,11 @@ class Walk(Frame):
             return (f'{ind}assigns ! (bin ! {self.opd(i)} (lit ! tt) (record {{ fits = {ev} }})) {self.cell(how, d, self.shown("fits " + ev))} $\n'
                     f'{ind}assigns ! (bin ! {self.opd(sl + ".0")} {self.opd(d)} tt) {self.cell(":=", p, "(tt, tt)")} $\n'
                     f'{ind}rewrite ! {self.pos(p)} (λ (p : ℕ). ‵ (fat fullShare tyPtr {local(p)} 0 (vptr b p))) (sym (place-is size o i)) refl $')
+        m = re.fullmatch(r'reborrow (\d+) := (\d+) via (\d+)', body)
+        if m:
+            d, sl, p = m.groups()
+            return (f'{ind}assigns ! (addr ! (from ! (fld ! refl (hop ! (look-in ! {self.pos(sl)} (sub ! 0 refl (whole !))) (stop !))))) {self.cell(":=", p, "(tt, tt)")} $\n'
+                    f'{ind}assigns ! (agg ! (and-then ! {self.opd(p)} (and-then ! {self.opd(sl + ".1")} (no-more !)))) {self.cell(":=", d, f"(tt, (tt, (record {{ fits = {ev} .0 }}, tt)))")} $')
         last = body.startswith('last ')
         step = 'assigns-last' if last else 'assigns'
         body = body[5:] if last else body
@@ -99,20 +111,52 @@ class Walk(Frame):
             return f'{ind}{step} ! (of-opd ! {self.opd(m[3])}) {self.cell(m[2], m[1], self.shown(ev))} $'
         raise SystemExit(f'{self.name}: no such statement: {text}')
 
+    # ---- calls: arguments are `TYPE VALUE FACT OPERAND`
+    @staticmethod
+    def arguments(args):
+        given, shown = [], ''
+        for a in args.split('|')[1:]:
+            words = re.findall(r'\([^()]*(?:\([^()]*(?:\([^()]*\)[^()]*)*\)[^()]*)*\)|[^\s()]+', a)
+            if words[0] == 'given':
+                shown = f'says ! {words[1]} $ '
+            else:
+                given.append(words)
+        return given, shown
+
+    def operands(self, given, extra, last='(no-more !)'):
+        for a in reversed(given):
+            last = f'(and-then ! {self.opd(a[3], extra)} {last})'
+        return last
+
     def call(self, g, args, kind, r, said, fact):
         _, f, _, alias, _, _ = self.callee(g)
-        given = []
-        for a in args.split('|')[1:]:
-            given.append(re.findall(r'\([^()]*(?:\([^()]*(?:\([^()]*\)[^()]*)*\)[^()]*)*\)|[^\s()]+', a))
-        types = [Type(a[0]) for a in given]
-        y = f'((tt, tt, tt, {nest([a[1] for a in given], "tt")}, {nest([t.val(a[1]) + " ∷ []" for t, a in zip(types, given)], "tt")}), tt)'
-        goes = 'nothing ! $ ' + ''.join(f'{t.owned(a[1], a[2])} $ fjoin ! $ ' for t, a in reversed(list(zip(types, given)))) + 'nothing ! $ join ! $ frame ! $ done !'
-        opds = '(no-more !)'
-        for a in reversed(given):
-            opds = f'(and-then ! {self.opd(a[3], 1)} {opds})'
-        t = Type(kind)
-        return (f'calls-value ! fm {alias}.ended ({alias}.clauses 𝓤 H A mem run) (known .{dash(f)}′) {y} (qed W [] ∵ {goes})'
-                f' {t.make if " " not in t.make else "(" + t.make + ")"} (λ {r} vs p. {t.tells} {r} vs p) (λ ({r} : {t.denot}). {fact}) (λ {r} ws. id⊢ 𝓤 _) {opds} (λ {r} g-{r} {said}.')
+        given, shown = self.arguments(args)
+        types, t = [Type(a[0]) for a in given], Type(kind)
+        y = f'((tt, tt, tt, {nest([a[1] for a in given], "tt")}, {nest([u.val(a[1]) + " ∷ []" for u, a in zip(types, given)], "tt")}), tt)'
+        goes = shown + 'nothing ! $ ' + ''.join(f'{u.owned(a[1], a[2])} $ fjoin ! $ ' for u, a in reversed(list(zip(types, given)))) + 'nothing ! $ join ! $ frame ! $ done !'
+        return (f'calls-value {{𝓤 = 𝓤}} {{H = H}} {{A = A}} ! fm {alias}.ended ({alias}.clauses 𝓤 H A mem run) (known .{dash(f)}′) {y} (qed W [] ∵ {goes})'
+                f' {paren(t.make)} (λ {r} vs p. {t.tells} {r} vs p) (λ ({r} : {t.denot}). {fact}) (λ {r} ws. id⊢ 𝓤 _) {self.operands(given, 1)} (λ {r} g-{r} {said}.')
+
+    def lend(self, mut, g, local_, ys, room, args, kind, r, zs, said, fact):
+        _, f, _, alias, _, _ = self.callee(g)
+        given, shown = self.arguments(args)
+        types, t = [Type(a[0]) for a in given], Type(kind)
+        how = 'mut' if mut else 'shr'
+        y = (f'(((ν ∷ [], tt), (fullShare, tt), tt, {nest([f"record {{ ptr = (b, o); name = δ; now = {ys} }}"] + [a[1] for a in given], "tt")}, '
+             f'{nest([f"sliceVal (b, o) (length {ys}) ∷ []"] + [u.val(a[1]) + " ∷ []" for u, a in zip(types, given)], "tt")}), tt)')
+        goes = (f'qed W (‵ (flft (ν ∷ []) fullShare) ∷ ‵ ({how}-own R b o ν δ {ys}) ∷ []) ∵ {shown}nothing ! $ move ! (1 ∷ 0 ∷ []) $ join ! $ move ! (1 ∷ []) $ nothing ! $ '
+                + ''.join(f'{u.owned(a[1], a[2])} $ fjoin ! $ ' for u, a in reversed(list(zip(types, given))))
+                + 'move ! (1 ∷ 0 ∷ []) $ fjoin ! $ move ! (1 ∷ 0 ∷ []) $ join ! $ frame ! $ done !')
+        opds = f'(and-then ! {self.opd(local_, -1 if mut else 2)} {self.operands(given, -1 if mut else 2)})'
+        last, binds, more = '', f'({r} : {t.denot})', ''
+        if mut:
+            rest = 'ftrue'
+            for _ in given:
+                rest = f'fsep ftrue ({rest})'.replace('(ftrue)', 'ftrue')
+            last = f' (λ ν δ ws. ws .0) (λ ν δ ws. fst∗ 𝓤 (sem 𝓤 H A (fsep (finally R δ (ws .0)) (feq ℕ (length (ws .0)) (length {ys})))) (sem 𝓤 H A ({rest})))'
+            binds, more = f'({r} : {t.denot}) ({zs} : List Stream)', f' {zs}'
+        return (f'calls-{how} {{𝓤 = 𝓤}} {{H = H}} {{A = A}} ! fm R {ys} b o {room} {alias}.ended ({alias}.clauses 𝓤 H A mem run) (known .{dash(f)}′) (λ ν δ. {y}) (λ ν δ. {goes}) (λ ν δ. fst∗ 𝓤 _ (emp 𝓤)) '
+                f'(λ ν δ. {t.make}) (λ ν δ {r} vs p. {t.tells} {r} vs p){last} (λ ν δ {binds}. {fact}) (λ ν δ {r} ws. id⊢ 𝓤 _) (λ ν δ. {opds}) (λ ν δ {r}{more} g-{r}{" len" if mut else ""} {said}.')
 
     # ---- a loop that counts up to the table's length: its state is (i, .., facts), and n - i falls
     @staticmethod
@@ -196,12 +240,11 @@ class Walk(Frame):
             else: out.append(self.line(line))
         body = self.stayed() + self.known() + '\n'.join(out).strip('\n') + '\n'
         body = re.sub(r'\n\n\n+', '\n\n', body)
-        f, own = dash(self.name), f'Rattle.{self.crate}.proofs'
+        f, mine = dash(self.name), f'Rattle.{self.crate}.proofs'
         head = [f'-- `{self.crate}::{self.name}` meets its contract: {self.about}', f'-- A walk of its MIR, made by tools/walks/walk.py from tools/walks/{self.crate}/{self.name}.walk: edit that. Assumes nothing.']
-        values = ' '.join(sorted(set(re.findall(r'[a-z]+-(?:row|ty|val|ok|typed|has|spells|tells)(?![\w-])', body)) - {'uint-tells', 'bool-tells', 'slice-tells'}))
-        head += imports(IMPORTS, body, '') + uses + imports(OWN + (f'Values: {values}\n' if values else ''), body, own + '.') + self.callee_uses()
-        head += [f'use {own}.{self.name}.Key.{{name as #{self.crate}·{f}}}', f'use {own}.{self.name} as fn', f'use {own}.{self.name}.Statement as stated', f'use {own}.{self.name}.Code as code']
-        if 'mir′.' in body: head += [f'use {own}.{self.name}.Code.Mir as mir′']
+        head += imports(IMPORTS, body, '') + uses + imports(own(self.crate), body, mine + '.') + self.callee_uses()
+        head += [f'use {mine}.{self.name}.Key.{{name as #{self.crate}·{f}}}', f'use {mine}.{self.name} as fn', f'use {mine}.{self.name}.Statement as stated', f'use {mine}.{self.name}.Code as code']
+        if 'mir′.' in body: head += [f'use {mine}.{self.name}.Code.Mir as mir′']
         return '\n'.join(head) + '\n\n' + body
 
 

@@ -2,3 +2,9 @@ pub mod Bools
 pub mod Keys
 pub mod Looks
 pub mod Search
+pub mod Places
+pub mod Steps
+pub mod Acts
+pub mod Arrivals
+pub mod Slots
+pub mod Visits

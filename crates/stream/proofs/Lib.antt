@@ -5,8 +5,8 @@ pub mod Digits
 pub mod Moves
 pub mod Law
 pub mod Flags
-pub mod Told
 pub mod Reading
+pub mod Told
 pub mod Modulo
 pub mod Sorts
 pub mod Keeps

@@ -13,8 +13,7 @@ use Rattle.stream.specs.History.{History, bit}
 use Rattle.stream.specs.Record.{Stream}
 use Rattle.stream.specs.Decisions.{Signed, ahead, behind, asInt, difference, Case, first, far, again, late, next, moved, vectorCase, matchCase, caseOf, stateAfter, losses, outOfOrder}
 use Rattle.stream.specs.Steps.{Duplicate, HandedUp, lateMarks, weighedAs}
-use Rattle.stream.proofs.Told.{Forward}
-use Rattle.stream.proofs.Reading.{isℤ}
+use Rattle.stream.proofs.Reading.{Forward, isℤ}
 
 -- By take-any and the rule.
 module _ (s : Stream) (n : ℕ) where

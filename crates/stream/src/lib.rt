@@ -211,17 +211,17 @@ fn behind(s: Stream, k: u16) -> Weighed
     })
 }
 
-// Vector, d ahead of the anchor.
-fn ahead(s: Stream, number: u16, d: u16) -> Weighed
-    requires { ⌜ (1 ≤ d) × ((d < s .window) × (s .window ≤ windowMost)) ⌝ }
-    ensures { λ r. ⌜ r ≡ weighedAs s number (next d) ⌝ }
+// Vector, k ahead of the anchor.
+fn ahead(s: Stream, number: u16, k: u16) -> Weighed
+    requires { ⌜ (1 ≤ k) × ((k < s .window) × (s .window ≤ windowMost)) ⌝ }
+    ensures { λ r. ⌜ r ≡ weighedAs s number (next k) ⌝ }
 {
-    let m = history::advanced(s.state.history, s.window, d);
+    let m = history::advanced(s.state.history, s.window, k);
     Weighed::HandedUp(Marks {
         history: m.history,
         lost: m.lost,
         anchor: number,
-        disorder: d != 1,
+        disorder: k != 1,
     })
 }
 
@@ -328,9 +328,9 @@ fn duplicate(s: Stream, network: u8) -> Stream
     c.arrivals0 = counted(network == 0, s.counts.arrivals0);
     c.arrivals1 = counted(network != 0, s.counts.arrivals1);
     c.discarded = counted(true, s.counts.discarded);
-    let mut t = s;
-    t.counts = c;
-    t
+    let mut kept = s;
+    kept.counts = c;
+    kept
 }
 
 fn rogue(s: Stream, network: u8) -> Stream
@@ -340,9 +340,9 @@ fn rogue(s: Stream, network: u8) -> Stream
     c.arrivals0 = counted(network == 0, s.counts.arrivals0);
     c.arrivals1 = counted(network != 0, s.counts.arrivals1);
     c.rogue = counted(true, s.counts.rogue);
-    let mut t = s;
-    t.counts = c;
-    t
+    let mut same = s;
+    same.counts = c;
+    same
 }
 
 // The second step of the decision: the record after what the first step found.

@@ -38,7 +38,7 @@ use denote.Exit.{yes}
 use lib.Seq.{set-out}
 use Rattle.record.specs.declared.Stream.{Stream}
 use Rattle.calls.specs.Table.{blank}
-use Rattle.receiver.proofs.Rows.{R, val, size, ty, mutTy, Ok, fits-at, typed, spells, tells, opens-at, closes-at, enters-mut, owns-mut}
+use Rattle.receiver.proofs.Rows.{R, val, ty, size, mutTy, Ok, fits-at, typed, spells, tells, opens-at, closes-at, owns-mut, enters-mut}
 use Rattle.receiver.proofs.store.Key.{name as #receiver·store}
 use Rattle.receiver.proofs.store as fn
 use Rattle.receiver.proofs.store.Statement as stated

@@ -10,7 +10,7 @@ advanced-requires c κs = search needs
 
 returns : tie.Need-returns
 unfolding weighedAs stateAfter losses outOfOrder
-returns c = rw (c .advanced .ensures .0, c .advanced .ensures .1)
+returns c = cc
 
 pub ahead-spec : {M : Type 1} → statement M
 ahead-spec = tie.close (tie.spec advanced-requires returns)

@@ -11,8 +11,7 @@ use mir.Val.{SFits, ofZ}
 use Rattle.stream.specs.Decisions.{difference, asInt, caseOf, matchCase, stateAfter, losses, outOfOrder}
 use Rattle.stream.specs.Steps.{weighedAs}
 use Rattle.stream.proofs.Flags.{is-yes, is-no}
-use Rattle.stream.proofs.Told.{forward}
-use Rattle.stream.proofs.Reading.{isℤ, bits-are}
+use Rattle.stream.proofs.Reading.{forward, isℤ, bits-are}
 use Rattle.stream.proofs.Sorts.{case-first, case-match, match-same, match-other}
 use borrow.Author.Needs.{needs}
 use Rattle.stream.proofs.by_match.Statement.{statement}

@@ -14,8 +14,7 @@ use Rattle.stream.specs.History.{bit}
 use Rattle.stream.specs.Decisions.{difference, asInt, caseOf, vectorCase, stateAfter, losses, outOfOrder}
 use Rattle.stream.specs.Steps.{weighedAs}
 use Rattle.stream.proofs.Flags.{is-yes, is-no}
-use Rattle.stream.proofs.Told.{forward}
-use Rattle.stream.proofs.Reading.{minus-fits, at-least, at-most, not-above}
+use Rattle.stream.proofs.Reading.{forward, minus-fits, at-least, at-most, not-above}
 use Rattle.stream.proofs.Sorts.{case-first, case-vector, weighed-behind, far-ahead, far-back, inside, positive, in-past, in-front}
 use borrow.Author.Needs.{needs}
 use Rattle.stream.proofs.by_vector.Statement.{statement}
