@@ -8,3 +8,8 @@ pub mod Acts
 pub mod Arrivals
 pub mod Slots
 pub mod Visits
+pub mod Exactly
+pub mod Kept
+pub mod Sound
+pub mod Lowest
+pub mod Alike

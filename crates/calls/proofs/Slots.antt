@@ -30,6 +30,7 @@ use Rattle.calls.specs.declared.Opened.{Opened}
 use Rattle.calls.specs.declared.Opened.the-variants as opened
 use Rattle.calls.specs.declared.Done.{Done}
 use Rattle.calls.specs.declared.Done.the-variants as done
+use Rattle.calls.specs.declared.Swept.{Swept}
 use Rattle.calls.specs.declared.Swept.the-variants as swept
 use Rattle.calls.specs.declared.Sums.{Sums}
 use Rattle.calls.specs.declared.Placing.{Placing}
@@ -119,17 +120,20 @@ module _ (t : Table) (slot : ℕ) where
 
 -- ---- tick
 
-pub tick-refused : (t : Table) → slotsMost < length t → Meets t ticking (record { said = saidSwept (swept.Refused TABLE); table = t; output = [] })
+pub tick-refused : (t : Table) (r : Swept) → slotsMost < length t → r ≡ swept.Refused TABLE
+    → Meets t ticking (record { said = saidSwept r; table = t; output = [] })
 unfolding act after answer output
-tick-refused t m = by-act t ticking (refuse TABLE) (simp (lt-ltb _ _ m)) refl refl refl
+tick-refused t r m w = by-act t ticking (refuse TABLE) (simp (lt-ltb _ _ m)) (ap saidSwept w) refl refl
 
-pub tick-meets : (t : Table) {a b : ℕ} {u : Table} → length t ≤ slotsMost → a ≡ count expires t → b ≡ count damaged t → u ≡ map ticked t
-    → Meets t ticking (record { said = saidSwept (swept.Counted a b); table = u; output = [] })
+pub tick-meets : (t : Table) (r : Swept) {a b : ℕ} {u : Table}
+    → length t ≤ slotsMost → a ≡ count expires t → b ≡ count damaged t → u ≡ map ticked t → r ≡ swept.Counted a b
+    → Meets t ticking (record { said = saidSwept r; table = u; output = [] })
 unfolding act checked after answer output
-tick-meets t m a b e = by-act t ticking ticks (simp (le-ltb _ _ m)) (rw (a, b)) e refl
+tick-meets t r m a b e w = by-act t ticking ticks (simp (le-ltb _ _ m)) (ap saidSwept w ∙ rw (a, b)) e refl
 
 -- the same by the sums of a sweep
-pub sweep-meets : (t : Table) {c : Sums} {u : Table} → length t ≤ slotsMost → c ≡ sums t → u ≡ tickedAll t
-    → Meets t ticking (record { said = saidSwept (swept.Counted (c .resets) (c .damaged)); table = u; output = [] })
+pub sweep-meets : (t : Table) (r : Swept) {c : Sums} {u : Table}
+    → length t ≤ slotsMost → c ≡ sums t → u ≡ tickedAll t → r ≡ swept.Counted (c .resets) (c .damaged)
+    → Meets t ticking (record { said = saidSwept r; table = u; output = [] })
 unfolding sums tickedAll
-sweep-meets t m e w = tick-meets t m (ap (λ (c : Sums). c .resets) e) (ap (λ (c : Sums). c .damaged) e) w
+sweep-meets t r m e v w = tick-meets t r m (ap (λ (c : Sums). c .resets) e) (ap (λ (c : Sums). c .damaged) e) v w

@@ -1,10 +1,10 @@
--- `calls::close` meets its contract: at each return a law says which refusal it is. Assumes nothing.
+-- `calls::slot::close` meets its contract: at each return a law says which refusal it is. Assumes nothing.
 use mathlib.Core.Path.{_∙_}
 use borrow.Author.Tests.{not-true, not-false}
 use Rattle.calls.proofs.Steps.{close-many, close-none, close-done}
 use borrow.Author.Needs.{needs}
-use Rattle.calls.proofs.close.Statement.{statement}
-use Rattle.calls.proofs.close.Tie as tie
+use Rattle.calls.proofs.slot.close.Statement.{statement}
+use Rattle.calls.proofs.slot.close.Tie as tie
 
 unchanged-requires : tie.Need-unchanged-requires
 unchanged-requires c κs = search needs

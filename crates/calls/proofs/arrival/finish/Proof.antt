@@ -1,8 +1,8 @@
--- `calls::finish` meets its contract. Assumes nothing.
+-- `calls::arrival::finish` meets its contract. Assumes nothing.
 use mathlib.Core.Path.{refl}
 use borrow.Author.Needs.{needs}
-use Rattle.calls.proofs.finish.Statement.{statement}
-use Rattle.calls.proofs.finish.Tie as tie
+use Rattle.calls.proofs.arrival.finish.Statement.{statement}
+use Rattle.calls.proofs.arrival.finish.Tie as tie
 
 enum-known-j : tie.Need-enum-known-j
 enum-known-j c = search needs

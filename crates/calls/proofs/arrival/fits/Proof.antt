@@ -1,7 +1,7 @@
--- `calls::fits` meets its contract. Assumes nothing.
+-- `calls::arrival::fits` meets its contract. Assumes nothing.
 use borrow.Author.Needs.{needs}
-use Rattle.calls.proofs.fits.Statement.{statement}
-use Rattle.calls.proofs.fits.Tie as tie
+use Rattle.calls.proofs.arrival.fits.Statement.{statement}
+use Rattle.calls.proofs.arrival.fits.Tie as tie
 
 bare-length-requires : tie.Need-bare-length-requires
 bare-length-requires c κs = search needs

@@ -1,10 +1,10 @@
--- `calls::reset` meets its contract: at each return a law says which refusal it is. Assumes nothing.
+-- `calls::slot::reset` meets its contract: at each return a law says which refusal it is. Assumes nothing.
 use mathlib.Core.Path.{sym, _∙_}
 use borrow.Author.Tests.{not-true, not-false}
 use Rattle.calls.proofs.Steps.{reset-many, reset-none, reset-unsettled, reset-done}
 use borrow.Author.Needs.{needs}
-use Rattle.calls.proofs.reset.Statement.{statement}
-use Rattle.calls.proofs.reset.Tie as tie
+use Rattle.calls.proofs.slot.reset.Statement.{statement}
+use Rattle.calls.proofs.slot.reset.Tie as tie
 
 unchanged-requires : tie.Need-unchanged-requires
 unchanged-requires c κs = search needs

@@ -1,8 +1,8 @@
--- `calls::ask` meets its contract: at each return a law says which refusal it is. Assumes nothing.
+-- `calls::arrival::ask` meets its contract: at each return a law says which refusal it is. Assumes nothing.
 use Rattle.calls.proofs.Steps.{ask-many, ask-network, ask-refused, ask-tagged}
 use borrow.Author.Needs.{needs}
-use Rattle.calls.proofs.ask.Statement.{statement}
-use Rattle.calls.proofs.ask.Tie as tie
+use Rattle.calls.proofs.arrival.ask.Statement.{statement}
+use Rattle.calls.proofs.arrival.ask.Tie as tie
 
 returns : tie.Need-returns
 returns c = ask-many _ _ _ (c .if1 .taken)

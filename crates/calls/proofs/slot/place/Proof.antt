@@ -1,12 +1,12 @@
--- `calls::place` meets its contract: at each return a law says which refusal it is. Assumes nothing.
+-- `calls::slot::place` meets its contract: at each return a law says which refusal it is. Assumes nothing.
 use mathlib.Core.Path.{_≡_, sym, ap, _∙_}
 use mathlib.Core.Bool.{Bool}
 use borrow.Author.Tests.{not-true, not-false}
 use Rattle.stream.specs.Record.{settled, opened}
 use Rattle.calls.proofs.Steps.{place-many, place-setting, place-taken, place-at, place-full}
 use borrow.Author.Needs.{needs}
-use Rattle.calls.proofs.place.Statement.{statement}
-use Rattle.calls.proofs.place.Tie as tie
+use Rattle.calls.proofs.slot.place.Statement.{statement}
+use Rattle.calls.proofs.slot.place.Tie as tie
 
 -- what the test of the settings says of the record that would be stored
 known : (c : tie.After-settled) {b : Bool} → c .settled .result ≡ b

@@ -1,7 +1,7 @@
--- `calls::in_use` meets its contract. Assumes nothing.
+-- `calls::slot::in_use` meets its contract. Assumes nothing.
 use Rattle.calls.proofs.Steps.{free-slot, used-slot}
-use Rattle.calls.proofs.in_use.Statement.{statement}
-use Rattle.calls.proofs.in_use.Tie as tie
+use Rattle.calls.proofs.slot.in_use.Statement.{statement}
+use Rattle.calls.proofs.slot.in_use.Tie as tie
 
 returns : tie.Need-returns
 returns c = let a = c .before .before .args in free-slot (a .slots) (a .slot) (a .s) (c .if1 .taken)

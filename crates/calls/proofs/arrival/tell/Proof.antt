@@ -1,8 +1,8 @@
--- `calls::tell` meets its contract. Assumes nothing.
+-- `calls::arrival::tell` meets its contract. Assumes nothing.
 use mathlib.Core.Path.{refl}
 use borrow.Author.Needs.{needs}
-use Rattle.calls.proofs.tell.Statement.{statement}
-use Rattle.calls.proofs.tell.Tie as tie
+use Rattle.calls.proofs.arrival.tell.Statement.{statement}
+use Rattle.calls.proofs.arrival.tell.Tie as tie
 
 enum-told : tie.Need-enum-told
 enum-told c = search needs

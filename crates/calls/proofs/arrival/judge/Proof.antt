@@ -1,4 +1,4 @@
--- `calls::judge` meets its contract. Assumes nothing.
+-- `calls::arrival::judge` meets its contract. Assumes nothing.
 use Prim.Native.Nat.{ℕ}
 use mathlib.Core.Path.{_≡_, refl, sym, _∙_}
 use mathlib.Core.Bool.{Bool, true, false}
@@ -15,8 +15,8 @@ use Rattle.stream.specs.declared.Weighed.{Weighed}
 use Rattle.stream.specs.declared.Weighed.the-variants.{Damaged}
 use Rattle.calls.proofs.Steps.{no-verdict, judge-damaged, judge-small, judge-weighed}
 use borrow.Author.Needs.{needs}
-use Rattle.calls.proofs.judge.Statement.{statement}
-use Rattle.calls.proofs.judge.Tie as tie
+use Rattle.calls.proofs.arrival.judge.Statement.{statement}
+use Rattle.calls.proofs.arrival.judge.Tie as tie
 
 -- one of the three verdicts is no damage
 verdict : (w : Weighed) → w ≡ Damaged → OneOf (1 ∷ 2 ∷ 3 ∷ []) (tagOf the.the-type w) → ⊥

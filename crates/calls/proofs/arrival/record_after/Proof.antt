@@ -1,7 +1,7 @@
--- `calls::record_after` meets its contract. Assumes nothing.
+-- `calls::arrival::record_after` meets its contract. Assumes nothing.
 use borrow.Author.Needs.{needs}
-use Rattle.calls.proofs.record_after.Statement.{statement}
-use Rattle.calls.proofs.record_after.Tie as tie
+use Rattle.calls.proofs.arrival.record_after.Statement.{statement}
+use Rattle.calls.proofs.arrival.record_after.Tie as tie
 
 enum-told : tie.Need-enum-told
 enum-told c = search needs
