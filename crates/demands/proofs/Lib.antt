@@ -1,4 +1,8 @@
+pub mod Computing
+pub mod Runs
+pub mod Wrong
 pub mod Alike
+pub mod One
 pub mod Moves
 pub mod Slot
 pub mod Gap
@@ -11,6 +15,3 @@ pub mod Told
 pub mod Once
 pub mod Sums
 pub mod After
-pub mod Computing
-pub mod Runs
-pub mod Wrong

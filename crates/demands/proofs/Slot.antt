@@ -1,14 +1,12 @@
 -- A call moves each record of the table as its slot sees it, and leaves every other as it is. Assumes nothing.
-use Prim.Native.Nat.{ℕ, zero, suc, _-_, _<_}
+use Prim.Native.Nat.{ℕ, _-_, _<_}
 use mathlib.Core.Path.{_≡_, refl, ap, sym, _∙_}
 use mathlib.Core.Bool.{Bool, true, false, not, false≢true}
-use mathlib.Core.List.{List, [], _∷_, map}
-use native.Mathlib.Nat.{le-of-suc-le-suc}
-use native.Mathlib.Omega.{arith}
+use mathlib.Core.List.{List, [], _∷_}
 use lib.Dec.{eqb, leb, ltb}
-use lib.ListN.{length, getD, set, length-set, length-map, List·getD-map}
+use lib.ListN.{length, set}
 use lib.Seq.{getD-set-same, getD-set-other}
-use borrow.Author.Tests.{eqb-true, eqb-false, ltb-true, not-false}
+use borrow.Author.Tests.{eqb-true, eqb-false, not-false}
 use Rattle.refusal.specs.Checks.{Said}
 use Rattle.refusal.specs.Checks.Said.{refused, answers}
 use Rattle.refusal.specs.Numbers.{TABLE, NETWORK, UNKNOWN, DAMAGED, ROOM, SETTING, TAKEN, FULL, SLOT}
@@ -17,10 +15,13 @@ use Rattle.record.specs.Words.{if_then_else_, yes}
 use Rattle.record.specs.Sizes.{slotsMost}
 use Rattle.frame.specs.Frame.{Tag, destOf, readOf, untagged}
 use Rattle.stream.specs.Record.{settled, lawful, opened}
-use Rattle.stream.specs.Decisions.{Verdict, up, duplicate, rogue, verdict, decided, reset, expires, ticked}
+use Rattle.stream.specs.Decisions.{Verdict, up, duplicate, rogue, verdict, decided}
 use Rattle.stream.proofs.Logic.{not-iff}
-use Rattle.calls.specs.Table.{Table, blank, at, search, someSlot, hasKey, isFree}
+use Rattle.calls.specs.Table.{Table, at, search, someSlot, hasKey, isFree}
 use Rattle.calls.specs.Calls.{Call, arriving, opening, closing, resetting, ticking, Act, refuse, arrive, opens, closes, resets, ticks, arrivalAt, arrival, inUse, open-call, checked, act, after, answer, output, outOf, Result, verdictWith}
+use Rattle.calls.proofs.Kept.{length-kept}
+use Rattle.calls.proofs.Lowest.{lowest-found}
+use Rattle.calls.proofs.Sound.{at-ticked}
 use Rattle.demands.specs.Receiver.{theReceiver, run}
 use Rattle.demands.specs.Seen.{Seen, arrived, tick, ended, nothing, told, wasReset, answered, seenOf, seen, log}
 use Rattle.demands.proofs.Moves.{Moves, Trace}
@@ -30,21 +31,6 @@ at-set t i u b = getD-set-same t i u _ b
 
 pub at-other : (t : Table) (i j : ℕ) (u : Stream) → eqb j i ≡ false → at (set t j u) i ≡ at t i
 at-other t i j u e = getD-set-other t j i u _ (λ q. eqb-false j i e (sym q))
-
-at-ticked : (t : Table) (i : ℕ) → at (map ticked t) i ≡ ticked (at t i)
-unfolding ticked expires lawful yes
-at-ticked t i = List·getD-map ticked t i blank
-
--- What the search finds passes the test.
-found : (p : Stream → Bool) (t : Table) → search p t < length t → p (at t (search p t)) ≡ true
-unfolding search
-found p [] b = absurd (omega arith)
-found p (s ∷ t) b = go (p s) refl b (found p t)
-  where
-    go : (v : Bool) → p s ≡ v → search p (s ∷ t) < length (s ∷ t) → (search p t < length t → p (at t (search p t)) ≡ true)
-        → p (at (s ∷ t) (search p (s ∷ t))) ≡ true
-    go true e c f = rw e e
-    go false e c f = rw e (f (le-of-suc-le-suc (rw e at c)))
 
 -- What the call c leaves of a table t where it comes to a.
 abbrev pub resultOf : Table → Call → Act → Result
@@ -122,12 +108,12 @@ module _ (i : ℕ) (t : Table) (within : i < length t) where
       arrives network f out j (g .number) network (untagged f))))
 
   open-sound : (dest : List ℕ) (vlan rule window time : ℕ) (s : Stream) → Sound (opening dest vlan rule window time) (open-call t s)
-  unfolding open-call someSlot
+  unfolding open-call
   open-sound dest vlan rule window time s =
       branch (not (settled s)) (λ e. refuses SETTING) (λ e.
       branch (someSlot (hasKey (s .dest) (s .vlan)) t) (λ e. refuses TAKEN) (λ e.
       branch (not (someSlot isFree t)) (λ e. refuses FULL) (λ e.
-      fills dest vlan rule window time (search isFree t) s (found isFree t (ltb-true _ _ (not-false (someSlot isFree t) e))))))
+      fills dest vlan rule window time (search isFree t) s (lowest-found isFree t (not-false (someSlot isFree t) e) .1))))
 
   checked-sound : (c : Call) → Sound c (checked t c)
   unfolding checked
@@ -145,15 +131,6 @@ module _ (i : ℕ) (t : Table) (within : i < length t) where
   unfolding act
   act-sound c = branch (ltb slotsMost (length t)) (λ e. refuses TABLE) (λ e. checked-sound c)
 
-pub after-length : (t : Table) (a : Act) → length (after t a) ≡ length t
-unfolding after
-after-length t (refuse r) = refl
-after-length t (arrive i number network bare) = length-set t i _
-after-length t (opens i s) = length-set t i s
-after-length t (closes i) = length-set t i _
-after-length t (resets i) = length-set t i _
-after-length t ticks = length-map t ticked
-
 -- THE LIFT: what slot i sees of a run traces its record.
 pub traced : (t : Table) (i : ℕ) (cs : List Call) → i < length t
     → Trace (at t i) (log theReceiver i t cs) (at (run theReceiver t cs) i)
@@ -162,10 +139,10 @@ traced t i [] b = refl
 traced t i (c ∷ cs) b = (
   at (after t (act t c)) i,
   act-sound i t b c .moves,
-  traced (after t (act t c)) i cs (rw (after-length t (act t c)) b),
+  traced (after t (act t c)) i cs (rw (length-kept t c) b),
 )
 
 pub run-length : (t : Table) (cs : List Call) → length (run theReceiver t cs) ≡ length t
 unfolding run theReceiver
 run-length t [] = refl
-run-length t (c ∷ cs) = run-length (after t (act t c)) cs ∙ after-length t (act t c)
+run-length t (c ∷ cs) = run-length (after t (act t c)) cs ∙ length-kept t c
