@@ -15,3 +15,4 @@ pub mod Told
 pub mod Once
 pub mod Sums
 pub mod After
+pub mod Theorems

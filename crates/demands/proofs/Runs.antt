@@ -18,32 +18,33 @@ wrap-meets = record {
     near = refl;
   };
   seen = refl;
-  verdicts = refl;
+  given = refl;
+  wanted = refl;
 }
 
 ahead-2 : OneFurther 2 100 65635
 unfolding computing
-ahead-2 = record { vector = refl; silent = record { lawful = refl; long = lit≤ tt; calm = refl }; lasts = refl; numbered = refl; further = refl; given = refl; wanted = refl }
+ahead-2 = record { vector = refl; silent = record { lawful = refl; long = lit≤ tt; calm = refl }; lasts = refl; numbered = refl; further = refl; broken = refl; given = refl; wanted = refl }
 
 behind-2 : OneFurther 2 65635 100
 unfolding computing
-behind-2 = record { vector = refl; silent = record { lawful = refl; long = lit≤ tt; calm = refl }; lasts = refl; numbered = refl; further = refl; given = refl; wanted = refl }
+behind-2 = record { vector = refl; silent = record { lawful = refl; long = lit≤ tt; calm = refl }; lasts = refl; numbered = refl; further = refl; broken = refl; given = refl; wanted = refl }
 
 ahead-4 : OneFurther 4 100 65633
 unfolding computing
-ahead-4 = record { vector = refl; silent = record { lawful = refl; long = lit≤ tt; calm = refl }; lasts = refl; numbered = refl; further = refl; given = refl; wanted = refl }
+ahead-4 = record { vector = refl; silent = record { lawful = refl; long = lit≤ tt; calm = refl }; lasts = refl; numbered = refl; further = refl; broken = refl; given = refl; wanted = refl }
 
 behind-4 : OneFurther 4 65633 100
 unfolding computing
-behind-4 = record { vector = refl; silent = record { lawful = refl; long = lit≤ tt; calm = refl }; lasts = refl; numbered = refl; further = refl; given = refl; wanted = refl }
+behind-4 = record { vector = refl; silent = record { lawful = refl; long = lit≤ tt; calm = refl }; lasts = refl; numbered = refl; further = refl; broken = refl; given = refl; wanted = refl }
 
 ahead-64 : OneFurther 64 100 65573
 unfolding computing
-ahead-64 = record { vector = refl; silent = record { lawful = refl; long = lit≤ tt; calm = refl }; lasts = refl; numbered = refl; further = refl; given = refl; wanted = refl }
+ahead-64 = record { vector = refl; silent = record { lawful = refl; long = lit≤ tt; calm = refl }; lasts = refl; numbered = refl; further = refl; broken = refl; given = refl; wanted = refl }
 
 behind-64 : OneFurther 64 65573 100
 unfolding computing
-behind-64 = record { vector = refl; silent = record { lawful = refl; long = lit≤ tt; calm = refl }; lasts = refl; numbered = refl; further = refl; given = refl; wanted = refl }
+behind-64 = record { vector = refl; silent = record { lawful = refl; long = lit≤ tt; calm = refl }; lasts = refl; numbered = refl; further = refl; broken = refl; given = refl; wanted = refl }
 
 pub bound-sharp : BoundSharp
 bound-sharp = (ahead-2, behind-2, ahead-4, behind-4, ahead-64, behind-64)

@@ -96,8 +96,9 @@ pub record WrapMeets : Type 0 where
   pub premises : Premises theReceiver start 0 gap later indices
   pub seen : log theReceiver 0 start gap
       ≡ tick false ∷ arrived 5000 rogue ∷ arrived 9 duplicate ∷ nothing ∷ tick true ∷ nothing ∷ nothing ∷ nothing ∷ tick false ∷ []
-  pub verdicts : verdicts (seenAfter start gap later)
+  pub given : verdicts (seenAfter start gap later)
       ≡ up ∷ up ∷ duplicate ∷ up ∷ up ∷ rogue ∷ rogue ∷ duplicate ∷ up ∷ []
+  pub wanted : unlimited 4 [] indices ≡ up ∷ up ∷ duplicate ∷ up ∷ up ∷ rogue ∷ rogue ∷ duplicate ∷ up ∷ []
 
 -- ---- each premise is needed
 
@@ -119,6 +120,7 @@ pub record OneFurther (window first second : ℕ) : Type 0 where
   pub lasts : every lasting (seenAfter (alone window 3 3) (silence 3) (two first second)) ≡ true
   pub numbered : numbers (seenAfter (alone window 3 3) (silence 3) (two first second)) ≡ map numberOf (first ∷ second ∷ [])
   pub further : apart second first ≡ suc (65536 - window)
+  pub broken : allNear window [] (first ∷ second ∷ []) ≡ false
   pub given : verdicts (seenAfter (alone window 3 3) (silence 3) (two first second)) ≡ up ∷ up ∷ []
   pub wanted : unlimited window [] (first ∷ second ∷ []) ≡ up ∷ rogue ∷ []
 

@@ -7,3 +7,4 @@ pub mod Unlimited
 pub mod Demand3
 pub mod Corollaries
 pub mod Examples
+pub mod Theorems

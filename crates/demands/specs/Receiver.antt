@@ -33,6 +33,24 @@ unfoldable pub Throughout : Receiver → (Table → Call → Type 0) → Table �
 Throughout receive P t [] = Unit {0}
 Throughout receive P t (c ∷ cs) = P t c × Throughout receive P (receive t c .table) cs
 
+-- The results of a run, one for each call,
+unfoldable pub results : Receiver → Table → List Call → List Result
+results receive t [] = []
+results receive t (c ∷ cs) = receive t c ∷ results receive (receive t c .table) cs
+
+-- and results of which each meets the contract of its call on the table that the call before it left: this is what the
+-- public calls ensure to a program that makes these calls.
+unfoldable pub Ensured : Table → List Call → List Result → Type 0
+Ensured t [] [] = Unit {0}
+Ensured t [] (r ∷ rs) = ⊥
+Ensured t (c ∷ cs) [] = ⊥
+Ensured t (c ∷ cs) (r ∷ rs) = Meets t c r × Ensured (r .table) cs rs
+
+-- There are no others than those of the definitions' receiver. So what is shown of it, and of every receiver that meets
+-- the contract, holds of the runs of every such program.
+abbrev pub RunsCoincide : Type 0
+RunsCoincide = (t : Table) (calls : List Call) (rs : List Result) → Ensured t calls rs → rs ≡ results theReceiver t calls
+
 -- The two calls that have no table: take a tag out, and write one.
 pub record Tagger : Type 0 where
   pub take : (frame out : List ℕ) → Outcome Bare

@@ -1,6 +1,7 @@
 -- Document 01, "Calls and the order of checks": what the stream in one slot sees of the calls of a run, read from the
 -- calls and their answers. Assumes nothing.
 use Prim.Native.Nat.{ℕ, suc}
+use mathlib.Core.Path.{_≡_}
 use mathlib.Core.Bool.{Bool, true, false, _&&_, not}
 use mathlib.Core.List.{List, [], _∷_}
 use lib.Dec.{eqb}
@@ -8,7 +9,7 @@ use Rattle.refusal.specs.Checks.{Said}
 use Rattle.refusal.specs.Checks.Said.{refused, answers}
 use Rattle.record.specs.declared.Stream.{Stream}
 use Rattle.record.specs.Words.{if_then_else_, yes}
-use Rattle.stream.specs.Decisions.{Verdict, up, duplicate, rogue, isUp}
+use Rattle.stream.specs.Decisions.{Verdict, up, duplicate, rogue, isUp, expires}
 use Rattle.calls.specs.Table.{Table, at}
 use Rattle.calls.specs.Calls.{Call, arriving, opening, closing, resetting, ticking, Answer, placed, done, swept, Result}
 use Rattle.calls.specs.Calls as calls
@@ -35,8 +36,8 @@ heard i done = nothing
 heard i (swept streams records) = nothing
 
 -- A tick reset a stream if take-any holds after it and did not hold before: no answer names the streams that a tick
--- reset, so this alone is read from the record, before and after. (For a receiver that meets the contract it is the
--- same as document 01's `expires` of the record before; see `ResetsSeen`.)
+-- reset, so this alone is read from the record, before and after. (`ResetsSeen`, below: where the contract is met it is
+-- what document 01 says of the record before the tick.)
 abbrev pub wasReset : (before after : Stream) → Bool
 wasReset before after = not (yes (before .state .any)) && yes (after .state .any)
 
@@ -100,3 +101,9 @@ lasting nothing = true
 unfoldable pub every : (Seen → Bool) → List Seen → Bool
 every p [] = true
 every p (e ∷ es) = p e && every p es
+
+-- The streams that are seen to be reset by a tick are those that document 01 resets: a lawful record with one tick left.
+abbrev pub ResetsSeen : Receiver → Type 0
+ResetsSeen receive =
+    (t : Table) (i streams records : ℕ) → receive t ticking .said ≡ answers (swept streams records)
+    → wasReset (at t i) (at (receive t ticking .table) i) ≡ expires (at t i)
