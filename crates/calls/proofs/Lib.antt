@@ -2,4 +2,14 @@ pub mod Bools
 pub mod Keys
 pub mod Looks
 pub mod Search
+pub mod Places
+pub mod Steps
+pub mod Acts
+pub mod Arrivals
+pub mod Slots
 pub mod Visits
+pub mod Exactly
+pub mod Kept
+pub mod Sound
+pub mod Lowest
+pub mod Alike

@@ -1,12 +1,90 @@
-// The by-value part of each call on a table: what it answers, what it stores, what it writes.
+// The by-value part of each call on a table: what it answers, what it stores, what it writes (document 01, "Calls and the
+// order of checks"). The walks over the table are in the crate `receiver`.
+mod arrival;
+mod slot;
+
+pub use arrival::ask;
+pub use arrival::finish;
+pub use arrival::fits;
+pub use arrival::judge;
+pub use arrival::record_after;
+pub use arrival::refused;
+pub use arrival::unknown;
+use frame::Header;
 use record::Counts;
 use record::State;
 use record::Stream;
+pub use slot::close;
+pub use slot::place;
+pub use slot::reset;
+use stream::Weighed;
 ghost use mathlib.Core.Path.{_≡_};
 ghost use mathlib.Core.Bool.{_||_};
 ghost use Rattle.stream.specs.Decisions.{counted};
 ghost use Rattle.calls.specs.Ticks.{noSums, visited};
 ghost use Rattle.calls.specs.Table.{blank, hasKey, isFree, unseen, looked, orElse, foundHere};
+
+// What an arrival was found to be.
+pub enum Verdict {
+    // With the length of the frame that was written.
+    HandedUp(usize),
+    Duplicate,
+    Rogue,
+}
+
+// The answer of an arrival: a refusal's number, or its stream's slot, its number and its verdict.
+pub enum Answer {
+    Refused(u8),
+    Arrival {
+        slot: usize,
+        number: u16,
+        verdict: Verdict,
+    },
+}
+
+// The answer of an open: the slot.
+pub enum Opened {
+    Refused(u8),
+    At(usize),
+}
+
+// The answer of a close and of a reset.
+pub enum Done {
+    Refused(u8),
+    Ok,
+}
+
+// The answer of a tick: how many streams it reset, and how many records in use are damaged.
+pub enum Swept {
+    Refused(u8),
+    Counted(u64, u64),
+}
+
+// What an arrival asks of the table, by its frame's header and number; or 1 to 5.
+pub enum Asked {
+    Refused(u8),
+    For(Header, u16),
+}
+
+// What an arrival is to its record; or 7 and 8.
+pub enum Judged {
+    Refused(u8),
+    Weighed(Weighed),
+}
+
+// The answer of an open, and what it stores. Where it is refused the slot lies beyond the table, so nothing is stored.
+pub struct Placing {
+    pub answer: Opened,
+    pub slot: usize,
+    pub stream: Stream,
+}
+
+// The answer of a close or a reset, and what it stores, in the same way.
+pub struct Change {
+    pub answer: Done,
+    pub slot: usize,
+    pub stream: Stream,
+}
 
 // Is this a slot in use that has the key? The destination is compared first: it differs most often.
 pub fn has_key(s: Stream, dest: u64, vlan: u16) -> bool

@@ -2,15 +2,15 @@
 use Prim.Native.Nat.{ℕ}
 
 -- slots in a table
-abbrev pub slots : ℕ
-slots = 64
+abbrev pub slotsMost : ℕ
+slotsMost = 64
 
 -- bytes in a frame, and before the tag is put in
-abbrev pub frame : ℕ
-frame = 2000
+abbrev pub frameMost : ℕ
+frameMost = 2000
 
-abbrev pub frameUntagged : ℕ
-frameUntagged = 1994
+abbrev pub untaggedMost : ℕ
+untaggedMost = 1994
 
 -- window L
 abbrev pub windowLeast : ℕ

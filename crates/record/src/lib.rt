@@ -47,13 +47,13 @@ pub struct Stream {
 // The sizes. specs/Sizes.antt has the same names for the contracts.
 impl Stream {
     // Slots in a table.
-    pub const SLOTS: usize = 64;
+    pub const SLOTS_MOST: usize = 64;
 
     // Bytes in a frame.
-    pub const FRAME: usize = 2000;
+    pub const FRAME_MOST: usize = 2000;
 
     // Bytes in a frame before the tag is put in.
-    pub const FRAME_UNTAGGED: usize = 1994;
+    pub const UNTAGGED_MOST: usize = 1994;
 
     pub const WINDOW_LEAST: u16 = 2;
 

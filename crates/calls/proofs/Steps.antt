@@ -1,0 +1,150 @@
+-- What the steps of a call come to, by the tests that the code makes. Assumes nothing.
+use Prim.Native.Nat.{ℕ, _≤_, _<_}
+use mathlib.Core.Path.{_≡_, refl, sym, ap, _∙_}
+use mathlib.Core.Bool.{Bool, true, false, not, _&&_, and-true, and-false}
+use mathlib.Core.List.{List}
+use mathlib.Core.Option.{Option, none, some}
+use native.Mathlib.Omega.{arith}
+use lib.Dec.{ltb}
+use lib.ListN.{length}
+use borrow.Author.Tests.{lt-ltb, le-ltb, eq-eqb, ne-eqb}
+use Rattle.refusal.specs.Checks.Said.{refused, answers}
+use Rattle.refusal.specs.Numbers.{TABLE, NETWORK, DAMAGED, ROOM, SETTING, TAKEN, FULL, SLOT}
+use Rattle.record.specs.declared.Stream.{Stream}
+use Rattle.record.specs.Words.{yes}
+use Rattle.record.specs.Sizes.{slotsMost}
+use Rattle.frame.specs.TagCalls.{saidRead, refusalOf}
+use Rattle.frame.specs.Frame.{readOf}
+use Rattle.frame.specs.declared.Header.{Header}
+use Rattle.frame.specs.declared.Read.{Read}
+use Rattle.frame.specs.declared.Read.the-variants as read
+use Rattle.stream.specs.Record.{settled, lawful, closed}
+use Rattle.stream.specs.Decisions as decisions
+use Rattle.stream.specs.declared.Weighed.{Weighed}
+use Rattle.stream.specs.declared.Weighed.the-variants.{Damaged}
+use Rattle.stream.specs.Steps.{weighed, verdictIn}
+use Rattle.stream.proofs.Steps.{steps-tell-verdict}
+use Rattle.calls.specs.declared.Found.{Found}
+use Rattle.calls.specs.declared.Found.the-variants.{At, Nothing}
+use Rattle.calls.specs.declared.Survey.{Survey}
+use Rattle.calls.specs.declared.Judged.the-variants as judges
+use Rattle.calls.specs.declared.Opened.the-variants as opened
+use Rattle.calls.specs.declared.Done.the-variants as done
+use Rattle.calls.specs.declared.Placing.{Placing}
+use Rattle.calls.specs.declared.Change.{Change}
+use Rattle.calls.specs.Steps.{asked, judged, notPlaced, placingOf, unchanged, closeChange, resetChange}
+
+-- ---- ask
+
+module _ (slots network : ℕ) (f : List ℕ) where
+  pub ask-many : slotsMost < slots → refused TABLE ≡ asked slots network f
+  unfolding asked
+  ask-many m = simp (lt-ltb _ _ m)
+
+  pub ask-network : slots ≤ slotsMost → 1 < network → refused NETWORK ≡ asked slots network f
+  unfolding asked
+  ask-network m n = simp (le-ltb _ _ m, lt-ltb _ _ n)
+
+  module _ (few : slots ≤ slotsMost) (net : network ≤ 1) where
+    reads : asked slots network f ≡ readOf f
+    unfolding asked
+    reads = simp (le-ltb _ _ few, le-ltb _ _ net)
+
+    pub ask-refused : {r : Read} {n m : ℕ} → saidRead r ≡ readOf f → r ≡ read.Refused m → n ≡ refusalOf r → refused n ≡ asked slots network f
+    ask-refused p q e = rw (e ∙ ap refusalOf q) (ap saidRead (sym q) ∙ p ∙ sym reads)
+
+    pub ask-tagged : {r : Read} {h : Header} {number : ℕ} → saidRead r ≡ readOf f → r ≡ read.Tagged h number
+        → answers (record { header = h; number = number }) ≡ asked slots network f
+    ask-tagged p q = ap saidRead (sym q) ∙ p ∙ sym reads
+
+-- ---- judge
+
+-- A record that was weighed and has no verdict is not lawful,
+pub no-verdict : (s : Stream) (number : ℕ) → weighed s number ≡ Damaged → lawful s ≡ false
+no-verdict s n e = go (lawful s) refl
+  where
+    clash : {v : decisions.Verdict} → none ≡ some v → ⊥
+    clash x = let z : _≡_ {A = ℕ} 0 1 = cc in omega arith
+
+    go : (b : Bool) → lawful s ≡ b → lawful s ≡ false
+    go true l = absurd (clash (ap verdictIn (sym e) ∙ steps-tell-verdict s n l))
+    go false l = l
+
+module _ (s : Stream) (number : ℕ) (room : Bool) where
+  pub judge-damaged : lawful s ≡ false → judges.Refused DAMAGED ≡ judged s number room
+  unfolding judged
+  judge-damaged l = rw l
+
+  pub judge-small : lawful s ≡ true → room ≡ false → judges.Refused ROOM ≡ judged s number room
+  unfolding judged
+  judge-small l r = rw (l, r)
+
+  pub judge-weighed : {w : Weighed} → lawful s ≡ true → room ≡ true → w ≡ weighed s number → judges.Weighed w ≡ judged s number room
+  unfolding judged
+  judge-weighed l r e = rw (l, r, e)
+
+-- ---- place
+
+module _ (slots : ℕ) (v : Survey) (s : Stream) where
+  pub place-many : slotsMost < slots → notPlaced slots s TABLE ≡ placingOf slots v s
+  unfolding placingOf
+  place-many m = simp (lt-ltb _ _ m)
+
+  module _ (few : slots ≤ slotsMost) where
+    pub place-setting : settled s ≡ false → notPlaced slots s SETTING ≡ placingOf slots v s
+    unfolding placingOf
+    place-setting e = simp (le-ltb _ _ few, e)
+
+    module _ (ok : settled s ≡ true) where
+      pub place-taken : v .taken ≡ true → notPlaced slots s TAKEN ≡ placingOf slots v s
+      unfolding placingOf
+      place-taken e = simp (le-ltb _ _ few, ok, e)
+
+      module _ (new : v .taken ≡ false) where
+        pub place-at : {i : ℕ} → v .free ≡ At i → record { answer = opened.At i; slot = i; stream = s } ≡ placingOf slots v s
+        unfolding placingOf
+        place-at e = simp (le-ltb _ _ few, ok, new, e)
+
+        pub place-full : v .free ≡ Nothing → notPlaced slots s FULL ≡ placingOf slots v s
+        unfolding placingOf
+        place-full e = simp (le-ltb _ _ few, ok, new, e)
+
+-- ---- close and reset
+
+pub free-slot : (slots slot : ℕ) (s : Stream) → s .used ≡ 0 → false ≡ (ltb slot slots && yes (s .used))
+unfolding yes
+free-slot slots slot s e = rw (eq-eqb _ _ e) (sym (and-false (ltb slot slots)))
+
+pub used-slot : (slots slot : ℕ) (s : Stream) → (s .used ≡ 0 → ⊥) → ltb slot slots ≡ (ltb slot slots && yes (s .used))
+unfolding yes
+used-slot slots slot s e = rw (ne-eqb _ _ e) (sym (and-true (ltb slot slots)))
+
+module _ (slots slot : ℕ) (s : Stream) where
+  pub close-many : slotsMost < slots → unchanged slots s TABLE ≡ closeChange slots slot s
+  unfolding closeChange
+  close-many m = simp (lt-ltb _ _ m)
+
+  pub reset-many : slotsMost < slots → unchanged slots s TABLE ≡ resetChange slots slot s
+  unfolding resetChange
+  reset-many m = simp (lt-ltb _ _ m)
+
+  module _ (few : slots ≤ slotsMost) {u : Bool} (is : u ≡ (ltb slot slots && yes (s .used))) where
+    pub close-none : u ≡ false → unchanged slots s SLOT ≡ closeChange slots slot s
+    unfolding closeChange
+    close-none e = simp (le-ltb _ _ few, sym is ∙ e)
+
+    pub close-done : {r : Stream} → u ≡ true → r ≡ closed s → record { answer = done.Ok; slot = slot; stream = r } ≡ closeChange slots slot s
+    unfolding closeChange
+    close-done e p = rw p (simp (le-ltb _ _ few, sym is ∙ e))
+
+    pub reset-none : u ≡ false → unchanged slots s SLOT ≡ resetChange slots slot s
+    unfolding resetChange
+    reset-none e = simp (le-ltb _ _ few, sym is ∙ e)
+
+    pub reset-unsettled : u ≡ true → settled s ≡ false → unchanged slots s DAMAGED ≡ resetChange slots slot s
+    unfolding resetChange
+    reset-unsettled e o = simp (le-ltb _ _ few, sym is ∙ e, o)
+
+    pub reset-done : {r : Stream} → u ≡ true → settled s ≡ true → r ≡ decisions.reset s → record { answer = done.Ok; slot = slot; stream = r } ≡ resetChange slots slot s
+    unfolding resetChange
+    reset-done e o p = rw p (simp (le-ltb _ _ few, sym is ∙ e, o))

@@ -1,0 +1,125 @@
+-- Document 01, "Calls and the order of checks": the same calls in the steps that the code takes, each on values alone. The
+-- laws of `proofs/` put the steps together and show that they come to what `Calls` says. Assumes nothing.
+use Prim.Native.Nat.{ℕ, _-_}
+use mathlib.Core.Bool.{Bool, _&&_, not}
+use mathlib.Core.List.{List}
+use mathlib.Core.Option.{Option, none, some}
+use lib.Dec.{ltb, leb}
+use lib.ListN.{length}
+use Rattle.refusal.specs.Checks.{Said}
+use Rattle.refusal.specs.Checks.Said.{refused, answers}
+use Rattle.refusal.specs.Numbers.{TABLE, NETWORK, DAMAGED, ROOM, SETTING, TAKEN, FULL, SLOT}
+use Rattle.record.specs.declared.Stream.{Stream}
+use Rattle.record.specs.Words.{if_then_else_, yes}
+use Rattle.record.specs.Sizes.{slotsMost}
+use Rattle.frame.specs.Frame.{Tag, readOf}
+use Rattle.frame.specs.TagCalls.{writtenWithout}
+use Rattle.stream.specs.Record.{settled, lawful, closed}
+use Rattle.stream.specs.Decisions.{reset}
+use Rattle.stream.specs.Decisions as decisions
+use Rattle.stream.specs.Steps.{weighed, verdictIn, recordAfter}
+use Rattle.calls.specs.Calls.{Answer, arrived, verdictWith}
+use Rattle.calls.specs.declared.Found.{Found}
+use Rattle.calls.specs.declared.Found.the-variants as found
+use Rattle.calls.specs.declared.Survey.{Survey}
+use Rattle.calls.specs.declared.Asked.{Asked}
+use Rattle.calls.specs.declared.Asked.the-variants as asks
+use Rattle.calls.specs.declared.Answer as answer
+use Rattle.calls.specs.declared.Answer.the-variants as arrivals
+use Rattle.calls.specs.declared.Judged.{Judged}
+use Rattle.calls.specs.declared.Judged.the-variants as judges
+use Rattle.calls.specs.declared.Opened.the-variants as opened
+use Rattle.calls.specs.declared.Done.the-variants as done
+use Rattle.calls.specs.declared.Placing.{Placing}
+use Rattle.calls.specs.declared.Change.{Change}
+
+-- ---- an arrival
+
+-- 1 to 5, from the number of slots, the network and the frame.
+unfoldable pub asked : (slots network : ℕ) (frame : List ℕ) → Said Tag
+asked slots network f =
+    if ltb slotsMost slots then refused TABLE
+    else if ltb 1 network then refused NETWORK
+    else readOf f
+
+abbrev pub saidAsked : Asked → Said Tag
+saidAsked (asks.Refused n) = refused n
+saidAsked (asks.For h number) = answers (record { header = h; number = number })
+
+-- the answer where they refuse (a frame that is not refused has no number)
+abbrev pub refusedAs : Asked → answer.Answer
+refusedAs (asks.Refused n) = arrivals.Refused n
+refusedAs (asks.For h number) = arrivals.Refused 0
+
+-- The output holds length - 6 bytes.
+abbrev pub hasRoom : (frame out : List ℕ) → Bool
+hasRoom f out = leb (length f - 6) (length out)
+
+-- 7 and 8, then what the arrival is to its record. The room is known before anything is marked.
+unfoldable pub judged : Stream → (number : ℕ) → (room : Bool) → Judged
+judged s number room =
+    if not (lawful s) then judges.Refused DAMAGED
+    else if not room then judges.Refused ROOM
+    else judges.Weighed (weighed s number)
+
+-- The record after it; a refused arrival leaves it.
+abbrev pub recordOf : Stream → (network : ℕ) → Judged → Stream
+recordOf s network (judges.Refused n) = s
+recordOf s network (judges.Weighed w) = recordAfter s network w
+
+-- The answer, by the verdict. (There is one for every record that was judged and not refused; where there is none, as for
+-- a damaged record, the answer is 7.)
+abbrev pub answerFor : Option decisions.Verdict → (slot number length : ℕ) → Said Answer
+answerFor none slot number l = refused DAMAGED
+answerFor (some v) slot number l = answers (arrived slot number (verdictWith l v))
+
+abbrev pub finished : Judged → (slot number : ℕ) (frame : List ℕ) → Said Answer
+finished (judges.Refused n) slot number f = refused n
+finished (judges.Weighed w) slot number f = answerFor (verdictIn w) slot number (length f - 6)
+
+-- The output bytes: handed up writes the frame without the tag at its type field, and nothing else writes.
+abbrev pub bytesFor : Option decisions.Verdict → (place : ℕ) (frame out : List ℕ) → List ℕ
+bytesFor none o f out = out
+bytesFor (some decisions.up) o f out = writtenWithout f o out
+bytesFor (some decisions.duplicate) o f out = out
+bytesFor (some decisions.rogue) o f out = out
+
+abbrev pub bytesOf : Judged → (place : ℕ) (frame out : List ℕ) → List ℕ
+bytesOf (judges.Refused n) o f out = out
+bytesOf (judges.Weighed w) o f out = bytesFor (verdictIn w) o f out
+
+-- ---- open, close and reset: the answer, and what is stored in which slot
+
+-- A refused call stores nothing: its slot is the number of slots, which lies beyond the table.
+abbrev pub notPlaced : (slots : ℕ) → Stream → (number : ℕ) → Placing
+notPlaced slots s n = record { answer = opened.Refused n; slot = slots; stream = s }
+
+abbrev pub placedAt : (slots : ℕ) → Stream → (free : Found) → Placing
+placedAt slots s (found.At i) = record { answer = opened.At i; slot = i; stream = s }
+placedAt slots s found.Nothing = notPlaced slots s FULL
+
+-- Open: 1, 9, 10, 11, by a survey of the table; s is the record that it would store.
+unfoldable pub placingOf : (slots : ℕ) → Survey → Stream → Placing
+placingOf slots v s =
+    if ltb slotsMost slots then notPlaced slots s TABLE
+    else if not (settled s) then notPlaced slots s SETTING
+    else if v .taken then notPlaced slots s TAKEN
+    else placedAt slots s (v .free)
+
+abbrev pub unchanged : (slots : ℕ) → Stream → (number : ℕ) → Change
+unchanged slots s n = record { answer = done.Refused n; slot = slots; stream = s }
+
+-- Close: 1, 12; s is the record in the slot.
+unfoldable pub closeChange : (slots slot : ℕ) → Stream → Change
+closeChange slots i s =
+    if ltb slotsMost slots then unchanged slots s TABLE
+    else if not (ltb i slots && yes (s .used)) then unchanged slots s SLOT
+    else record { answer = done.Ok; slot = i; stream = closed s }
+
+-- Reset: 1, 12, 7.
+unfoldable pub resetChange : (slots slot : ℕ) → Stream → Change
+resetChange slots i s =
+    if ltb slotsMost slots then unchanged slots s TABLE
+    else if not (ltb i slots && yes (s .used)) then unchanged slots s SLOT
+    else if not (settled s) then unchanged slots s DAMAGED
+    else record { answer = done.Ok; slot = i; stream = reset s }

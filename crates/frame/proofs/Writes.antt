@@ -1,0 +1,191 @@
+-- What the two tag calls and their writers come to, by the tests that the code makes. Assumes nothing.
+use mathlib.Core.Path.{_≡_, refl, sym, ap, _∙_}
+use Prim.Native.Nat.{ℕ, _+_, _-_, _≤_, _<_}
+use native.Mathlib.Omega.{arith}
+use native.Mathlib.Decide.{decLt}
+use mathlib.Core.Bool.{Bool, true, false, cond, _&&_, _||_}
+use mathlib.Core.Logic.{_⊎_, inl, inr}
+use mathlib.Core.List.{List}
+use lib.ListN.{length, length-append, length-take, length-drop}
+use lib.Dec.{ltb, leb, eqb}
+use borrow.Author.Tests.{lt-ltb, le-ltb, le-leb, lt-leb, eq-eqb, ne-eqb, ltb-false}
+use Rattle.refusal.specs.Checks.{Said}
+use Rattle.refusal.specs.Checks.Said.{refused, answers}
+use Rattle.refusal.specs.Numbers.{LONG, SHORT, ROOM, TAGGED}
+use Rattle.refusal.proofs.Checks.{passed}
+use Rattle.record.specs.Sizes.{frameMost, untaggedMost}
+use Rattle.frame.specs.Bytes.{overlay}
+use Rattle.frame.specs.Frame.{Tag, typeAt, hasVlan, isTagged, headShort, headerOf, readOf, cutAt, tagAt, tagged, writeOf}
+use Rattle.frame.specs.TagCalls.{Outcome, Bare, takeTag, takeFrom, writeInto, writeTag, saidRead, refusalOf, typePlace, cutFits, writtenWithout, tagFits, writtenWith}
+use Rattle.frame.specs.declared.Header.{Header}
+use Rattle.frame.specs.declared.Read.{Read}
+use Rattle.frame.specs.declared.Read.the-variants.{Refused, Tagged}
+use Rattle.frame.proofs.Heads.{type-least, head-whole, head-room, HeadIs, TagIs, tag-is}
+
+-- ---- where a type field can stand
+
+pub type-place : (f : List ℕ) → typePlace (typeAt f) ≡ true
+unfolding typePlace typeAt
+type-place f = go (hasVlan f)
+  where
+    go : (b : Bool) → eqb (cond b 16 12) 12 || eqb (cond b 16 12) 16 ≡ true
+    go true = refl
+    go false = refl
+
+pub place-12 : typePlace 12 ≡ true
+unfolding typePlace
+place-12 = refl
+
+pub place-16 : typePlace 16 ≡ true
+unfolding typePlace
+place-16 = refl
+
+-- ---- the writers
+
+-- the bytes fit
+module _ (f : List ℕ) (o : ℕ) (out : List ℕ) (place : typePlace o ≡ true) where
+  pub without-fits : o + 6 ≤ length f → length f ≤ frameMost → length f ≤ length out + 6 → writtenWithout f o out ≡ overlay (cutAt f o) out
+  unfolding writtenWithout cutFits
+  without-fits a b c = simp (place, le-leb _ _ a, le-leb _ _ b, le-leb _ _ c)
+
+  pub with-fits : (n : ℕ) → o ≤ length f → length f ≤ untaggedMost → length f + 6 ≤ length out → writtenWith f o n out ≡ overlay (tagAt f o n) out
+  unfolding writtenWith tagFits
+  with-fits n a b c = simp (place, le-leb _ _ a, le-leb _ _ b, le-leb _ _ c)
+
+-- the same, once they are written at a place that is known
+pub without-done : (f : List ℕ) {o : ℕ} (p : ℕ) (out : List ℕ) {new : List ℕ} → o ≡ p → typePlace p ≡ true → p + 6 ≤ length f → length f ≤ frameMost → length f ≤ length out + 6
+    → new ≡ overlay (cutAt f p) out → new ≡ writtenWithout f o out
+without-done f p out e k a b c w = w ∙ sym (without-fits f p out k a b c) ∙ ap (λ (o : ℕ). writtenWithout f o out) (sym e)
+
+pub with-done : (f : List ℕ) {o : ℕ} (p n : ℕ) (out : List ℕ) {new : List ℕ} → o ≡ p → typePlace p ≡ true → p ≤ length f → length f ≤ untaggedMost → length f + 6 ≤ length out
+    → new ≡ overlay (tagAt f p n) out → new ≡ writtenWith f o n out
+with-done f p n out e k a b c w = w ∙ sym (with-fits f p out k n a b c) ∙ ap (λ (o : ℕ). writtenWith f o n out) (sym e)
+
+-- they don't: each reason by itself
+and-no : (a : Bool) → a && false ≡ false
+and-no true = refl
+and-no false = refl
+
+module _ (f : List ℕ) (o : ℕ) (out : List ℕ) where
+  pub without-elsewhere : (o ≡ 12 → ⊥) → (o ≡ 16 → ⊥) → out ≡ writtenWithout f o out
+  unfolding writtenWithout cutFits typePlace
+  without-elsewhere p q = simp (ne-eqb _ _ p, ne-eqb _ _ q)
+
+  pub without-cut : length f < o + 6 → out ≡ writtenWithout f o out
+  unfolding writtenWithout cutFits
+  without-cut h = simp (lt-leb _ _ h, and-no (typePlace o))
+
+  -- no tag fits into so short a frame, wherever it stands
+  pub without-none : length f < 18 → out ≡ writtenWithout f o out
+  without-none h = elim (decLt o 12) [ yes p ↦ without-elsewhere (λ e. omega arith) (λ e. omega arith) | no p ↦ without-cut (omega arith) ]
+
+  pub without-long : frameMost < length f → out ≡ writtenWithout f o out
+  unfolding writtenWithout cutFits
+  without-long h = simp (lt-leb _ _ h, and-no)
+
+  pub without-small : length out + 6 < length f → out ≡ writtenWithout f o out
+  unfolding writtenWithout cutFits
+  without-small h = simp (lt-leb _ _ h, and-no)
+
+  pub with-elsewhere : (n : ℕ) → (o ≡ 12 → ⊥) → (o ≡ 16 → ⊥) → out ≡ writtenWith f o n out
+  unfolding writtenWith tagFits typePlace
+  with-elsewhere n p q = simp (ne-eqb _ _ p, ne-eqb _ _ q)
+
+  pub with-cut : (n : ℕ) → length f < o → out ≡ writtenWith f o n out
+  unfolding writtenWith tagFits
+  with-cut n h = simp (lt-leb _ _ h, and-no)
+
+  pub with-none : (n : ℕ) → length f < 12 → out ≡ writtenWith f o n out
+  with-none n h = elim (decLt o 12) [ yes p ↦ with-elsewhere n (λ e. omega arith) (λ e. omega arith) | no p ↦ with-cut n (omega arith) ]
+
+  pub with-long : (n : ℕ) → untaggedMost < length f → out ≡ writtenWith f o n out
+  unfolding writtenWith tagFits
+  with-long n h = simp (lt-leb _ _ h, and-no)
+
+  pub with-small : (n : ℕ) → length out < length f + 6 → out ≡ writtenWith f o n out
+  unfolding writtenWith tagFits
+  with-small n h = simp (lt-leb _ _ h, and-no)
+
+-- ---- taking a tag out
+
+module _ (f out : List ℕ) where
+  pub take-refused : {r : Read} {n m : ℕ} → saidRead r ≡ readOf f → r ≡ Refused m → n ≡ refusalOf r
+      → (refused n ≡ takeTag f out .said) × (out ≡ takeTag f out .bytes)
+  unfolding takeTag takeFrom
+  take-refused p q e = rw (sym p ∙ ap saidRead q, e ∙ ap refusalOf q) (refl, refl)
+
+  module _ {r : Read} (h : Header) (n : ℕ) (p : saidRead r ≡ readOf f) (q : r ≡ Tagged h n) where
+    pub take-small : length out < length f - 6 → (refused ROOM ≡ takeTag f out .said) × (out ≡ takeTag f out .bytes)
+    unfolding takeTag takeFrom
+    take-small s = rw (sym p ∙ ap saidRead q) (simp (lt-ltb _ _ s) (refl, refl))
+
+    pub take-done : {new : List ℕ} → length f - 6 ≤ length out → new ≡ writtenWithout f (h .at) out
+        → (answers (record { number = n; length = length f - 6 }) ≡ takeTag f out .said) × (new ≡ takeTag f out .bytes)
+    unfolding takeTag takeFrom
+    take-done s e =
+        let k = tag-is f h n p q in
+        let w : writtenWithout f (typeAt f) out ≡ overlay (cutAt f (typeAt f)) out = without-fits f (typeAt f) out (type-place f) (omega arith) (k .few) (omega arith) in
+        rw (sym p ∙ ap saidRead q) (simp (le-ltb _ _ s) (refl, e ∙ ap (λ (o : ℕ). writtenWithout f o out) (k .at) ∙ w))
+
+-- ---- writing one
+
+pub tag-length : (f : List ℕ) (o n : ℕ) → o ≤ length f → length (tagAt f o n) ≡ length f + 6
+unfolding tagAt
+tag-length f o n h = simp (length-append, length-take, length-drop) (omega arith)
+
+module _ (f : List ℕ) (n : ℕ) where
+  pub write-long : untaggedMost < length f → writeOf f n ≡ refused LONG
+  unfolding writeOf
+  write-long h = simp (lt-ltb _ _ h)
+
+  module _ (few : length f ≤ untaggedMost) where
+    pub write-short : headShort f ≡ true → writeOf f n ≡ refused SHORT
+    unfolding writeOf
+    write-short h = simp (le-ltb _ _ few, h)
+
+    pub write-tagged : typeAt f + 2 ≤ length f → isTagged f ≡ true → writeOf f n ≡ refused TAGGED
+    unfolding writeOf
+    write-tagged r t = simp (le-ltb _ _ few, head-whole f r, t)
+
+    pub write-whole : typeAt f + 2 ≤ length f → isTagged f ≡ false → writeOf f n ≡ answers (tagged f n)
+    unfolding writeOf
+    write-whole r t = simp (le-ltb _ _ few, head-whole f r, t)
+
+  module _ (out : List ℕ) where
+    pub write-refused : {k : ℕ} → writeOf f n ≡ refused k → (refused k ≡ writeTag f n out .said) × (out ≡ writeTag f n out .bytes)
+    unfolding writeTag writeInto
+    write-refused e = rw e (refl, refl)
+
+    module _ (h : Header) (k : HeadIs f h) (few : length f ≤ untaggedMost) (t : h .tagged ≡ false) where
+      whole : writeOf f n ≡ answers (tagged f n)
+      whole = write-whole few (k .room) (sym (k .tagged) ∙ t)
+
+      long : length (tagged f n) ≡ length f + 6
+      long = tag-length f (typeAt f) n (omega (arith, k .room))
+
+      pub write-small : length out < length f + 6 → (refused ROOM ≡ writeTag f n out .said) × (out ≡ writeTag f n out .bytes)
+      unfolding writeTag writeInto
+      write-small s = rw (whole, long) (simp (lt-ltb _ _ s) (refl, refl))
+
+      pub write-done : {new : List ℕ} → length f + 6 ≤ length out → new ≡ writtenWith f (h .at) n out
+          → (answers (length f + 6) ≡ writeTag f n out .said) × (new ≡ writeTag f n out .bytes)
+      unfolding writeTag writeInto
+      write-done s e =
+          let w : writtenWith f (typeAt f) n out ≡ overlay (tagAt f (typeAt f) n) out = with-fits f (typeAt f) out (type-place f) n (omega (arith, k .room)) few s in
+          rw (whole, long) (simp (le-ltb _ _ s) (refl, e ∙ ap (λ (o : ℕ). writtenWith f o n out) (k .at) ∙ w))
+
+-- ---- what a tagged frame says of the frame that it was made from
+
+pub record WroteIs (f : List ℕ) (n : ℕ) (g : List ℕ) : Type 0 where
+  pub few : length f ≤ untaggedMost
+  pub room : typeAt f + 2 ≤ length f
+  pub plain : isTagged f ≡ false
+  pub same : g ≡ tagged f n
+
+pub wrote-is : (f : List ℕ) (n : ℕ) {g : List ℕ} → writeOf f n ≡ answers g → WroteIs f n g
+unfolding writeOf
+wrote-is f n e =
+    let a = passed (ltb untaggedMost (length f)) LONG (sym e) in
+    let b = passed (headShort f) SHORT (a .1) in
+    let c = passed (isTagged f) TAGGED (b .1) in
+    record { few = ltb-false _ _ (a .0); room = head-room f (b .0); plain = c .0; same = cc (c .1) }

@@ -1,0 +1,6 @@
+pub mod Bytes
+pub mod Frame
+pub mod TagCalls
+pub mod Refusals
+pub mod RoundTrips
+pub mod Laws
