@@ -73,6 +73,12 @@ def named(t):
         ref = '&mut ' if how == 'mut' else '&'
         if 'Stream' in of and k == '0': return ('shrTy' if how == 'imm' else 'mutTy'), ref + '[Stream]'
         return f'sliceTy (tyRef (named {k}) {how} (pointee (u8 .written)))', ref + '[u8]'
+    m = re.fullmatch(r'(\(tyStruct "&\[\]" \(tcons )?\(tyRef erased (imm|mut) \(Stream\)\)(.*)', t)
+    if m:
+        lent = f'tyRef erased {m[2]} (pointee (R .written))'
+        return (f'sliceTy ({lent})' if m[1] else lent), '?'
+    m = re.fullmatch(r'\(tyArray \(tyInt 8\) \(lenLit 6\)\)', t)
+    if m: return 'six-ty', 'Six'
     m = re.fullmatch(r'\(tyInt (\d+)\)', t)
     if m: return 'tyInt w' + m[1], {'64': 'u64'}.get(m[1], 'u' + m[1])
     if t == '(Stream)': return 'ty', 'Stream'
