@@ -7,7 +7,7 @@ use mathlib.Core.List.{List}
 use native.Mathlib.Omega.{arith}
 use lib.Dec.{ltb, leb}
 use lib.ListN.{length}
-use borrow.Author.Tests.{le-ltb, lt-leb, ltb-false}
+use borrow.Author.Tests.{le-ltb, lt-leb}
 use Rattle.refusal.specs.Checks.{Said}
 use Rattle.refusal.specs.Checks.Said.{refused, answers}
 use Rattle.refusal.specs.Numbers.{UNKNOWN, DAMAGED, ROOM}
@@ -16,10 +16,10 @@ use Rattle.frame.specs.Bytes.{overlay}
 use Rattle.frame.specs.Frame.{Tag, readOf, untagged, headerOf, destOf, vlanOf, typeAt}
 use Rattle.frame.specs.TagCalls.{Outcome, Bare, takeFrom, takeTag}
 use Rattle.frame.specs.declared.Header.{Header}
-use Rattle.frame.proofs.Heads.{TagIs, tag-of}
+use Rattle.frame.proofs.Heads.{tag-of}
 use Rattle.stream.specs.Record.{lawful}
 use Rattle.stream.specs.Decisions.{up}
-use Rattle.calls.specs.Table.{Table, at, search, someSlot, hasKey}
+use Rattle.calls.specs.Table.{Table, at, search, hasKey}
 use Rattle.calls.specs.Calls.{arriving, Act, refuse, arrive, opens, closes, resets, ticks, arrivalAt, arrival, checked, act, answer, Answer, writtenFor}
 use Rattle.calls.specs.Laws.{byFrame, TakeRefusesFrame, TakeRefusesAlike, TakeWritesAlike}
 use Rattle.calls.proofs.Places.{some-place}

@@ -4,11 +4,11 @@
 --     arrival-settled    every other arrival, refused by 7 and 8 or not
 use Prim.Native.Nat.{ℕ, _-_, _+_, _≤_, _<_}
 use mathlib.Core.Path.{_≡_, refl, sym, ap, _∙_}
-use mathlib.Core.Bool.{Bool, true, false, cond, not}
+use mathlib.Core.Bool.{Bool, true, false, cond}
 use mathlib.Core.List.{List}
 use mathlib.Core.Option.{some}
 use native.Mathlib.Omega.{arith}
-use lib.Dec.{ltb, leb}
+use lib.Dec.{ltb}
 use lib.ListN.{length, set, length-append, length-take, length-drop}
 use lib.Seq.{set-getD}
 use borrow.Author.Tests.{lt-ltb, le-ltb, lt-leb, le-leb, leb-true, leb-false}
@@ -16,7 +16,6 @@ use Rattle.refusal.specs.Checks.Said.{refused, answers}
 use Rattle.refusal.specs.Numbers.{TABLE, NETWORK, UNKNOWN, DAMAGED, ROOM}
 use Rattle.refusal.proofs.Checks.{passed}
 use Rattle.record.specs.Sizes.{slotsMost}
-use Rattle.frame.specs.Bytes.{overlay}
 use Rattle.frame.specs.Frame.{Tag, typeAt, cutAt, untagged, readOf}
 use Rattle.frame.specs.TagCalls.{writtenWithout}
 use Rattle.frame.specs.declared.Header.{Header}
@@ -24,19 +23,18 @@ use Rattle.frame.proofs.Heads.{TagIs, tag-of}
 use Rattle.frame.proofs.Writes.{type-place, without-fits}
 use Rattle.stream.specs.Record.{lawful}
 use Rattle.stream.specs.Decisions as decisions
-use Rattle.stream.specs.Steps.{weighed, verdictIn}
+use Rattle.stream.specs.Steps.{weighed}
 use Rattle.stream.proofs.Steps.{steps-tell-verdict, steps-decide}
 use Rattle.calls.specs.Table.{Table, blank, at, search, found, hasKey}
-use Rattle.calls.specs.Calls.{arriving, Act, refuse, arrive, arrivalAt, arrival, checked, act, after, answer, output, writtenFor, Meets}
+use Rattle.calls.specs.Calls.{arriving, refuse, arrive, arrivalAt, arrival, checked, act, after, answer, output, writtenFor, Meets}
 use Rattle.calls.specs.Said.{saidArrival}
-use Rattle.calls.specs.Steps.{asked, saidAsked, hasRoom, judged, recordOf, answerFor, finished, bytesFor, bytesOf}
+use Rattle.calls.specs.Steps.{asked, saidAsked, hasRoom, judged, recordOf, finished, bytesFor, bytesOf}
 use Rattle.calls.specs.declared.Found.the-variants.{At, Nothing}
 use Rattle.calls.specs.declared.Asked.{Asked}
 use Rattle.calls.specs.declared.Asked.the-variants as asks
 use Rattle.calls.specs.declared.Judged.{Judged}
 use Rattle.calls.specs.declared.Judged.the-variants as judges
 use Rattle.calls.specs.declared.Answer.{Answer}
-use Rattle.calls.specs.declared.Answer.the-variants as arrivals
 use Rattle.calls.proofs.Acts.{by-act}
 use Rattle.calls.proofs.Places.{found-at, found-none, some-place, no-place}
 
@@ -65,11 +63,11 @@ module _ (t : Table) (network : ℕ) (f out : List ℕ) where
       let b = passed (ltb 1 network) NETWORK (a .1) in
       tag-of f g (sym (b .1))
 
-  pub arrival-refused : (r : Answer) {q : Asked} {n : ℕ} → saidAsked q ≡ asked (length t) network f → q ≡ asks.Refused n → r ≡ arrivals.Refused n
+  pub arrival-refused : (r : Answer) {q : Asked} {n : ℕ} → saidAsked q ≡ asked (length t) network f → q ≡ asks.Refused n → saidArrival r ≡ refused n
       → Meets t (arriving network f out) (record { said = saidArrival r; table = t; output = out })
   unfolding arrival after answer output
   arrival-refused r {q} {n} p e w =
-      by-act t (arriving network f out) (refuse n) (act-asked ∙ ap (arrival t network f out) (sym p ∙ ap saidAsked e)) (ap saidArrival w) refl refl
+      by-act t (arriving network f out) (refuse n) (act-asked ∙ ap (arrival t network f out) (sym p ∙ ap saidAsked e)) w refl refl
 
   module _ {q : Asked} {h : Header} {number : ℕ} (p : saidAsked q ≡ asked (length t) network f) (e : q ≡ asks.For h number) where
     tag : asked (length t) network f ≡ answers (record { header = h; number = number })
@@ -79,12 +77,12 @@ module _ (t : Table) (network : ℕ) (f out : List ℕ) where
     unfolding arrival
     act-at i s = act-asked ∙ ap (arrival t network f out) tag ∙ ap (λ (k : ℕ). arrivalAt t k number network f out) s
 
-    pub arrival-unknown : (r : Answer) → found (hasKey (h .dest) (h .vlan)) t ≡ Nothing → r ≡ arrivals.Refused UNKNOWN
+    pub arrival-unknown : (r : Answer) → found (hasKey (h .dest) (h .vlan)) t ≡ Nothing → saidArrival r ≡ refused UNKNOWN
         → Meets t (arriving network f out) (record { said = saidArrival r; table = t; output = out })
     unfolding arrivalAt after answer output
     arrival-unknown r w a =
         let l = no-place _ t (found-none _ t w) in
-        by-act t (arriving network f out) (refuse UNKNOWN) (act-at _ refl ∙ simp (le-leb _ _ l)) (ap saidArrival a) refl refl
+        by-act t (arriving network f out) (refuse UNKNOWN) (act-at _ refl ∙ simp (le-leb _ _ l)) a refl refl
 
     module _ {i : ℕ} (w : found (hasKey (h .dest) (h .vlan)) t ≡ At i) where
       place : search (hasKey (h .dest) (h .vlan)) t ≡ i

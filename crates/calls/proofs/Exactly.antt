@@ -7,21 +7,21 @@ use mathlib.Core.List.{List, [], _∷_}
 use native.Mathlib.Omega.{arith}
 use lib.Dec.{eqb, ltb, leb}
 use lib.ListN.{length}
-use borrow.Author.Tests.{lt-ltb, le-ltb, ltb-true, ltb-false, le-leb, lt-leb, eqb-true, eqb-false, ne-eqb}
-use Rattle.refusal.specs.Checks.{Said, Check, First, firstOf}
+use borrow.Author.Tests.{lt-ltb, le-ltb, ltb-true, ltb-false, le-leb, lt-leb, eqb-true, eqb-false}
+use Rattle.refusal.specs.Checks.{Said, First, firstOf}
 use Rattle.refusal.specs.Checks.Said.{refused, answers}
-use Rattle.refusal.specs.Numbers.{TABLE, NETWORK, LONG, SHORT, UNTAGGED, UNKNOWN, DAMAGED, ROOM, SLOT}
+use Rattle.refusal.specs.Numbers.{TABLE, LONG, SHORT, UNTAGGED, SLOT}
 use Rattle.refusal.proofs.Checks.{first-exactly}
 use Rattle.record.specs.declared.Stream.{Stream}
-use Rattle.record.specs.Sizes.{slotsMost, frameMost}
+use Rattle.record.specs.Sizes.{frameMost}
 use Rattle.record.specs.Words.{yes}
 use Rattle.frame.specs.Frame.{Tag, typeAt, isTagged, headShort, tagShort, headerOf, numberOf, destOf, vlanOf, untagged, readOf}
-use Rattle.frame.specs.Refusals.{tooLong, short, noTag, tooSmall}
-use Rattle.stream.specs.Record.{settled, lawful, damaged, opened}
+use Rattle.frame.specs.Refusals.{tooLong, short, noTag}
+use Rattle.stream.specs.Record.{settled, damaged}
 use Rattle.stream.specs.Decisions.{verdict, expires}
 use Rattle.calls.specs.Table.{Table, at, search, someSlot, hasKey, isFree, count}
-use Rattle.calls.specs.Calls.{Call, arriving, opening, closing, resetting, ticking, Act, refuse, arrive, opens, closes, resets, ticks, arrivalAt, arrival, inUse, open-call, checked, act, answer, Answer, arrived, placed, done, swept, verdictWith}
-use Rattle.calls.specs.Refusals.{some, manySlots, noNetwork, noStream, damagedAt, checksOf, RefusedExactly}
+use Rattle.calls.specs.Calls.{Call, arriving, opening, closing, resetting, ticking, Act, refuse, closes, arrivalAt, arrival, inUse, open-call, checked, act, answer, Answer, arrived, placed, done, swept, verdictWith}
+use Rattle.calls.specs.Refusals.{some, manySlots, noNetwork, checksOf, RefusedExactly}
 use Rattle.calls.proofs.Search.{some-cons}
 
 -- ---- the conditions, as the call tests them

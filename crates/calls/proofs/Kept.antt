@@ -1,19 +1,19 @@
 -- What a call keeps: its refusals change nothing, the number of slots and every other record stay. Results of one call
 -- coincide. Assumes nothing.
 use Prim.Native.Nat.{ℕ}
-use mathlib.Core.Path.{_≡_, refl, sym, ap, _∙_}
-use mathlib.Core.Bool.{Bool, true, false}
+use mathlib.Core.Path.{_≡_, refl, sym, _∙_}
+use mathlib.Core.Bool.{false}
 use mathlib.Core.List.{List}
 use native.Mathlib.Omega.{arith}
 use lib.Dec.{eqb}
 use lib.ListN.{length, set, length-set, length-map}
 use lib.Seq.{getD-set-other}
 use borrow.Author.Tests.{eqb-false}
-use Rattle.refusal.specs.Checks.Said.{refused, answers}
+use Rattle.refusal.specs.Checks.Said.{refused}
 use Rattle.record.specs.declared.Stream.{Stream}
 use Rattle.stream.specs.Decisions.{ticked}
 use Rattle.calls.specs.Table.{Table, blank, at}
-use Rattle.calls.specs.Calls.{Call, Act, refuse, arrive, opens, closes, resets, ticks, act, after, answer, Answer, output, outOf, Result, Meets}
+use Rattle.calls.specs.Calls.{Act, refuse, arrive, opens, closes, resets, ticks, act, after, answer, output, outOf}
 use Rattle.calls.specs.Said.{saidArrival, saidOpened, saidDone, saidSwept}
 use Rattle.calls.specs.Laws.{Coincide, AnswersTell, RefusedChangesNothing, forSlot, OthersStay, LengthKept}
 use Rattle.calls.specs.declared.Verdict.the-variants as verdict

@@ -13,3 +13,4 @@ pub mod Kept
 pub mod Sound
 pub mod Lowest
 pub mod Alike
+pub mod Worked

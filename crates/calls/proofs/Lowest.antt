@@ -1,5 +1,4 @@
 -- The search gives the lowest slot that passes. Assumes nothing.
-use mathlib.Core.Path.{_≡_}
 use Rattle.calls.specs.Laws.{LowestFound, NoneFound}
 use Rattle.calls.proofs.Search.{found-passes, found-below, found-no-slot}
 use Rattle.calls.proofs.Places.{some-found, none-found, some-place}

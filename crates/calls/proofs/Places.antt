@@ -2,14 +2,13 @@
 --     found-at, found-none    the place that was found is the search's, and where nothing was found no slot passes
 --     some-place, no-place    the place of a slot that passes lies within the table, and where none does it lies behind it
 use Prim.Native.Nat.{ℕ, _≤_, _<_}
-use mathlib.Core.Path.{_≡_, refl, sym}
+use mathlib.Core.Path.{_≡_, refl}
 use mathlib.Core.Bool.{Bool, true, false, cond}
 use native.Mathlib.Omega.{arith}
 use lib.ListN.{length}
 use borrow.Author.Tests.{ltb-true, ltb-false}
 use Rattle.record.specs.declared.Stream.{Stream}
 use Rattle.calls.specs.Table.{Table, search, someSlot, found}
-use Rattle.calls.specs.declared.Found.{Found}
 use Rattle.calls.specs.declared.Found.the-variants.{At, Nothing}
 
 module _ (p : Stream → Bool) (t : Table) where

@@ -1,23 +1,23 @@
 -- What is known of a call that is not refused, and so: no call damages a table, an open and a reset leave a lawful record.
 -- Assumes nothing.
-use Prim.Native.Nat.{ℕ, _-_, _≤_, _<_}
+use Prim.Native.Nat.{ℕ, _-_, _<_}
 use mathlib.Core.Path.{_≡_, refl, sym, ap, _∙_}
 use mathlib.Core.Bool.{Bool, true, false, cond, not, _&&_}
 use mathlib.Core.List.{List, map}
 use native.Mathlib.Omega.{arith}
 use lib.Dec.{ltb, leb, eqb}
 use lib.ListN.{length, getD, set, List·getD-map}
-use lib.Seq.{getD-set-same, getD-set-other, set-out}
-use borrow.Author.Tests.{leb-false, ltb-true, eqb-true, eqb-false, not-true, not-false}
+use lib.Seq.{getD-set-same, getD-set-other}
+use borrow.Author.Tests.{leb-false, ltb-true, eqb-true, eqb-false, not-false}
 use Rattle.refusal.specs.Checks.{Said}
 use Rattle.refusal.specs.Checks.Said.{refused, answers}
 use Rattle.record.specs.declared.Stream.{Stream}
 use Rattle.record.specs.Words.{yes}
 use Rattle.frame.specs.Frame.{Tag, readOf, destOf}
-use Rattle.stream.specs.Record.{settled, lawful, damaged, opened, closed}
-use Rattle.stream.specs.Decisions.{decided, reset, expires, ticked}
+use Rattle.stream.specs.Record.{settled, lawful, damaged, closed}
+use Rattle.stream.specs.Decisions.{expires, ticked}
 use Rattle.stream.proofs.Keeps.{reset-lawful, opened-lawful, ticked-lawful, decided-lawful}
-use Rattle.calls.specs.Table.{Table, blank, at, search, someSlot, isFree}
+use Rattle.calls.specs.Table.{Table, blank, at, someSlot, isFree}
 use Rattle.calls.specs.Calls.{Call, arriving, opening, closing, resetting, ticking, Act, refuse, arrive, opens, closes, resets, ticks, arrivalAt, arrival, inUse, open-call, checked, act, after}
 use Rattle.calls.specs.Laws.{NoneDamaged, OpenLawful, ResetLawful}
 use Rattle.calls.proofs.Places.{some-place}
@@ -87,7 +87,7 @@ closed-sound : (s : Stream) → damaged (closed s) ≡ false
 unfolding damaged yes
 closed-sound s = refl
 
-blank-sound : damaged blank ≡ false
+pub blank-sound : damaged blank ≡ false
 unfolding damaged yes
 blank-sound = refl
 
