@@ -99,7 +99,7 @@ for f in items(top[1]):
     calls = dict.fromkeys(re.findall(r'\(fnRef "([\w:]+)"\)', flat(it[5])))
     for t in types[1:1 + int(it[3])]: print('%param ?', named(t)[1])
     print('%result', named(types[0])[1])
-    if calls: print('%calls', ' '.join(calls))
+    if calls: print('%calls', ' '.join(re.sub(r'::\w+(?=::)', '', c) for c in calls))   # as the crate exports it
     print('%locals', len(types))
     by = {}
     for i, t in enumerate(types): by.setdefault(named(t)[0], []).append(str(i))
