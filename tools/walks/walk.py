@@ -6,6 +6,8 @@
 
 A walk is a proof in antt with these short forms. docs/WALKS.md says how one is written.
 
+A walk that is another one with other words has one line, `%like F: word=other ..`.
+
 Of the function:
   %about TEXT               the file's first comment
   %param NAME TYPE          a parameter, in order: &[Stream], &mut [Stream], &[u8], &mut [u8], a number, bool, Stream, or a type of Values.antt.
@@ -192,12 +194,24 @@ class Walk(Steps):
         return '\n'.join(head) + '\n\n' + body
 
 
+def source(here, f):
+    """The walk's text; of a walk that is like another one, that one's with its words changed."""
+    text = open(f'{here}/{f}.walk').read()
+    m = re.fullmatch(r'%like (\w+): (.*)\s*', text)
+    if m:
+        text = open(f'{here}/{m[1]}.walk').read()
+        for pair in m[2].split():
+            old, new = pair.split('=')
+            text = re.sub(rf'(?<![\w:-]){old}(?![\w-])', new, text)
+    return text
+
+
 def main():
     crate, want = sys.argv[1], sys.argv[2:]
     here = f'tools/walks/{crate}'
     check = want == ['--check']
     for f in sorted(x[:-5] for x in os.listdir(here) if x.endswith('.walk')) if check else want:
-        text = Walk(crate, f, open(f'{here}/{f}.walk').read()).expanded()
+        text = Walk(crate, f, source(here, f)).expanded()
         path = f'crates/{crate}/proofs/{f}/Proof.antt'
         if check:
             squeezed = lambda t: ''.join(t.split()).replace(',)', ')')

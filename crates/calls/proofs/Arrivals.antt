@@ -35,7 +35,6 @@ use Rattle.calls.specs.declared.Asked.the-variants as asks
 use Rattle.calls.specs.declared.Judged.{Judged}
 use Rattle.calls.specs.declared.Judged.the-variants as judges
 use Rattle.calls.specs.declared.Answer.{Answer}
-use Rattle.calls.specs.declared.Answer.the-variants as arrivals
 use Rattle.calls.proofs.Acts.{by-act}
 use Rattle.calls.proofs.Places.{found-at, found-none, some-place, no-place}
 
@@ -64,11 +63,11 @@ module _ (t : Table) (network : ℕ) (f out : List ℕ) where
       let b = passed (ltb 1 network) NETWORK (a .1) in
       tag-of f g (sym (b .1))
 
-  pub arrival-refused : (r : Answer) {q : Asked} {n : ℕ} → saidAsked q ≡ asked (length t) network f → q ≡ asks.Refused n → r ≡ arrivals.Refused n
+  pub arrival-refused : (r : Answer) {q : Asked} {n : ℕ} → saidAsked q ≡ asked (length t) network f → q ≡ asks.Refused n → saidArrival r ≡ refused n
       → Meets t (arriving network f out) (record { said = saidArrival r; table = t; output = out })
   unfolding arrival after answer output
   arrival-refused r {q} {n} p e w =
-      by-act t (arriving network f out) (refuse n) (act-asked ∙ ap (arrival t network f out) (sym p ∙ ap saidAsked e)) (ap saidArrival w) refl refl
+      by-act t (arriving network f out) (refuse n) (act-asked ∙ ap (arrival t network f out) (sym p ∙ ap saidAsked e)) w refl refl
 
   module _ {q : Asked} {h : Header} {number : ℕ} (p : saidAsked q ≡ asked (length t) network f) (e : q ≡ asks.For h number) where
     tag : asked (length t) network f ≡ answers (record { header = h; number = number })
@@ -78,12 +77,12 @@ module _ (t : Table) (network : ℕ) (f out : List ℕ) where
     unfolding arrival
     act-at i s = act-asked ∙ ap (arrival t network f out) tag ∙ ap (λ (k : ℕ). arrivalAt t k number network f out) s
 
-    pub arrival-unknown : (r : Answer) → found (hasKey (h .dest) (h .vlan)) t ≡ Nothing → r ≡ arrivals.Refused UNKNOWN
+    pub arrival-unknown : (r : Answer) → found (hasKey (h .dest) (h .vlan)) t ≡ Nothing → saidArrival r ≡ refused UNKNOWN
         → Meets t (arriving network f out) (record { said = saidArrival r; table = t; output = out })
     unfolding arrivalAt after answer output
     arrival-unknown r w a =
         let l = no-place _ t (found-none _ t w) in
-        by-act t (arriving network f out) (refuse UNKNOWN) (act-at _ refl ∙ simp (le-leb _ _ l)) (ap saidArrival a) refl refl
+        by-act t (arriving network f out) (refuse UNKNOWN) (act-at _ refl ∙ simp (le-leb _ _ l)) a refl refl
 
     module _ {i : ℕ} (w : found (hasKey (h .dest) (h .vlan)) t ≡ At i) where
       place : search (hasKey (h .dest) (h .vlan)) t ≡ i

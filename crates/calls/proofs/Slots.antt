@@ -11,6 +11,7 @@ use lib.Dec.{ltb}
 use lib.ListN.{length, set}
 use lib.Seq.{set-out}
 use borrow.Author.Tests.{lt-ltb, le-ltb}
+use Rattle.refusal.specs.Checks.Said.{refused, answers}
 use Rattle.refusal.specs.Numbers.{TABLE, DAMAGED, SETTING, TAKEN, FULL, SLOT}
 use Rattle.record.specs.declared.Stream.{Stream}
 use Rattle.record.specs.Words.{yes}
@@ -21,7 +22,7 @@ use Rattle.stream.specs.Record as records
 use Rattle.stream.specs.Decisions.{expires, ticked}
 use Rattle.stream.specs.Decisions as decisions
 use Rattle.calls.specs.Table.{Table, at, search, someSlot, found, hasKey, isFree, surveyed, count}
-use Rattle.calls.specs.Calls.{Call, opening, closing, resetting, ticking, refuse, opens, closes, resets, ticks, inUse, open-call, checked, act, after, answer, output, outOf, Meets}
+use Rattle.calls.specs.Calls.{Call, opening, closing, resetting, ticking, refuse, opens, closes, resets, ticks, inUse, open-call, checked, act, after, answer, swept, output, outOf, Meets}
 use Rattle.calls.specs.Ticks.{tickedAll, sums}
 use Rattle.calls.specs.Said.{saidOpened, saidDone, saidSwept}
 use Rattle.calls.specs.Steps.{notPlaced, placedAt, placingOf, unchanged, closeChange, resetChange}
@@ -31,7 +32,6 @@ use Rattle.calls.specs.declared.Opened.the-variants as opened
 use Rattle.calls.specs.declared.Done.{Done}
 use Rattle.calls.specs.declared.Done.the-variants as done
 use Rattle.calls.specs.declared.Swept.{Swept}
-use Rattle.calls.specs.declared.Swept.the-variants as swept
 use Rattle.calls.specs.declared.Sums.{Sums}
 use Rattle.calls.specs.declared.Placing.{Placing}
 use Rattle.calls.specs.declared.Change.{Change}
@@ -120,20 +120,20 @@ module _ (t : Table) (slot : ℕ) where
 
 -- ---- tick
 
-pub tick-refused : (t : Table) (r : Swept) → slotsMost < length t → r ≡ swept.Refused TABLE
+pub tick-refused : (t : Table) (r : Swept) → slotsMost < length t → saidSwept r ≡ refused TABLE
     → Meets t ticking (record { said = saidSwept r; table = t; output = [] })
 unfolding act after answer output
-tick-refused t r m w = by-act t ticking (refuse TABLE) (simp (lt-ltb _ _ m)) (ap saidSwept w) refl refl
+tick-refused t r m w = by-act t ticking (refuse TABLE) (simp (lt-ltb _ _ m)) w refl refl
 
 pub tick-meets : (t : Table) (r : Swept) {a b : ℕ} {u : Table}
-    → length t ≤ slotsMost → a ≡ count expires t → b ≡ count damaged t → u ≡ map ticked t → r ≡ swept.Counted a b
+    → length t ≤ slotsMost → a ≡ count expires t → b ≡ count damaged t → u ≡ map ticked t → saidSwept r ≡ answers (swept a b)
     → Meets t ticking (record { said = saidSwept r; table = u; output = [] })
 unfolding act checked after answer output
-tick-meets t r m a b e w = by-act t ticking ticks (simp (le-ltb _ _ m)) (ap saidSwept w ∙ rw (a, b)) e refl
+tick-meets t r m a b e w = by-act t ticking ticks (simp (le-ltb _ _ m)) (w ∙ rw (a, b)) e refl
 
 -- the same by the sums of a sweep
 pub sweep-meets : (t : Table) (r : Swept) {c : Sums} {u : Table}
-    → length t ≤ slotsMost → c ≡ sums t → u ≡ tickedAll t → r ≡ swept.Counted (c .resets) (c .damaged)
+    → length t ≤ slotsMost → c ≡ sums t → u ≡ tickedAll t → saidSwept r ≡ answers (swept (c .resets) (c .damaged))
     → Meets t ticking (record { said = saidSwept r; table = u; output = [] })
 unfolding sums tickedAll
 sweep-meets t r m e v w = tick-meets t r m (ap (λ (c : Sums). c .resets) e) (ap (λ (c : Sums). c .damaged) e) v w

@@ -87,7 +87,7 @@ closed-sound : (s : Stream) → damaged (closed s) ≡ false
 unfolding damaged yes
 closed-sound s = refl
 
-blank-sound : damaged blank ≡ false
+pub blank-sound : damaged blank ≡ false
 unfolding damaged yes
 blank-sound = refl
 

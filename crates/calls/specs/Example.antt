@@ -6,12 +6,14 @@ use mathlib.Core.Bool.{true, false}
 use mathlib.Core.List.{List, [], _∷_}
 use lib.ListN.{replicate}
 use Rattle.refusal.specs.Checks.{Said}
-use Rattle.refusal.specs.Checks.Said.{answers}
-use Rattle.record.specs.Sizes.{vectorRule, frameMost}
-use Rattle.frame.specs.Frame.{destOf, vlanOf}
-use Rattle.stream.specs.Record.{lawful}
-use Rattle.calls.specs.Table.{Table, blank, at, search, someSlot, hasKey}
-use Rattle.calls.specs.Calls.{Call, arriving, opening, ticking, act, after, answer, Answer, arrived, placed, swept, handedUp, duplicate}
+use Rattle.refusal.specs.Checks.Said.{refused, answers}
+use Rattle.refusal.specs.Numbers.{SHORT, ROOM}
+use Rattle.record.specs.Sizes.{vectorRule}
+use Rattle.frame.specs.Frame.{destOf, vlanOf, untagged}
+use Rattle.stream.specs.Record.{lawful, damaged, opened}
+use Rattle.calls.specs.Table.{Table, blank, at, search, someSlot, hasKey, isFree}
+use Rattle.calls.specs.Calls.{Call, arriving, opening, resetting, ticking, arrive, opens, resets, act, after, answer, Answer, arrived, placed, swept, handedUp, duplicate}
+use Rattle.calls.specs.Laws.{forSlot}
 
 -- what calls in turn answer
 unfoldable pub answersOf : Table → List Call → List (Said Answer)
@@ -59,11 +61,25 @@ WorkedExample =
     ∷ answers (arrived 0 7 (handedUp 14))
     ∷ []
 
--- The table after the open has the frame's stream, and its record is lawful.
+-- The premises of the laws are met. By the table of free slots and the open,
 abbrev pub filled : Table
 filled = after eight (act eight (opening dest 0 vectorRule 4 3))
 
-abbrev pub StreamFound : Type 0
-StreamFound =
-    (someSlot (hasKey (destOf frame) (vlanOf frame)) filled ≡ true)
-    × (lawful (at filled (search (hasKey (destOf frame) (vlanOf frame)) filled)) ≡ true)
+abbrev pub slotFor : Table → ℕ
+slotFor t = search (hasKey (destOf frame) (vlanOf frame)) t
+
+abbrev pub FreeMet : Type 0
+FreeMet =
+    ((j : ℕ) → damaged (at eight j) ≡ false)
+    × (someSlot isFree eight ≡ true) × (someSlot (hasKey (destOf frame) (vlanOf frame)) eight ≡ false)
+    × (act eight (opening dest 0 vectorRule 4 3) ≡ opens 0 (opened (destOf dest) 0 vectorRule 4 3))
+    × (forSlot (opens 0 (opened (destOf dest) 0 vectorRule 4 3)) 1 ≡ false)
+
+-- and by the table after it: its stream is found and lawful, an arrival gets through, a reset too, and others are refused.
+abbrev pub FilledMet : Type 0
+FilledMet =
+    (someSlot (hasKey (destOf frame) (vlanOf frame)) filled ≡ true) × (lawful (at filled (slotFor filled)) ≡ true)
+    × (act filled (arriving 0 frame buffer) ≡ arrive 0 7 0 (untagged frame))
+    × (act filled (resetting 0) ≡ resets 0)
+    × (answer filled (act filled (arriving 0 dest buffer)) ≡ refused SHORT)
+    × (answer filled (act filled (arriving 0 frame [])) ≡ refused ROOM)

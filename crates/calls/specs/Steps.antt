@@ -24,8 +24,6 @@ use Rattle.calls.specs.declared.Found.the-variants as found
 use Rattle.calls.specs.declared.Survey.{Survey}
 use Rattle.calls.specs.declared.Asked.{Asked}
 use Rattle.calls.specs.declared.Asked.the-variants as asks
-use Rattle.calls.specs.declared.Answer as answer
-use Rattle.calls.specs.declared.Answer.the-variants as arrivals
 use Rattle.calls.specs.declared.Judged.{Judged}
 use Rattle.calls.specs.declared.Judged.the-variants as judges
 use Rattle.calls.specs.declared.Opened.the-variants as opened
@@ -46,10 +44,10 @@ abbrev pub saidAsked : Asked → Said Tag
 saidAsked (asks.Refused n) = refused n
 saidAsked (asks.For h number) = answers (record { header = h; number = number })
 
--- the answer where they refuse (a frame that is not refused has no number)
-abbrev pub refusedAs : Asked → answer.Answer
-refusedAs (asks.Refused n) = arrivals.Refused n
-refusedAs (asks.For h number) = arrivals.Refused 0
+-- the number where they refuse, and 0 for a frame that is not refused
+abbrev pub refusalIn : Asked → ℕ
+refusalIn (asks.Refused n) = n
+refusalIn (asks.For h number) = 0
 
 -- The output holds length - 6 bytes.
 abbrev pub hasRoom : (frame out : List ℕ) → Bool

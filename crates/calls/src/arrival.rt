@@ -9,9 +9,10 @@ use stream::Weighed;
 ghost use mathlib.Core.Path.{_≡_};
 ghost use Prim.Native.Nat.{_-_};
 ghost use lib.ListN.{length};
+ghost use Rattle.refusal.specs.Checks.Said.{refused};
 ghost use Rattle.refusal.specs.Numbers.{UNKNOWN};
 ghost use Rattle.calls.specs.Said.{saidArrival};
-ghost use Rattle.calls.specs.Steps.{saidAsked, asked, refusedAs, hasRoom, judged, recordOf, finished, bytesOf};
+ghost use Rattle.calls.specs.Steps.{saidAsked, asked, refusalIn, hasRoom, judged, recordOf, finished, bytesOf};
 
 // Arrival: 1 and 2, then 3, 4 and 5 as the frame's reader gives them.
 pub fn ask(slots: usize, network: u8, frame: &[u8]) -> Asked
@@ -32,7 +33,7 @@ pub fn ask(slots: usize, network: u8, frame: &[u8]) -> Asked
 
 // The answer where that refuses, for the else of a `let .. else`; 0 for a frame that is not refused.
 pub fn refused(q: Asked) -> Answer
-    ensures { λ r. ⌜ r ≡ refusedAs q ⌝ }
+    ensures { λ r. ⌜ saidArrival r ≡ refused (refusalIn q) ⌝ }
 {
     match q {
         Asked::Refused(n) => Answer::Refused(n),
@@ -42,7 +43,7 @@ pub fn refused(q: Asked) -> Answer
 
 // Arrival: 6.
 pub fn unknown() -> Answer
-    ensures { λ r. ⌜ r ≡ Answer.Refused UNKNOWN ⌝ }
+    ensures { λ r. ⌜ saidArrival r ≡ refused UNKNOWN ⌝ }
 {
     Answer::Refused(refusal::UNKNOWN)
 }

@@ -1,12 +1,18 @@
 // The table that the caller lends: a slice of stream records. Each function here is a thin walk over it; what is decided
 // of one record is decided by value in the crates below.
+pub use calls::Done;
 use calls::Found;
+pub use calls::Opened;
 use calls::Sums;
 use calls::Survey;
+pub use calls::Swept;
 use record::Stream;
 ghost use mathlib.Core.Path.{_≡_};
+ghost use mathlib.Core.List.{[]};
 ghost use lib.ListN.{set};
 ghost use Rattle.calls.specs.Table.{at, found, hasKey, surveyed};
+ghost use Rattle.calls.specs.Calls.{opening, closing, resetting, ticking, Meets};
+ghost use Rattle.calls.specs.Said.{saidOpened, saidDone, saidSwept};
 ghost use Rattle.calls.specs.Ticks.{sums, tickedAll};
 
 // The lowest slot in use that has the key: the search stops at it and yields its place.
@@ -70,4 +76,50 @@ fn sweep(t: &mut [Stream]) -> Sums
         i = i + 1;
     }
     sums
+}
+
+// ---- the calls
+// Open, close and reset copy out of the table, decide by value, and store: a refused call stores beyond the table, which
+// is nothing. What a call comes to is `Meets`, for every table and every input.
+
+// Open: 1, 9, 10, 11. It fills the lowest free slot, closed ones included, with a fresh record, counters zero.
+pub fn open(t: &mut [Stream], dest: [u8; 6], vlan: u16, rule: u8, window: u16, time: u16) -> Opened
+    ensures { λ r. ⌜ Meets (now (t .entry)) (opening dest vlan rule window time) (record { said = saidOpened r; table = now (t .exit); output = [] }) ⌝ }
+{
+    let key = frame::destination(dest);
+    let v = survey(t, key, vlan);
+    let p = calls::place(t.len(), v, key, vlan, rule, window, time);
+    store(t, p.slot, p.stream);
+    p.answer
+}
+
+// Close: 1, 12. The slot becomes free; its other fields stay. A damaged record can be closed.
+pub fn close(t: &mut [Stream], slot: usize) -> Done
+    ensures { λ r. ⌜ Meets (now (t .entry)) (closing slot) (record { said = saidDone r; table = now (t .exit); output = [] }) ⌝ }
+{
+    let s = record_at(t, slot);
+    let c = calls::close(t.len(), slot, s);
+    store(t, c.slot, c.stream);
+    c.answer
+}
+
+// Reset: 1, 12, then 7 only if the settings are out of range. Otherwise fresh state, resets rises.
+pub fn reset(t: &mut [Stream], slot: usize) -> Done
+    ensures { λ r. ⌜ Meets (now (t .entry)) (resetting slot) (record { said = saidDone r; table = now (t .exit); output = [] }) ⌝ }
+{
+    let s = record_at(t, slot);
+    let c = calls::reset(t.len(), slot, s);
+    store(t, c.slot, c.stream);
+    c.answer
+}
+
+// Tick: 1. Every lawful record that has ticks left has one less, and is reset where that gives 0.
+pub fn tick(t: &mut [Stream]) -> Swept
+    ensures { λ r. ⌜ Meets (now (t .entry)) ticking (record { said = saidSwept r; table = now (t .exit); output = [] }) ⌝ }
+{
+    if t.len() > Stream::SLOTS_MOST {
+        return Swept::Refused(refusal::TABLE);
+    }
+    let c = sweep(t);
+    Swept::Counted(c.resets, c.damaged)
 }
