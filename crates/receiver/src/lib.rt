@@ -1,11 +1,14 @@
 // The table that the caller lends: a slice of stream records. Each function here is a thin walk over it; what is decided
 // of one record is decided by value in the crates below.
 use calls::Found;
+use calls::Judged;
 use calls::Sums;
 use calls::Survey;
 use record::Stream;
 ghost use mathlib.Core.Path.{_≡_};
-ghost use lib.ListN.{set};
+ghost use Prim.Native.Nat.{_<_};
+ghost use lib.ListN.{length, set};
+ghost use Rattle.calls.specs.Steps.{judged, recordOf};
 ghost use Rattle.calls.specs.Table.{at, found, hasKey, surveyed};
 ghost use Rattle.calls.specs.Ticks.{sums, tickedAll};
 
@@ -70,4 +73,15 @@ fn sweep(t: &mut [Stream]) -> Sums
         i = i + 1;
     }
     sums
+}
+
+// One record settled: what the arrival is to it, and the record after it. The record is read again on purpose: so no
+// counter is carried over the first step.
+fn settle(t: &mut [Stream], i: usize, network: u8, number: u16, room: bool) -> Judged
+    requires { ⌜ i < length (now t) ⌝ }
+    ensures { λ r. ⌜ (r ≡ judged (at (now (t .entry)) i) number room) × (now (t .exit) ≡ set (now (t .entry)) i (recordOf (at (now (t .entry)) i) network r)) ⌝ }
+{
+    let j = calls::judge(t[i], number, room);
+    t[i] = calls::record_after(t[i], network, j);
+    j
 }
