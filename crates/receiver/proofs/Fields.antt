@@ -9,8 +9,14 @@ use Rattle.calls.proofs.Found.Laws as Found-laws
 use Rattle.calls.specs.declared.Turn.{Turn}
 use Rattle.calls.proofs.Turn as Turn-type
 use Rattle.calls.proofs.Turn.Laws as Turn-laws
+use Rattle.frame.specs.declared.Header.{Header}
+use Rattle.frame.proofs.Header as Header-type
+use Rattle.frame.proofs.Header.Laws as Header-laws
+use Rattle.calls.specs.declared.Asked.{Asked}
+use Rattle.calls.proofs.Asked as Asked-type
+use Rattle.calls.proofs.Asked.Laws as Asked-laws
 use Rattle.receiver.proofs.Rows.{Ok}
-use Rattle.receiver.proofs.Values.{found-ok, sums-ok, turn-ok}
+use Rattle.receiver.proofs.Values.{found-ok, sums-ok, turn-ok, header-ok, asked-ok}
 
 pub at-ok : (i : ℕ) → i < 2 ^ 64 → found-ok (Found.At i)
 at-ok i g = Enum-laws.owes Found-type.the-type Found-laws.the-laws (Found.At i) ((refl, g), tt)
@@ -26,3 +32,19 @@ turn-stream v g = Struct-laws.owed Turn-type.the-type Turn-laws.the-laws v _ g .
 
 pub turn-sums : (v : Turn) → turn-ok v → sums-ok (v .sums)
 turn-sums v g = Struct-laws.owed Turn-type.the-type Turn-laws.the-laws v _ g .1 .0
+
+-- what an arrival asks: its header and number
+pub asked-header : (h : Header) (number : ℕ) → asked-ok (Asked.For h number) → header-ok h
+asked-header h number g = Enum-laws.owed Asked-type.the-type Asked-laws.the-laws (Asked.For h number) _ g .0
+
+pub asked-number : (h : Header) (number : ℕ) → asked-ok (Asked.For h number) → number < 2 ^ 16
+asked-number h number g = Enum-laws.owed Asked-type.the-type Asked-laws.the-laws (Asked.For h number) _ g .1 .0 .1
+
+pub header-dest : (h : Header) → header-ok h → h .dest < 2 ^ 64
+header-dest h g = Struct-laws.owed Header-type.the-type Header-laws.the-laws h _ g .0 .1
+
+pub header-vlan : (h : Header) → header-ok h → h .vlan < 2 ^ 16
+header-vlan h g = Struct-laws.owed Header-type.the-type Header-laws.the-laws h _ g .1 .0 .1
+
+pub header-at : (h : Header) → header-ok h → h .at < 2 ^ 64
+header-at h g = Struct-laws.owed Header-type.the-type Header-laws.the-laws h _ g .1 .1 .0 .1

@@ -1,13 +1,18 @@
 // The table that the caller lends: a slice of stream records. Each function here is a thin walk over it; what is decided
 // of one record is decided by value in the crates below.
+pub use calls::Answer;
+use calls::Asked;
 use calls::Found;
 use calls::Judged;
 use calls::Sums;
 use calls::Survey;
+pub use calls::Verdict;
 use record::Stream;
 ghost use mathlib.Core.Path.{_≡_};
 ghost use Prim.Native.Nat.{_<_};
 ghost use lib.ListN.{length, set};
+ghost use Rattle.calls.specs.Calls.{arriving, Meets};
+ghost use Rattle.calls.specs.Said.{saidArrival};
 ghost use Rattle.calls.specs.Steps.{judged, recordOf};
 ghost use Rattle.calls.specs.Table.{at, found, hasKey, surveyed};
 ghost use Rattle.calls.specs.Ticks.{sums, tickedAll};
@@ -84,4 +89,22 @@ fn settle(t: &mut [Stream], i: usize, network: u8, number: u16, room: bool) -> J
     let j = calls::judge(t[i], number, room);
     t[i] = calls::record_after(t[i], network, j);
     j
+}
+
+// An arrival (document 01, "Calls and the order of checks"): 1 to 5 are answered before the table is searched, and the
+// room is known before anything is marked.
+pub fn arrival(t: &mut [Stream], network: u8, frame: &[u8], out: &mut [u8]) -> Answer
+    ensures { λ r. ⌜ Meets (now (t .entry)) (arriving network (now (frame .entry)) (now (out .entry))) (record { said = saidArrival r; table = now (t .exit); output = now (out .exit) }) ⌝ }
+{
+    let q = calls::ask(t.len(), network, frame);
+    let Asked::For(h, number) = q else {
+        return calls::refused(q);
+    };
+    let f = find(t, h.dest, h.vlan);
+    let Found::At(i) = f else {
+        return calls::unknown();
+    };
+    let room = calls::fits(frame, out);
+    let j = settle(t, i, network, number, room);
+    calls::finish(j, i, h.at, number, frame, out)
 }
