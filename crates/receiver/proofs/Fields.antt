@@ -21,8 +21,14 @@ use Rattle.calls.proofs.Sums.Laws as Sums-laws
 use Rattle.calls.specs.declared.Swept.{Swept}
 use Rattle.calls.proofs.Swept as Swept-type
 use Rattle.calls.proofs.Swept.Laws as Swept-laws
+use Rattle.frame.specs.declared.Header.{Header}
+use Rattle.frame.proofs.Header as Header-type
+use Rattle.frame.proofs.Header.Laws as Header-laws
+use Rattle.calls.specs.declared.Asked.{Asked}
+use Rattle.calls.proofs.Asked as Asked-type
+use Rattle.calls.proofs.Asked.Laws as Asked-laws
 use Rattle.receiver.proofs.Rows.{Ok}
-use Rattle.receiver.proofs.Values.{found-ok, sums-ok, turn-ok, done-ok, change-ok, swept-ok, opened-ok, placing-ok}
+use Rattle.receiver.proofs.Values.{found-ok, sums-ok, turn-ok, done-ok, change-ok, swept-ok, opened-ok, placing-ok, header-ok, asked-ok}
 
 pub at-ok : (i : ℕ) → i < 2 ^ 64 → found-ok (Found.At i)
 at-ok i g = Enum-laws.owes Found-type.the-type Found-laws.the-laws (Found.At i) ((refl, g), tt)
@@ -68,3 +74,19 @@ pub counted-ok : (c : Sums) → sums-ok c → swept-ok (Swept.Counted (c .resets
 counted-ok c g =
     let f = Struct-laws.owed Sums-type.the-type Sums-laws.the-laws c _ g in
     Enum-laws.owes Swept-type.the-type Swept-laws.the-laws (Swept.Counted (c .resets) (c .damaged)) ((refl, f .0 .1), ((refl, f .1 .0 .1), tt))
+
+-- what an arrival asks: its header and number
+pub asked-header : (h : Header) (number : ℕ) → asked-ok (Asked.For h number) → header-ok h
+asked-header h number g = Enum-laws.owed Asked-type.the-type Asked-laws.the-laws (Asked.For h number) _ g .0
+
+pub asked-number : (h : Header) (number : ℕ) → asked-ok (Asked.For h number) → number < 2 ^ 16
+asked-number h number g = Enum-laws.owed Asked-type.the-type Asked-laws.the-laws (Asked.For h number) _ g .1 .0 .1
+
+pub header-dest : (h : Header) → header-ok h → h .dest < 2 ^ 64
+header-dest h g = Struct-laws.owed Header-type.the-type Header-laws.the-laws h _ g .0 .1
+
+pub header-vlan : (h : Header) → header-ok h → h .vlan < 2 ^ 16
+header-vlan h g = Struct-laws.owed Header-type.the-type Header-laws.the-laws h _ g .1 .0 .1
+
+pub header-at : (h : Header) → header-ok h → h .at < 2 ^ 64
+header-at h g = Struct-laws.owed Header-type.the-type Header-laws.the-laws h _ g .1 .1 .0 .1

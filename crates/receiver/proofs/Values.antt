@@ -49,6 +49,18 @@ use Rattle.calls.proofs.Opened.Laws as Opened-laws
 use Rattle.calls.specs.declared.Placing.{Placing}
 use Rattle.calls.proofs.Placing as Placing-type
 use Rattle.calls.proofs.Placing.Laws as Placing-laws
+use Rattle.frame.specs.declared.Header.{Header}
+use Rattle.frame.proofs.Header as Header-type
+use Rattle.frame.proofs.Header.Laws as Header-laws
+use Rattle.calls.specs.declared.Asked.{Asked}
+use Rattle.calls.proofs.Asked as Asked-type
+use Rattle.calls.proofs.Asked.Laws as Asked-laws
+use Rattle.calls.specs.declared.Judged.{Judged}
+use Rattle.calls.proofs.Judged as Judged-type
+use Rattle.calls.proofs.Judged.Laws as Judged-laws
+use Rattle.calls.specs.declared.Answer.{Answer}
+use Rattle.calls.proofs.Answer as Answer-type
+use Rattle.calls.proofs.Answer.Laws as Answer-laws
 
 -- ---- Found
 abbrev pub found-row : RattleType
@@ -322,3 +334,111 @@ module _ {M : Type 1} (𝓤 : URA M) (H : Heap 𝓤) (A : Atoms 𝓤) (W : Given
 module _ {M : Type 1} {𝓤 : URA M} {H : Heap 𝓤} {A : Atoms 𝓤} {K : Type 0} {W : Given 𝓤 H A} {Γ : List (Item 𝓤)} {G : Goal 𝓤 H} where
   pub six-has : K → (v : Six) → six-ok v → Step K W (‵ (six-row .own v (six-val v ∷ [])) ∷ Γ) G Γ G
   six-has t v g = owned t six-row (Is six-row) (array-makes 𝓤 H A W u8 (uint-makes 𝓤 H A W w8) 6) v _ g
+
+-- ---- Header
+abbrev pub header-row : RattleType
+header-row = Header-type.the-row
+
+abbrev pub header-ty : Ty
+header-ty = Header-laws.mir
+
+abbrev pub header-val : Header → Val
+header-val = Struct-laws.val Header-type.the-type Header-laws.the-laws
+
+abbrev pub header-spells : Header → List Val
+header-spells = Struct-laws.vals Header-type.the-type Header-laws.the-laws
+
+pub header-tells : Tells header-row (Is header-row) header-spells
+header-tells = Struct-laws.tells Header-type.the-type Header-laws.the-laws
+
+abbrev pub header-ok : Header → Type 0
+header-ok v = Is header-row v (header-val v ∷ [])
+
+module _ {M : Type 1} (𝓤 : URA M) (H : Heap 𝓤) (A : Atoms 𝓤) (W : Given 𝓤 H A) where
+  pub header-typed : (v : Header) → header-ok v → T (hasTy header-ty (header-val v)) × WT (header-val v)
+  header-typed v g = Struct-laws.lawful Header-type.the-type Header-laws.the-laws 𝓤 H A W .typed v _ g .0
+
+module _ {M : Type 1} {𝓤 : URA M} {H : Heap 𝓤} {A : Atoms 𝓤} {K : Type 0} {W : Given 𝓤 H A} {Γ : List (Item 𝓤)} {G : Goal 𝓤 H} where
+  pub header-has : K → (v : Header) → header-ok v → Step K W (‵ (header-row .own v (header-val v ∷ [])) ∷ Γ) G Γ G
+  header-has t v g = owned t header-row (Is header-row) (Struct-laws.makes Header-type.the-type Header-laws.the-plain 𝓤 H A) v _ g
+
+-- ---- Asked
+abbrev pub asked-row : RattleType
+asked-row = Asked-type.the-row
+
+abbrev pub asked-ty : Ty
+asked-ty = Asked-laws.mir
+
+abbrev pub asked-val : Asked → Val
+asked-val = Enum-laws.val Asked-type.the-type Asked-laws.the-laws
+
+abbrev pub asked-spells : Asked → List Val
+asked-spells = Enum-laws.vals Asked-type.the-type Asked-laws.the-laws
+
+pub asked-tells : Tells asked-row (Is asked-row) asked-spells
+asked-tells = Enum-laws.tells Asked-type.the-type Asked-laws.the-laws
+
+abbrev pub asked-ok : Asked → Type 0
+asked-ok v = Is asked-row v (asked-val v ∷ [])
+
+module _ {M : Type 1} (𝓤 : URA M) (H : Heap 𝓤) (A : Atoms 𝓤) (W : Given 𝓤 H A) where
+  pub asked-typed : (v : Asked) → asked-ok v → T (hasTy asked-ty (asked-val v)) × WT (asked-val v)
+  asked-typed v g = Enum-laws.lawful Asked-type.the-type Asked-laws.the-laws 𝓤 H A W tt .typed v _ g .0
+
+module _ {M : Type 1} {𝓤 : URA M} {H : Heap 𝓤} {A : Atoms 𝓤} {K : Type 0} {W : Given 𝓤 H A} {Γ : List (Item 𝓤)} {G : Goal 𝓤 H} where
+  pub asked-has : K → (v : Asked) → asked-ok v → Step K W (‵ (asked-row .own v (asked-val v ∷ [])) ∷ Γ) G Γ G
+  asked-has t v g = owned t asked-row (Is asked-row) (Enum-laws.makes Asked-type.the-type Asked-laws.the-plain 𝓤 H A) v _ g
+
+-- ---- Judged
+abbrev pub judged-row : RattleType
+judged-row = Judged-type.the-row
+
+abbrev pub judged-ty : Ty
+judged-ty = Judged-laws.mir
+
+abbrev pub judged-val : Judged → Val
+judged-val = Enum-laws.val Judged-type.the-type Judged-laws.the-laws
+
+abbrev pub judged-spells : Judged → List Val
+judged-spells = Enum-laws.vals Judged-type.the-type Judged-laws.the-laws
+
+pub judged-tells : Tells judged-row (Is judged-row) judged-spells
+judged-tells = Enum-laws.tells Judged-type.the-type Judged-laws.the-laws
+
+abbrev pub judged-ok : Judged → Type 0
+judged-ok v = Is judged-row v (judged-val v ∷ [])
+
+module _ {M : Type 1} (𝓤 : URA M) (H : Heap 𝓤) (A : Atoms 𝓤) (W : Given 𝓤 H A) where
+  pub judged-typed : (v : Judged) → judged-ok v → T (hasTy judged-ty (judged-val v)) × WT (judged-val v)
+  judged-typed v g = Enum-laws.lawful Judged-type.the-type Judged-laws.the-laws 𝓤 H A W tt .typed v _ g .0
+
+module _ {M : Type 1} {𝓤 : URA M} {H : Heap 𝓤} {A : Atoms 𝓤} {K : Type 0} {W : Given 𝓤 H A} {Γ : List (Item 𝓤)} {G : Goal 𝓤 H} where
+  pub judged-has : K → (v : Judged) → judged-ok v → Step K W (‵ (judged-row .own v (judged-val v ∷ [])) ∷ Γ) G Γ G
+  judged-has t v g = owned t judged-row (Is judged-row) (Enum-laws.makes Judged-type.the-type Judged-laws.the-plain 𝓤 H A) v _ g
+
+-- ---- Answer
+abbrev pub answer-row : RattleType
+answer-row = Answer-type.the-row
+
+abbrev pub answer-ty : Ty
+answer-ty = Answer-laws.mir
+
+abbrev pub answer-val : Answer → Val
+answer-val = Enum-laws.val Answer-type.the-type Answer-laws.the-laws
+
+abbrev pub answer-spells : Answer → List Val
+answer-spells = Enum-laws.vals Answer-type.the-type Answer-laws.the-laws
+
+pub answer-tells : Tells answer-row (Is answer-row) answer-spells
+answer-tells = Enum-laws.tells Answer-type.the-type Answer-laws.the-laws
+
+abbrev pub answer-ok : Answer → Type 0
+answer-ok v = Is answer-row v (answer-val v ∷ [])
+
+module _ {M : Type 1} (𝓤 : URA M) (H : Heap 𝓤) (A : Atoms 𝓤) (W : Given 𝓤 H A) where
+  pub answer-typed : (v : Answer) → answer-ok v → T (hasTy answer-ty (answer-val v)) × WT (answer-val v)
+  answer-typed v g = Enum-laws.lawful Answer-type.the-type Answer-laws.the-laws 𝓤 H A W tt .typed v _ g .0
+
+module _ {M : Type 1} {𝓤 : URA M} {H : Heap 𝓤} {A : Atoms 𝓤} {K : Type 0} {W : Given 𝓤 H A} {Γ : List (Item 𝓤)} {G : Goal 𝓤 H} where
+  pub answer-has : K → (v : Answer) → answer-ok v → Step K W (‵ (answer-row .own v (answer-val v ∷ [])) ∷ Γ) G Γ G
+  answer-has t v g = owned t answer-row (Is answer-row) (Enum-laws.makes Answer-type.the-type Answer-laws.the-plain 𝓤 H A) v _ g

@@ -1,18 +1,24 @@
 // The table that the caller lends: a slice of stream records. Each function here is a thin walk over it; what is decided
 // of one record is decided by value in the crates below.
+pub use calls::Answer;
+use calls::Asked;
 pub use calls::Done;
 use calls::Found;
+use calls::Judged;
 pub use calls::Opened;
 use calls::Sums;
 use calls::Survey;
 pub use calls::Swept;
+pub use calls::Verdict;
 use record::Stream;
 ghost use mathlib.Core.Path.{_≡_};
 ghost use mathlib.Core.List.{[]};
-ghost use lib.ListN.{set};
+ghost use Prim.Native.Nat.{_<_};
+ghost use lib.ListN.{length, set};
+ghost use Rattle.calls.specs.Calls.{arriving, opening, closing, resetting, ticking, Meets};
+ghost use Rattle.calls.specs.Said.{saidArrival, saidOpened, saidDone, saidSwept};
+ghost use Rattle.calls.specs.Steps.{judged, recordOf};
 ghost use Rattle.calls.specs.Table.{at, found, hasKey, surveyed};
-ghost use Rattle.calls.specs.Calls.{opening, closing, resetting, ticking, Meets};
-ghost use Rattle.calls.specs.Said.{saidOpened, saidDone, saidSwept};
 ghost use Rattle.calls.specs.Ticks.{sums, tickedAll};
 
 // The lowest slot in use that has the key: the search stops at it and yields its place.
@@ -78,9 +84,37 @@ fn sweep(t: &mut [Stream]) -> Sums
     sums
 }
 
+// One record settled: what the arrival is to it, and the record after it. The record is read again on purpose: so no
+// counter is carried over the first step.
+fn settle(t: &mut [Stream], i: usize, network: u8, number: u16, room: bool) -> Judged
+    requires { ⌜ i < length (now t) ⌝ }
+    ensures { λ r. ⌜ (r ≡ judged (at (now (t .entry)) i) number room) × (now (t .exit) ≡ set (now (t .entry)) i (recordOf (at (now (t .entry)) i) network r)) ⌝ }
+{
+    let j = calls::judge(t[i], number, room);
+    t[i] = calls::record_after(t[i], network, j);
+    j
+}
+
 // ---- the calls
-// Open, close and reset copy out of the table, decide by value, and store: a refused call stores beyond the table, which
-// is nothing. What a call comes to is `Meets`, for every table and every input.
+// What a call comes to is `Meets`, for every table and every input. Open, close and reset copy a record out of the table,
+// decide by value, and store: a refused call stores beyond the table, which is nothing.
+
+// Arrival: 1 to 8. 1 to 5 are answered before the table is searched, and the room is known before anything is marked.
+pub fn arrival(t: &mut [Stream], network: u8, frame: &[u8], out: &mut [u8]) -> Answer
+    ensures { λ r. ⌜ Meets (now (t .entry)) (arriving network (now (frame .entry)) (now (out .entry))) (record { said = saidArrival r; table = now (t .exit); output = now (out .exit) }) ⌝ }
+{
+    let q = calls::ask(t.len(), network, frame);
+    let Asked::For(h, number) = q else {
+        return calls::refused(q);
+    };
+    let f = find(t, h.dest, h.vlan);
+    let Found::At(i) = f else {
+        return calls::unknown();
+    };
+    let room = calls::fits(frame, out);
+    let j = settle(t, i, network, number, room);
+    calls::finish(j, i, h.at, number, frame, out)
+}
 
 // Open: 1, 9, 10, 11. It fills the lowest free slot, closed ones included, with a fresh record, counters zero.
 pub fn open(t: &mut [Stream], dest: [u8; 6], vlan: u16, rule: u8, window: u16, time: u16) -> Opened
