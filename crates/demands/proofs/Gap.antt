@@ -1,19 +1,18 @@
 -- R ticks without a hand-up end in the fresh state. Assumes nothing.
-use Prim.Native.Nat.{ℕ, _≤_}
+use Prim.Native.Nat.{_≤_}
 use mathlib.Core.Path.{_≡_, refl, ap, sym, _∙_}
-use mathlib.Core.Bool.{Bool, true, false, _&&_, not, false≢true}
+use mathlib.Core.Bool.{true, false≢true}
 use mathlib.Core.List.{List, [], _∷_}
 use native.Mathlib.Omega.{arith}
 use Rattle.record.specs.declared.Stream.{Stream}
 use Rattle.record.specs.Words.{yes}
-use Rattle.stream.specs.Record.{State}
 use Rattle.stream.specs.Decisions.{isUp, stateAfter, caseOf, verdict, decided}
 use Rattle.stream.proofs.Logic.{tests}
 use Rattle.stream.proofs.Law.{Law, spent, fresh-parts}
 use Rattle.stream.proofs.Changes.{kept}
-use Rattle.stream.proofs.Keeps.{Aged, law-with, after-tick}
+use Rattle.stream.proofs.Keeps.{law-with, after-tick}
 use Rattle.demands.specs.Seen.{Seen, arrived, tick, ended, nothing, calm, every, ticks}
-use Rattle.demands.proofs.Moves.{Moves, Trace}
+use Rattle.demands.proofs.Moves.{Trace}
 
 -- Where the gap ends.
 pub record Over (s u : Stream) : Type 0 where
