@@ -67,8 +67,8 @@ unfoldable pub rogueRenews : Receiver
 rogueRenews = deciding verdict (λ s n network.
     if isRogue (verdict s n) then renewed (decided s n network) else decided s n network)
 
--- With the definitions' own decision the same function is the definitions' receiver: so each of them is wrong in nothing
--- but what its line says.
+-- With the definitions' own decision `deciding` meets the contract: so each receiver that is made by it is wrong in
+-- nothing but the decision that its line gives.
 abbrev pub RightOtherwise : Type 0
 RightOtherwise = MeetsContract (deciding verdict decided)
 
