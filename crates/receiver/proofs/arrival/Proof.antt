@@ -39,12 +39,13 @@ use denote.Triple.Table.{entered, cited}
 use denote.Triple.Walked.{says, Stays, stay-slice, stay-dropped, walkOf, goes-slice, goes-dropped, ends-at, walked, walk-meets}
 use denote.Exit.{yes}
 use Rattle.record.specs.declared.Stream.{Stream}
+use Rattle.refusal.specs.Checks.Said.{refused}
 use Rattle.refusal.specs.Numbers.{UNKNOWN}
 use Rattle.frame.specs.declared.Header.{Header}
 use Rattle.calls.specs.Calls as calls
 use Rattle.calls.specs.Said.{saidArrival}
 use Rattle.calls.specs.Table.{blank, found, hasKey}
-use Rattle.calls.specs.Steps.{saidAsked, asked, refusedAs, hasRoom, judged, recordOf, finished, bytesOf}
+use Rattle.calls.specs.Steps.{saidAsked, asked, refusalIn, hasRoom, judged, recordOf, finished, bytesOf}
 use Rattle.calls.specs.declared.Answer.{Answer}
 use Rattle.calls.specs.declared.Asked.{Asked}
 use Rattle.calls.specs.declared.Found.{Found}
@@ -174,7 +175,7 @@ module _ {M : Type 1} (𝓤 : URA M) (H : Heap 𝓤) (A : Atoms 𝓤) (W : Given
         searched : (f : Found) → found-ok f → f ≡ found (hasKey (h .dest) (h .vlan)) ys → Sq W (Searched f) (runs C Λ En mir′.t-7 (atRet En Post′))
         searched Found.Nothing g-f e =
             first ! $ switches-on ! (load ! (from ! (vrt ! refl (fld ! refl (stop !)))) (look-tag ! 32 (whole !))) $ exec ! C Λ En (arm-of 1 mir′.s-7) Then-8 $
-            calls-value {𝓤 = 𝓤} {H = H} {A = A} ! fm fn-unknown.ended (fn-unknown.clauses 𝓤 H A mem run) (known .unknown′) ((tt, tt, tt, tt, tt), tt) (qed W [] ∵ nothing ! $ nothing ! $ join ! $ frame ! $ done !) answer-val (λ r vs p. answer-tells r vs p) (λ (r : Answer). r ≡ Answer.Refused UNKNOWN) (λ r ws. id⊢ 𝓤 _) (no-more !) (λ r g-r said.
+            calls-value {𝓤 = 𝓤} {H = H} {A = A} ! fm fn-unknown.ended (fn-unknown.clauses 𝓤 H A mem run) (known .unknown′) ((tt, tt, tt, tt, tt), tt) (qed W [] ∵ nothing ! $ nothing ! $ join ! $ frame ! $ done !) answer-val (λ r vs p. answer-tells r vs p) (λ (r : Answer). saidArrival r ≡ refused UNKNOWN) (λ r ws. id⊢ 𝓤 _) (no-more !) (λ r g-r said.
             land ! (from ! (stop !)) (init ! 48 refl (answer-typed 𝓤 H A W r g-r)) $
             returns-within ! Post′ refl (look-cell ! 48 refl) $ forget ! 48 refl $ forget ! 46 refl $ forget ! 44 refl $ forget ! 42 refl $ forget ! 40 refl $ forget ! 38 refl $ forget ! 36 refl $ forget ! 34 refl $ forget ! 32 refl $
             move ! (48 ∷ 49 ∷ []) $ free1 ! $ move ! (46 ∷ 47 ∷ []) $ free1 ! $ move ! (44 ∷ 45 ∷ []) $ free1 ! $ move ! (42 ∷ 43 ∷ []) $ free1 ! $ move ! (40 ∷ 41 ∷ []) $ free1 ! $ move ! (38 ∷ 39 ∷ []) $ free1 ! $ move ! (36 ∷ 37 ∷ []) $ free1 ! $ move ! (34 ∷ 35 ∷ []) $ free1 ! $ move ! (32 ∷ 33 ∷ []) $ free1 ! $ move ! (30 ∷ 31 ∷ []) $ free1 ! $ move ! (28 ∷ 29 ∷ []) $ free1 ! $ move ! (26 ∷ 27 ∷ []) $ free1 ! $ move ! (24 ∷ 25 ∷ []) $ free1 ! $ move ! (22 ∷ 23 ∷ []) $ free1 ! $ move ! (20 ∷ 21 ∷ []) $ free1 ! $ move ! (18 ∷ 19 ∷ []) $ free1 ! $ move ! (16 ∷ 17 ∷ []) $ free1 ! $ move ! (14 ∷ 15 ∷ []) $ free1 ! $ move ! (12 ∷ 13 ∷ []) $ free1 ! $ move ! (10 ∷ 11 ∷ []) $ free1 ! $ move ! (8 ∷ 9 ∷ []) $ free1 ! $ free0 ! $ keep ! (0 ∷ 1 ∷ 2 ∷ 4 ∷ 5 ∷ 6 ∷ 7 ∷ []) $ by ! (exits g-ys ys refl g-us us refl r g-r (arrival-unknown ys network fr us p refl r (sym e) said)))
@@ -208,7 +209,7 @@ module _ {M : Type 1} (𝓤 : URA M) (H : Heap 𝓤) (A : Atoms 𝓤) (W : Given
       questioned : (q′ : Asked) → asked-ok q′ → saidAsked q′ ≡ asked (length ys) network fr → Sq W (Known-1 q′) (runs C Λ En mir′.t-3 (atRet En Post′))
       questioned (Asked.Refused k) g-q p =
           first ! $ switches-on ! (load ! (from ! (vrt ! refl (fld ! refl (stop !)))) (look-tag ! 38 (whole !))) $ exec ! C Λ En (arm-of 1 mir′.s-3) Then-4 $
-          calls-value {𝓤 = 𝓤} {H = H} {A = A} ! fm fn-refused.ended (fn-refused.clauses 𝓤 H A mem run) (known .refused′) ((tt, tt, tt, ((Asked.Refused k), tt), (asked-val (Asked.Refused k) ∷ [], tt)), tt) (qed W [] ∵ nothing ! $ asked-has ! (Asked.Refused k) g-q $ fjoin ! $ nothing ! $ join ! $ frame ! $ done !) answer-val (λ r vs p. answer-tells r vs p) (λ (r : Answer). r ≡ refusedAs (Asked.Refused k)) (λ r ws. id⊢ 𝓤 _) (and-then ! (load ! (from ! (stop !)) (look-cell ! 39 refl)) (no-more !)) (λ r g-r said.
+          calls-value {𝓤 = 𝓤} {H = H} {A = A} ! fm fn-refused.ended (fn-refused.clauses 𝓤 H A mem run) (known .refused′) ((tt, tt, tt, ((Asked.Refused k), tt), (asked-val (Asked.Refused k) ∷ [], tt)), tt) (qed W [] ∵ nothing ! $ asked-has ! (Asked.Refused k) g-q $ fjoin ! $ nothing ! $ join ! $ frame ! $ done !) answer-val (λ r vs p. answer-tells r vs p) (λ (r : Answer). saidArrival r ≡ refused (refusalIn (Asked.Refused k))) (λ r ws. id⊢ 𝓤 _) (and-then ! (load ! (from ! (stop !)) (look-cell ! 39 refl)) (no-more !)) (λ r g-r said.
           land ! (from ! (stop !)) (init ! 48 refl (answer-typed 𝓤 H A W r g-r)) $
           returns-within ! Post′ refl (look-cell ! 48 refl) $ forget ! 48 refl $ forget ! 46 refl $ forget ! 44 refl $ forget ! 42 refl $ forget ! 40 refl $ forget ! 38 refl $
           move ! (48 ∷ 49 ∷ []) $ free1 ! $ move ! (46 ∷ 47 ∷ []) $ free1 ! $ move ! (44 ∷ 45 ∷ []) $ free1 ! $ move ! (42 ∷ 43 ∷ []) $ free1 ! $ move ! (40 ∷ 41 ∷ []) $ free1 ! $ move ! (38 ∷ 39 ∷ []) $ free1 ! $ move ! (36 ∷ 37 ∷ []) $ free1 ! $ move ! (34 ∷ 35 ∷ []) $ free1 ! $ move ! (32 ∷ 33 ∷ []) $ free1 ! $ move ! (30 ∷ 31 ∷ []) $ free1 ! $ move ! (28 ∷ 29 ∷ []) $ free1 ! $ move ! (26 ∷ 27 ∷ []) $ free1 ! $ move ! (24 ∷ 25 ∷ []) $ free1 ! $ move ! (22 ∷ 23 ∷ []) $ free1 ! $ move ! (20 ∷ 21 ∷ []) $ free1 ! $ move ! (18 ∷ 19 ∷ []) $ free1 ! $ move ! (16 ∷ 17 ∷ []) $ free1 ! $ move ! (14 ∷ 15 ∷ []) $ free1 ! $ move ! (12 ∷ 13 ∷ []) $ free1 ! $ move ! (10 ∷ 11 ∷ []) $ free1 ! $ move ! (8 ∷ 9 ∷ []) $ free1 ! $ free0 ! $ keep ! (0 ∷ 1 ∷ 2 ∷ 4 ∷ 5 ∷ 6 ∷ 7 ∷ []) $ by ! (exits g-ys ys refl g-us us refl r g-r (arrival-refused ys network fr us r p refl said)))
