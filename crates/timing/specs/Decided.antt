@@ -1,5 +1,5 @@
--- Document 01, "Decisions": one decision and a row of them, as the benchmark has them made. Assumes nothing.
-use Prim.Native.Nat.{ℕ, zero, suc, _+_, _%_}
+-- Document 01, "Decisions": one decision, as the benchmark has it made. Assumes nothing.
+use Prim.Native.Nat.{ℕ}
 use Rattle.record.specs.declared.Stream.{Stream}
 use Rattle.stream.specs.declared.Weighed.{Weighed}
 use Rattle.stream.specs.declared.Weighed.the-variants.{Damaged, HandedUp, Duplicate, Rogue}
@@ -13,14 +13,6 @@ tell (HandedUp m) = 1
 tell Duplicate = 2
 tell Rogue = 3
 
--- The record after an arrival.
-abbrev pub after : Stream → (number network : ℕ) → Stream
-after s number network = recordAfter s network (weighed s number)
-
+-- The record after an arrival, and what the arrival was to it.
 abbrev pub decidedOf : Stream → (number network : ℕ) → Decided
-decidedOf s number network = record { stream = after s number network; verdict = tell (weighed s number) }
-
--- The record after so many arrivals, each with a number that is `step` beyond the last one's, modulo 65536.
-unfoldable pub inRow : (times : ℕ) → Stream → (number step network : ℕ) → Stream
-inRow zero s number step network = s
-inRow (suc times) s number step network = inRow times (after s number network) ((number + step) % 65536) step network
+decidedOf s number network = record { stream = recordAfter s network (weighed s number); verdict = tell (weighed s number) }

@@ -1,8 +1,9 @@
 // The decision on one record, exported for the benchmark alone: what `stream::weigh` and `stream::next` give, by value.
+// A row of decisions has a crate of its own: with two callers in one archive `weigh` would no longer be inlined.
 use record::Stream;
 use stream::Weighed;
 ghost use mathlib.Core.Path.{_≡_};
-ghost use Rattle.timing.specs.Decided.{tell, decidedOf, inRow};
+ghost use Rattle.timing.specs.Decided.{tell, decidedOf};
 
 // The record after an arrival, and what the arrival was to it.
 #[repr(C)]
@@ -34,21 +35,4 @@ pub extern "C" fn timing_decide(s: Stream, number: u16, network: u8) -> Decided
         stream: stream::next(s, network, w),
         verdict,
     }
-}
-
-// So many arrivals in a row on one network, each with a number that is `step` beyond the last one's.
-#[no_mangle]
-pub extern "C" fn timing_row(s: Stream, number: u16, step: u16, network: u8, times: u64) -> Stream
-    ensures { λ r. ⌜ r ≡ inRow times s number step network ⌝ }
-{
-    let mut t = s;
-    let mut n = number;
-    let mut left = times;
-    while left > 0 {
-        let w = stream::weigh(t, n);
-        t = stream::next(t, network, w);
-        n = std::num::wrapping_add_u16(n, step);
-        left -= 1;
-    }
-    t
 }

@@ -2,7 +2,7 @@
 use mathlib.Core.Path.{_≡_, ap, _∙_}
 use borrow.Author.Needs.{needs}
 use Rattle.stream.specs.Steps.{weighed, recordAfter}
-use Rattle.timing.specs.Decided.{tell, after}
+use Rattle.timing.specs.Decided.{tell}
 use Rattle.timing.proofs.timing_decide.Statement.{statement}
 use Rattle.timing.proofs.timing_decide.Tie as tie
 
@@ -19,7 +19,7 @@ returns : tie.Need-returns
 returns c =
     let e = c .before .before .weigh .ensures in
     let args = c .before .before .before .args in
-    let p : c .next .result ≡ after (args .s) (args .number) (args .network) =
+    let p : c .next .result ≡ recordAfter (args .s) (args .network) (weighed (args .s) (args .number)) =
     c .next .ensures ∙ ap (recordAfter (args .s) (args .network)) e in
     let q : c .before .tell .result ≡ tell (weighed (args .s) (args .number)) = c .before .tell .ensures ∙ ap tell e in
     λ i. record { stream = p i; verdict = q i }

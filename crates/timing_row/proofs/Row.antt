@@ -3,7 +3,7 @@ use Prim.Native.Nat.{ℕ, zero, suc, _+_, _-_, _%_, _<_}
 use mathlib.Core.Path.{_≡_, refl}
 use native.Mathlib.Omega.{arith}
 use Rattle.record.specs.declared.Stream.{Stream}
-use Rattle.timing.specs.Decided.{after, inRow}
+use Rattle.timing_row.specs.Row.{after, inRow}
 
 module _ (s : Stream) (number step network : ℕ) where
   pub row-none : (times : ℕ) → times ≡ 0 → inRow times s number step network ≡ s

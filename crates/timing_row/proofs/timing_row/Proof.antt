@@ -1,14 +1,14 @@
--- `timing::timing_row` meets its contract. The loop's invariant: the decisions that are left, made on the record as it is
+-- `timing_row::timing_row` meets its contract. The loop's invariant: the decisions that are left, made on the record as it is
 -- now, end where all of them end that are made on the first one. Assumes nothing.
 use Prim.Native.Nat.{_-_}
 use mathlib.Core.Path.{_≡_, refl, ap, sym, _∙_}
 use native.Mathlib.Omega.{arith}
 use borrow.Author.Needs.{needs}
 use Rattle.stream.specs.Steps.{recordAfter}
-use Rattle.timing.specs.Decided.{after, inRow}
-use Rattle.timing.proofs.Row.{row-none, row-first}
-use Rattle.timing.proofs.timing_row.Statement.{statement}
-use Rattle.timing.proofs.timing_row.Tie as tie
+use Rattle.timing_row.specs.Row.{after, inRow}
+use Rattle.timing_row.proofs.Row.{row-none, row-first}
+use Rattle.timing_row.proofs.timing_row.Statement.{statement}
+use Rattle.timing_row.proofs.timing_row.Tie as tie
 
 abbrev Inv-loop : tie.InvT-loop
 Inv-loop number step network times t₀ n₀ left₀ t n left = inRow left t n step network ≡ inRow left₀ t₀ n₀ step network
