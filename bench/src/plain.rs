@@ -1,5 +1,5 @@
 //! The plain side: the same calls in safe Rust, written from document 01 alone. Each is kept a call of its own, as the
-//! archive's are, so that both sides pay for one.
+//! archive's are, so that both sides pay for one, and has C's convention, by which the answer comes back in registers.
 use crate::record::{Decided, Stream, TagAnswer, DAMAGED, DUPLICATE, HANDED_UP, ROGUE};
 
 const FRAME_MOST: usize = 2000;
@@ -44,7 +44,8 @@ fn taken(frame: &[u8], at: usize, out: &mut [u8]) -> TagAnswer {
 }
 
 #[inline(never)]
-pub fn take_tag(frame: &[u8], out: &mut [u8]) -> TagAnswer {
+#[allow(improper_ctypes_definitions)]
+pub extern "C" fn take_tag(frame: &[u8], out: &mut [u8]) -> TagAnswer {
     if frame.len() > FRAME_MOST {
         return refused(LONG);
     }
@@ -80,7 +81,8 @@ fn written(frame: &[u8], at: usize, number: u16, out: &mut [u8]) -> TagAnswer {
 }
 
 #[inline(never)]
-pub fn write_tag(frame: &[u8], number: u16, out: &mut [u8]) -> TagAnswer {
+#[allow(improper_ctypes_definitions)]
+pub extern "C" fn write_tag(frame: &[u8], number: u16, out: &mut [u8]) -> TagAnswer {
     if frame.len() > UNTAGGED_MOST {
         return refused(LONG);
     }
