@@ -1,0 +1,190 @@
+//! What is timed: each cell has the same calls on both sides.
+use crate::record::{State, Stream};
+use crate::{plain, proved};
+
+/// Makes so many calls and gives a sum of what they answered.
+pub type Work = Box<dyn FnMut(u64) -> u64>;
+
+pub struct Cell {
+    pub name: String,
+    pub aim: f64,
+    /// How many decisions or tag calls one call is.
+    pub each: u64,
+    pub plain: Work,
+    pub proved: Work,
+}
+
+/// A value that the compiler knows nothing of.
+fn hidden<T: Copy>(x: T) -> T {
+    unsafe { std::ptr::read_volatile(&x) }
+}
+
+fn frame(size: usize, vlan: bool, tagged: bool) -> Vec<u8> {
+    let mut f: Vec<u8> = (0..size).map(|i| (i * 7 + 1) as u8).collect();
+    let mut at = 12;
+    if vlan {
+        f[12..16].copy_from_slice(&[0x81, 0x00, 0x20, 0x05]);
+        at = 16;
+    }
+    if tagged {
+        f[at..at + 6].copy_from_slice(&[0xF1, 0xC1, 0, 0, 0x12, 0x34]);
+    }
+    let kind = if tagged { at + 6 } else { at };
+    f[kind..kind + 2].copy_from_slice(&[0x08, 0x00]);
+    f
+}
+
+macro_rules! taking {
+    ($side:ident, $size:expr, $vlan:expr) => {{
+        let f = frame($size, $vlan, true);
+        let mut out = vec![0u8; 2000];
+        Box::new(move |calls| {
+            let mut sum = 0u64;
+            for _ in 0..calls {
+                let r = $side::take_tag(hidden(&f[..]), &mut out);
+                sum = sum.wrapping_add(r.length as u64 + r.number as u64 + r.refusal as u64);
+            }
+            sum.wrapping_add(out[$size - 7] as u64)
+        })
+    }};
+}
+
+macro_rules! writing {
+    ($side:ident, $size:expr, $vlan:expr) => {{
+        let f = frame($size, $vlan, false);
+        let mut out = vec![0u8; 2000];
+        Box::new(move |calls| {
+            let mut sum = 0u64;
+            for n in 0..calls {
+                let r = $side::write_tag(hidden(&f[..]), n as u16, &mut out);
+                sum = sum.wrapping_add(r.length as u64 + r.number as u64 + r.refusal as u64);
+            }
+            sum.wrapping_add(out[$size + 5] as u64)
+        })
+    }};
+}
+
+fn tag_cells(cells: &mut Vec<Cell>) {
+    for &vlan in &[false, true] {
+        for &size in &[64usize, 256, 1500] {
+            let with = if vlan { "-vlan" } else { "" };
+            let plain: Work = taking!(plain, size, vlan);
+            let proved: Work = taking!(proved, size, vlan);
+            cells.push(Cell { name: format!("take-{}{}", size, with), aim: 1.1, each: 1, plain, proved });
+        }
+    }
+    for &vlan in &[false, true] {
+        for &size in &[64usize, 256, 1500] {
+            let with = if vlan { "-vlan" } else { "" };
+            let plain: Work = writing!(plain, size, vlan);
+            let proved: Work = writing!(proved, size, vlan);
+            cells.push(Cell { name: format!("write-{}{}", size, with), aim: 1.1, each: 1, plain, proved });
+        }
+    }
+}
+
+/// A record without take-any, in the middle of its life.
+fn record(rule: u8) -> Stream {
+    Stream {
+        dest: 0x0200_0000_0001,
+        vlan: 5,
+        window: 64,
+        time: 100,
+        rule,
+        used: 1,
+        state: State { history: if rule == 1 { 0x5555_5555_5555_5555 } else { 0 }, anchor: 65000, remaining: 100, any: 0 },
+        ..Stream::default()
+    }
+}
+
+macro_rules! by_value {
+    ($side:ident, $rule:expr, $d:expr) => {{
+        let mut s = record($rule);
+        let mut n = s.state.anchor;
+        Box::new(move |calls| {
+            let d = hidden($d);
+            let mut sum = 0u64;
+            for _ in 0..calls {
+                n = n.wrapping_add(d);
+                let r = $side::decide(s, n, 0);
+                s = r.stream;
+                sum = sum.wrapping_add(r.verdict as u64);
+            }
+            sum.wrapping_add(s.counts.lost)
+        })
+    }};
+}
+
+fn by_reference(rule: u8, d: u16) -> Work {
+    let mut s = record(rule);
+    let mut n = s.state.anchor;
+    Box::new(move |calls| {
+        let d = hidden(d);
+        let mut sum = 0u64;
+        for _ in 0..calls {
+            n = n.wrapping_add(d);
+            sum = sum.wrapping_add(plain::decide_at(&mut s, n, 0) as u64);
+        }
+        sum.wrapping_add(s.counts.lost)
+    })
+}
+
+/// How many decisions one call of a row makes.
+const ROW: u64 = 1000;
+
+macro_rules! in_row {
+    ($side:ident, $rule:expr, $d:expr) => {{
+        let mut s = record($rule);
+        let mut n = s.state.anchor.wrapping_add($d);
+        Box::new(move |calls| {
+            let d = hidden($d);
+            for _ in 0..calls {
+                s = $side::row(s, n, d, 0, ROW);
+                n = n.wrapping_add(d.wrapping_mul(ROW as u16));
+            }
+            s.counts.lost.wrapping_add(s.counts.passed)
+        })
+    }};
+}
+
+fn in_row_by_reference(rule: u8, d: u16) -> Work {
+    let mut s = record(rule);
+    let mut n = s.state.anchor.wrapping_add(d);
+    Box::new(move |calls| {
+        let d = hidden(d);
+        for _ in 0..calls {
+            plain::row_at(&mut s, n, d, 0, ROW);
+            n = n.wrapping_add(d.wrapping_mul(ROW as u16));
+        }
+        s.counts.lost.wrapping_add(s.counts.passed)
+    })
+}
+
+fn decision_cells(cells: &mut Vec<Cell>) {
+    // The arrival, the rule, and d.
+    let arrivals: [(&str, u8, u16); 5] =
+        [("new", 1, 1), ("duplicate", 1, 0), ("gap63", 1, 63), ("match-new", 2, 1), ("match-duplicate", 2, 0)];
+    for &(name, rule, d) in &arrivals {
+        let (plain, proved): (Work, Work) = (by_value!(plain, rule, d), by_value!(proved, rule, d));
+        cells.push(Cell { name: format!("decide-{}", name), aim: 1.0, each: 1, plain, proved });
+    }
+    for &(name, rule, d) in &arrivals {
+        let (plain, proved): (Work, Work) = (by_reference(rule, d), by_value!(proved, rule, d));
+        cells.push(Cell { name: format!("decide-{}-reference", name), aim: 1.0, each: 1, plain, proved });
+    }
+    for &(name, rule, d) in &arrivals {
+        let (plain, proved): (Work, Work) = (in_row!(plain, rule, d), in_row!(proved, rule, d));
+        cells.push(Cell { name: format!("row-{}", name), aim: 1.0, each: ROW, plain, proved });
+    }
+    for &(name, rule, d) in &arrivals {
+        let (plain, proved): (Work, Work) = (in_row_by_reference(rule, d), in_row!(proved, rule, d));
+        cells.push(Cell { name: format!("row-{}-reference", name), aim: 1.0, each: ROW, plain, proved });
+    }
+}
+
+pub fn all() -> Vec<Cell> {
+    let mut cells = Vec::new();
+    tag_cells(&mut cells);
+    decision_cells(&mut cells);
+    cells
+}

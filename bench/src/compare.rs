@@ -1,0 +1,272 @@
+//! Both sides on many random inputs: answers, records and every output byte must be equal. Each answer that there is must
+//! have come up, or the inputs have shown too little.
+use crate::record::{Counts, State, Stream, TagAnswer};
+use crate::{plain, proved};
+
+/// A small generator of random numbers (xorshift), the same at every run.
+pub struct Dice(u64);
+
+impl Dice {
+    pub fn new() -> Dice {
+        Dice(0x9E37_79B9_7F4A_7C15)
+    }
+
+    pub fn next(&mut self) -> u64 {
+        self.0 ^= self.0 << 13;
+        self.0 ^= self.0 >> 7;
+        self.0 ^= self.0 << 17;
+        self.0
+    }
+
+    pub fn below(&mut self, n: u64) -> u64 {
+        (self.next() >> 11) % n
+    }
+
+    fn one_in(&mut self, n: u64) -> bool {
+        self.below(n) == 0
+    }
+}
+
+/// The cases with what the plain side made of them, for another program to hold the archives to.
+pub struct Cases(pub Option<Vec<u8>>);
+
+impl Cases {
+    fn add(&mut self, parts: &[&[u8]]) {
+        if let Some(kept) = &mut self.0 {
+            for part in parts {
+                kept.extend_from_slice(part);
+            }
+        }
+    }
+
+    fn add_tag(&mut self, kind: u8, f: &[u8], number: u16, before: &[u8], r: TagAnswer, after: &[u8]) {
+        self.add(&[
+            &[kind],
+            &(f.len() as u32).to_le_bytes(),
+            &(before.len() as u32).to_le_bytes(),
+            &number.to_le_bytes(),
+            f,
+            before,
+            &(r.length as u64).to_le_bytes(),
+            &r.number.to_le_bytes(),
+            &[r.refusal],
+            after,
+        ]);
+    }
+}
+
+/// A record as it lies in memory, its padding zero.
+fn bytes(s: &Stream) -> Vec<u8> {
+    let mut b = Vec::with_capacity(96);
+    b.extend_from_slice(&s.dest.to_le_bytes());
+    for x in [s.vlan, s.window, s.time] {
+        b.extend_from_slice(&x.to_le_bytes());
+    }
+    b.extend_from_slice(&[s.rule, s.used]);
+    b.extend_from_slice(&s.state.history.to_le_bytes());
+    b.extend_from_slice(&s.state.anchor.to_le_bytes());
+    b.extend_from_slice(&s.state.remaining.to_le_bytes());
+    b.extend_from_slice(&[s.state.any, 0, 0, 0]);
+    let c = &s.counts;
+    for x in [c.arrivals0, c.arrivals1, c.passed, c.discarded, c.rogue, c.disorder, c.lost, c.resets] {
+        b.extend_from_slice(&x.to_le_bytes());
+    }
+    b
+}
+
+fn wrong(what: &str, case: u64) -> String {
+    format!("DIFFERENT: {} at random case {}", what, case)
+}
+
+fn all_seen(what: &str, seen: &[u64], wanted: &[usize]) -> Result<(), String> {
+    for &n in wanted {
+        if seen[n] == 0 {
+            return Err(format!("{}: answer {} never came up", what, n));
+        }
+    }
+    Ok(())
+}
+
+/// A random frame: short, long or too long; with and without 8100 and F1C1, at the places that count and at others.
+fn frame(dice: &mut Dice, pool: &[u8]) -> Vec<u8> {
+    let length = match dice.below(8) {
+        0 => dice.below(26),
+        1 => 1988 + dice.below(20),
+        2 => dice.below(2100),
+        3 => 64,
+        _ => 14 + dice.below(300),
+    } as usize;
+    let from = dice.below((pool.len() - length) as u64) as usize;
+    let mut f = pool[from..from + length].to_vec();
+    let mut put = |at: usize, bytes: [u8; 2]| {
+        if at + 2 <= length {
+            f[at..at + 2].copy_from_slice(&bytes);
+        }
+    };
+    let vlan = dice.one_in(2);
+    if vlan {
+        put(12, [0x81, 0x00]);
+    }
+    let at = if vlan { 16 } else { 12 };
+    match dice.below(5) {
+        0 => put(at, [0x81, 0x00]),
+        1 => {}
+        _ => put(at, [0xF1, 0xC1]),
+    }
+    if dice.one_in(2) {
+        put(at + 2, [0, 0]);
+    }
+    match dice.below(4) {
+        0 => put(at + 6, [0x81, 0x00]),
+        1 => put(at + 6, [0xF1, 0xC1]),
+        _ => {}
+    }
+    f
+}
+
+pub fn tags(cases: u64, kept: &mut Cases) -> Result<u64, String> {
+    let mut dice = Dice::new();
+    let pool: Vec<u8> = (0..10_000).map(|_| dice.next() as u8).collect();
+    let mut taken = [0u64; 256];
+    let mut written = [0u64; 256];
+    for case in 0..cases {
+        let f = frame(&mut dice, &pool);
+        let number = dice.next() as u16;
+        let room = match dice.below(6) {
+            0 => f.len().saturating_sub(7),
+            1 => f.len().saturating_sub(6),
+            2 => f.len() + 5,
+            3 => f.len() + 6,
+            4 => dice.below(2100) as usize,
+            _ => 2100,
+        };
+        let from = dice.below((pool.len() - room) as u64) as usize;
+        let start = &pool[from..from + room];
+        let (mut a, mut b) = (start.to_vec(), start.to_vec());
+        let (x, y) = (plain::take_tag(&f, &mut a), proved::take_tag(&f, &mut b));
+        if x != y || a != b {
+            return Err(wrong("take a tag out", case));
+        }
+        taken[x.refusal as usize] += 1;
+        kept.add_tag(1, &f, number, start, x, &a);
+        a.copy_from_slice(start);
+        b.copy_from_slice(start);
+        let (x, y) = (plain::write_tag(&f, number, &mut a), proved::write_tag(&f, number, &mut b));
+        if x != y || a != b {
+            return Err(wrong("write a tag", case));
+        }
+        written[x.refusal as usize] += 1;
+        kept.add_tag(2, &f, number, start, x, &a);
+    }
+    all_seen("take a tag out", &taken, &[0, 3, 4, 5, 8])?;
+    all_seen("write a tag", &written, &[0, 3, 4, 8, 13])?;
+    Ok(2 * cases)
+}
+
+/// A random record: most often lawful, in all states; else damaged in one way or in all.
+fn record(dice: &mut Dice) -> Stream {
+    let window = match dice.below(4) {
+        0 => 64,
+        1 => 2,
+        _ => 2 + dice.below(63) as u16,
+    };
+    let time = 1 + dice.below(65535) as u16;
+    let rule = 1 + dice.below(2) as u8;
+    let mut history = dice.next() | dice.next() & dice.next();
+    if dice.one_in(2) {
+        history &= dice.next();
+    }
+    history = history >> (64 - window) | 1;
+    let mut s = Stream {
+        dest: dice.next(),
+        vlan: dice.below(4095) as u16,
+        window,
+        time,
+        rule,
+        used: 1 + dice.below(255) as u8,
+        state: State {
+            history: if rule == 1 { history } else { 0 },
+            anchor: dice.next() as u16,
+            remaining: 1 + dice.below(time as u64) as u16,
+            any: 0,
+        },
+        counts: Counts {
+            arrivals0: dice.next(),
+            arrivals1: dice.next(),
+            passed: dice.next(),
+            discarded: dice.next(),
+            rogue: dice.next(),
+            disorder: dice.next(),
+            lost: u64::MAX - dice.below(40),
+            resets: dice.next(),
+        },
+    };
+    if dice.one_in(8) {
+        s.state = State { history: 0, anchor: 65535, remaining: 0, any: 1 + dice.below(255) as u8 };
+    }
+    if dice.one_in(20) {
+        s.counts.passed = u64::MAX;
+        s.counts.arrivals1 = u64::MAX;
+    }
+    match dice.below(40) {
+        0 => s.used = 0,
+        1 => s.rule = dice.next() as u8,
+        2 => s.window = dice.next() as u16,
+        3 => s.time = dice.below(3) as u16,
+        4 => s.vlan = dice.next() as u16,
+        5 => s.state.any = dice.below(3) as u8,
+        6 => s.state.remaining = dice.below(2) as u16,
+        7 => s.state.history = dice.next(),
+        8 => s.window = 65,
+        9 => s.window = 1,
+        10 => s.state.remaining = s.time.wrapping_add(1),
+        11 => s.state.anchor = 65534,
+        _ => {}
+    }
+    s
+}
+
+pub fn decisions(cases: u64, kept: &mut Cases) -> Result<u64, String> {
+    let mut dice = Dice::new();
+    let mut seen = [0u64; 4];
+    for case in 0..cases {
+        let s = record(&mut dice);
+        let near = dice.below(140) as u16;
+        let number = match dice.below(8) {
+            0 => dice.next() as u16,
+            1 => s.state.anchor.wrapping_add(32768),
+            2 => s.state.anchor.wrapping_add(s.window),
+            3 => s.state.anchor.wrapping_sub(s.window),
+            _ => s.state.anchor.wrapping_add(near).wrapping_sub(70),
+        };
+        let network = match dice.below(5) {
+            0 => dice.next() as u8,
+            n => (n % 2) as u8,
+        };
+        let x = plain::decide(s, number, network);
+        let y = proved::decide(s, number, network);
+        let mut t = s;
+        let z = plain::decide_at(&mut t, number, network);
+        if x != y || x.stream != t || x.verdict != z {
+            return Err(wrong("one decision", case));
+        }
+        seen[x.verdict as usize] += 1;
+        kept.add(&[&[3], &bytes(&s), &number.to_le_bytes(), &[network], &bytes(&x.stream), &[x.verdict]]);
+        let step = match dice.below(4) {
+            0 => 1,
+            1 => 63,
+            2 => 0,
+            _ => dice.next() as u16,
+        };
+        let times = dice.below(20);
+        let r = plain::row(s, number, step, network, times);
+        let mut t = s;
+        plain::row_at(&mut t, number, step, network, times);
+        if r != proved::row(s, number, step, network, times) || r != t {
+            return Err(wrong("decisions in a row", case));
+        }
+        kept.add(&[&[4], &bytes(&s), &number.to_le_bytes(), &step.to_le_bytes(), &[network], &times.to_le_bytes(), &bytes(&r)]);
+    }
+    all_seen("one decision", &seen, &[0, 1, 2, 3])?;
+    Ok(2 * cases)
+}

@@ -1,0 +1,211 @@
+//! The plain side: the same calls in safe Rust, written from document 01 alone. Each is kept a call of its own, as the
+//! archive's are, so that both sides pay for one, and has C's convention, by which the answer comes back in registers.
+use crate::record::{Decided, Stream, TagAnswer, DAMAGED, DUPLICATE, HANDED_UP, ROGUE};
+
+const FRAME_MOST: usize = 2000;
+const UNTAGGED_MOST: usize = 1994;
+const VLAN_TAG: u16 = 0x8100;
+const TAG: u16 = 0xF1C1;
+const LONG: u8 = 3;
+const SHORT: u8 = 4;
+const UNTAGGED: u8 = 5;
+const ROOM: u8 = 8;
+const TAGGED: u8 = 13;
+
+fn word(s: &[u8], at: usize) -> u16 {
+    u16::from_be_bytes([s[at], s[at + 1]])
+}
+
+fn refused(refusal: u8) -> TagAnswer {
+    TagAnswer { length: 0, number: 0, refusal }
+}
+
+/// The place of the type field; None for a frame that is short.
+fn type_place(frame: &[u8]) -> Option<usize> {
+    if frame.len() < 14 {
+        return None;
+    }
+    if word(frame, 12) != VLAN_TAG {
+        return Some(12);
+    }
+    if frame.len() < 18 {
+        return None;
+    }
+    Some(16)
+}
+
+// With the place as a constant the front's copy is a few moves and no call. This makes the plain side faster.
+#[inline(always)]
+fn taken(frame: &[u8], at: usize, out: &mut [u8]) -> TagAnswer {
+    let length = frame.len() - 6;
+    out[..at].copy_from_slice(&frame[..at]);
+    out[at..length].copy_from_slice(&frame[at + 6..]);
+    TagAnswer { length, number: word(frame, at + 4), refusal: 0 }
+}
+
+#[inline(never)]
+#[allow(improper_ctypes_definitions)]
+pub extern "C" fn take_tag(frame: &[u8], out: &mut [u8]) -> TagAnswer {
+    if frame.len() > FRAME_MOST {
+        return refused(LONG);
+    }
+    let at = match type_place(frame) {
+        Some(at) => at,
+        None => return refused(SHORT),
+    };
+    if word(frame, at) != TAG {
+        return refused(UNTAGGED);
+    }
+    if frame.len() < at + 8 {
+        return refused(SHORT);
+    }
+    if out.len() < frame.len() - 6 {
+        return refused(ROOM);
+    }
+    if at == 12 {
+        taken(frame, 12, out)
+    } else {
+        taken(frame, 16, out)
+    }
+}
+
+#[inline(always)]
+fn written(frame: &[u8], at: usize, number: u16, out: &mut [u8]) -> TagAnswer {
+    let length = frame.len() + 6;
+    out[..at].copy_from_slice(&frame[..at]);
+    out[at..at + 2].copy_from_slice(&TAG.to_be_bytes());
+    out[at + 2..at + 4].copy_from_slice(&[0, 0]);
+    out[at + 4..at + 6].copy_from_slice(&number.to_be_bytes());
+    out[at + 6..length].copy_from_slice(&frame[at..]);
+    TagAnswer { length, number, refusal: 0 }
+}
+
+#[inline(never)]
+#[allow(improper_ctypes_definitions)]
+pub extern "C" fn write_tag(frame: &[u8], number: u16, out: &mut [u8]) -> TagAnswer {
+    if frame.len() > UNTAGGED_MOST {
+        return refused(LONG);
+    }
+    let at = match type_place(frame) {
+        Some(at) => at,
+        None => return refused(SHORT),
+    };
+    if word(frame, at) == TAG {
+        return refused(TAGGED);
+    }
+    if out.len() < frame.len() + 6 {
+        return refused(ROOM);
+    }
+    if at == 12 {
+        written(frame, 12, number, out)
+    } else {
+        written(frame, 16, number, out)
+    }
+}
+
+fn lawful(s: &Stream) -> bool {
+    if s.used == 0 || (s.rule != 1 && s.rule != 2) || s.window < 2 || s.window > 64 || s.time == 0 || s.vlan > 4094 {
+        return false;
+    }
+    let t = &s.state;
+    if t.remaining > s.time || (t.remaining == 0) != (t.any != 0) {
+        return false;
+    }
+    if t.any != 0 {
+        return t.anchor == 65535 && t.history == 0;
+    }
+    if s.rule == 2 {
+        return t.history == 0;
+    }
+    t.history & 1 == 1 && t.history >> (s.window - 1) <= 1
+}
+
+/// The decision in place: what a program in Rust would write. A record that is not lawful stays as it is.
+#[inline(always)]
+fn decide_in(s: &mut Stream, number: u16, network: u8) -> u8 {
+    if !lawful(s) {
+        return DAMAGED;
+    }
+    let d = number.wrapping_sub(s.state.anchor) as i16 as i32;
+    let window = s.window as i32;
+    if network == 0 {
+        s.counts.arrivals0 = s.counts.arrivals0.wrapping_add(1);
+    } else {
+        s.counts.arrivals1 = s.counts.arrivals1.wrapping_add(1);
+    }
+    if s.state.any != 0 {
+        s.state.any = 0;
+        s.state.anchor = number;
+        s.state.history = if s.rule == 1 { 1 } else { 0 };
+    } else if s.rule == 1 {
+        if d >= window || d <= -window {
+            s.counts.rogue = s.counts.rogue.wrapping_add(1);
+            return ROGUE;
+        }
+        if d <= 0 {
+            let bit = 1u64 << -d;
+            if s.state.history & bit != 0 {
+                s.counts.discarded = s.counts.discarded.wrapping_add(1);
+                return DUPLICATE;
+            }
+            s.state.history |= bit;
+            s.counts.disorder = s.counts.disorder.wrapping_add(1);
+        } else {
+            // The d places below L leave; each zero bit among them is lost.
+            let leaving = s.state.history >> (window - d);
+            s.counts.lost = s.counts.lost.wrapping_add((d as u32 - leaving.count_ones()) as u64);
+            let cut = u64::MAX >> (64 - window);
+            s.state.history = ((s.state.history << d) & cut) | 1;
+            s.state.anchor = number;
+            if d != 1 {
+                s.counts.disorder = s.counts.disorder.wrapping_add(1);
+            }
+        }
+    } else {
+        if d == 0 {
+            s.counts.discarded = s.counts.discarded.wrapping_add(1);
+            return DUPLICATE;
+        }
+        if d != 1 {
+            s.counts.disorder = s.counts.disorder.wrapping_add(1);
+        }
+        s.state.anchor = number;
+    }
+    s.counts.passed = s.counts.passed.wrapping_add(1);
+    s.state.remaining = s.time;
+    HANDED_UP
+}
+
+/// By value, with the interface of the archive's call.
+#[inline(never)]
+pub extern "C" fn decide(s: Stream, number: u16, network: u8) -> Decided {
+    let mut stream = s;
+    let verdict = decide_in(&mut stream, number, network);
+    Decided { stream, verdict }
+}
+
+/// By reference.
+#[inline(never)]
+pub fn decide_at(s: &mut Stream, number: u16, network: u8) -> u8 {
+    decide_in(s, number, network)
+}
+
+#[inline(never)]
+pub extern "C" fn row(s: Stream, number: u16, step: u16, network: u8, times: u64) -> Stream {
+    let mut t = s;
+    let mut n = number;
+    for _ in 0..times {
+        decide_in(&mut t, n, network);
+        n = n.wrapping_add(step);
+    }
+    t
+}
+
+#[inline(never)]
+pub fn row_at(t: &mut Stream, number: u16, step: u16, network: u8, times: u64) {
+    let mut n = number;
+    for _ in 0..times {
+        decide_in(t, n, network);
+        n = n.wrapping_add(step);
+    }
+}
