@@ -1,13 +1,12 @@
 #!/usr/bin/env python3
-"""Writes crates/CRATE/proofs/Values.antt: what a walk names of each declared type that it carries by value.
+"""Writes crates/CRATE/proofs/Values.antt (structs and arrays) and Enums.antt: what a walk names of each type that it carries by value.
 
     tools/walks/values.py CRATE            from the repository's root, then `rt fmt`
 
-tools/walks/CRATE/values.txt has a type to a line: `struct calls::Survey`, `enum calls::Found`, and `array Six 6` for a [u8; 6], which walks call Six.
-A type that holds another comes after it."""
+tools/walks/CRATE/values.txt has a type to a line: `struct calls::Survey`, `enum calls::Found`, and `array Six 6` for a [u8; 6], which walks call Six."""
 import sys
 
-HEAD = '''-- What a walk names of each declared type that it carries by value, beside the record of Rows.antt. For a type Found:
+HEAD = '''-- What a walk names of each {which} that it carries by value, beside the record of Rows.antt. For a type Found:
 --     found-row, found-ty, found-val     the type's row, its MIR type, and a value's machine value
 --     found-ok                           what is known of a value that is owned
 --     found-typed, found-has             such a value has the MIR type;  it is owned, for nothing
@@ -24,8 +23,6 @@ use types.Kit.{{Goal, Given, Item, ‵, Step}}
 use denote.RattleType.{{RattleType}}
 use denote.Laws.{{Is, Tells}}
 use denote.Steps.{{owned}}
-use denote.Struct.Laws as Struct-laws
-use denote.Enum.Laws as Enum-laws
 '''
 USES = '''use {base}specs.declared.{name}.{{{name}}}
 use {proofs}.{name} as {name}-type
@@ -99,18 +96,23 @@ module _ {{M : Type 1}} {{𝓤 : URA M}} {{H : Heap 𝓤}} {{A : Atoms 𝓤}} {{
 '''
 
 crate = sys.argv[1]
-uses = blocks = ''
-arrays = False
+
+
+def write(file, which, uses, blocks, arrays=False):
+    more = {'map': ', map', 'w8': ', w8', 'vint': 'vint, '} if arrays else dict.fromkeys(('map', 'w8', 'vint'), '')
+    open(f'crates/{crate}/proofs/{file}.antt', 'w').write(HEAD.format(crate=crate, which=which, **more) + (ARRAY_USES if arrays else '') + uses + blocks)
+
+
+uses, blocks = {'struct': '', 'enum': ''}, {'struct': '', 'enum': '', 'array': ''}
 for line in open(f'tools/walks/{crate}/values.txt'):
     line = line.split('#')[0].split()
     if not line: continue
     if line[0] == 'array':
-        blocks += ARRAY.format(name=line[1], low=line[1].lower(), many=line[2])
-        arrays = True
+        blocks['array'] += ARRAY.format(name=line[1], low=line[1].lower(), many=line[2])
         continue
     kind, (home, name) = line[0], line[1].split('::')
     own = home == crate
-    uses += USES.format(name=name, base=f'Rattle.{home}.specs.' if own else f'Rattle.{home}.', proofs=f'Rattle.{home}.proofs' if own else f'Rattle.{home}.proofs')
-    blocks += BLOCK.format(name=name, low=name.lower(), laws='Enum-laws' if kind == 'enum' else 'Struct-laws', few=' tt' if kind == 'enum' else '')
-more = {'map': ', map', 'w8': ', w8', 'vint': 'vint, '} if arrays else dict.fromkeys(('map', 'w8', 'vint'), '')
-open(f'crates/{crate}/proofs/Values.antt', 'w').write(HEAD.format(crate=crate, **more) + (ARRAY_USES if arrays else '') + uses + blocks)
+    uses[kind] += USES.format(name=name, base=f'Rattle.{home}.specs.' if own else f'Rattle.{home}.', proofs=f'Rattle.{home}.proofs' if own else f'Rattle.{home}.proofs')
+    blocks[kind] += BLOCK.format(name=name, low=name.lower(), laws='Enum-laws' if kind == 'enum' else 'Struct-laws', few=' tt' if kind == 'enum' else '')
+write('Values', 'struct and array', 'use denote.Struct.Laws as Struct-laws\n' + uses['struct'], blocks['struct'] + blocks['array'], blocks['array'] != '')
+write('Enums', 'enum', 'use denote.Enum.Laws as Enum-laws\n' + uses['enum'], blocks['enum'])

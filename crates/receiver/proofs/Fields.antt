@@ -28,7 +28,8 @@ use Rattle.calls.specs.declared.Asked.{Asked}
 use Rattle.calls.proofs.Asked as Asked-type
 use Rattle.calls.proofs.Asked.Laws as Asked-laws
 use Rattle.receiver.proofs.Rows.{Ok}
-use Rattle.receiver.proofs.Values.{found-ok, sums-ok, turn-ok, done-ok, change-ok, swept-ok, opened-ok, placing-ok, header-ok, asked-ok}
+use Rattle.receiver.proofs.Values.{sums-ok, turn-ok, change-ok, placing-ok, header-ok}
+use Rattle.receiver.proofs.Enums.{found-ok, done-ok, swept-ok, opened-ok, asked-ok}
 
 pub at-ok : (i : ℕ) → i < 2 ^ 64 → found-ok (Found.At i)
 at-ok i g = Enum-laws.owes Found-type.the-type Found-laws.the-laws (Found.At i) ((refl, g), tt)

@@ -1,5 +1,6 @@
 pub mod Rows
 pub mod Values
+pub mod Enums
 pub mod Fields
 pub mod Calling
 pub mod Again

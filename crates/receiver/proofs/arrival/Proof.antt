@@ -53,12 +53,13 @@ use Rattle.calls.specs.declared.Judged.{Judged}
 use Rattle.calls.proofs.Arrivals.{arrival-refused, arrival-unknown, arrival-settled}
 use Rattle.calls.proofs.Places.{found-at, some-place}
 use Rattle.receiver.proofs.Calling.{calls-value, calls-with}
+use Rattle.receiver.proofs.Enums.{found-ty, found-val, found-tells, found-ok, found-typed, asked-ty, asked-val, asked-tells, asked-ok, asked-typed, asked-has, judged-ty, judged-val, judged-tells, judged-typed, judged-has, answer-ty, answer-val, answer-tells, answer-ok, answer-typed, answer-has}
 use Rattle.receiver.proofs.Fields.{at-fits, asked-header, asked-number, header-dest, header-vlan, header-at}
 use Rattle.receiver.proofs.Handing.{calls-shr-with, calls-mut-with, owns-slice, two-facts}
 use Rattle.receiver.proofs.Lending.{shr-own, mut-own, calls-shr, calls-mut}
 use Rattle.receiver.proofs.Pieces.{arm-of}
 use Rattle.receiver.proofs.Rows.{R, mutTy}
-use Rattle.receiver.proofs.Values.{found-ty, found-val, found-tells, found-ok, found-typed, header-ty, header-val, header-ok, header-typed, asked-ty, asked-val, asked-tells, asked-ok, asked-typed, asked-has, judged-ty, judged-val, judged-tells, judged-typed, judged-has, answer-ty, answer-val, answer-tells, answer-ok, answer-typed, answer-has}
+use Rattle.receiver.proofs.Values.{header-ty, header-val, header-ok, header-typed}
 use Rattle.calls.proofs.ask as fn-ask
 use Rattle.calls.proofs.ask.Symbol as fn-ask-def
 use Rattle.calls.proofs.ask.Symbol.{name as #calls·ask}

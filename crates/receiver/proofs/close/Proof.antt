@@ -44,11 +44,12 @@ use Rattle.calls.specs.Said.{saidDone}
 use Rattle.calls.specs.Steps.{closeChange}
 use Rattle.calls.proofs.Slots.{close-meets}
 use Rattle.receiver.proofs.Calling.{calls-value}
+use Rattle.receiver.proofs.Enums.{done-val, done-ok, done-typed, done-has}
 use Rattle.receiver.proofs.Fields.{change-answer, change-slot, change-stream}
 use Rattle.receiver.proofs.Handing.{owns-slice}
 use Rattle.receiver.proofs.Lending.{shr-own, mut-own, calls-shr, calls-mut}
 use Rattle.receiver.proofs.Rows.{R, val, typed, tells, has, enters-mut}
-use Rattle.receiver.proofs.Values.{done-val, done-ok, done-typed, done-has, change-val, change-tells, change-typed}
+use Rattle.receiver.proofs.Values.{change-val, change-tells, change-typed}
 use Rattle.receiver.proofs.record_at as fn-record-at
 use Rattle.receiver.proofs.record_at.Symbol as fn-record-at-def
 use Rattle.receiver.proofs.record_at.Symbol.{name as #receiver·record-at}

@@ -49,11 +49,11 @@ use Rattle.calls.specs.Table.{blank, hasKey, found, orElse, foundHere}
 use Rattle.calls.specs.declared.Found.{Found}
 use Rattle.calls.proofs.Search.{found-nil, found-snoc, found-front}
 use Rattle.receiver.proofs.Calling.{calls-value}
+use Rattle.receiver.proofs.Enums.{found-ty, found-val, found-ok, found-typed, found-has}
 use Rattle.receiver.proofs.Fields.{at-ok, nothing-ok}
 use Rattle.receiver.proofs.Lists.{from-0, one-more, less}
 use Rattle.receiver.proofs.Pieces.{after}
 use Rattle.receiver.proofs.Rows.{R, val, ty, size, shrTy, fits-at, typed, has, looks-at, shuts-at, enters-shr}
-use Rattle.receiver.proofs.Values.{found-ty, found-val, found-ok, found-typed, found-has}
 use Rattle.calls.proofs.has_key as fn-has-key
 use Rattle.calls.proofs.has_key.Symbol as fn-has-key-def
 use Rattle.calls.proofs.has_key.Symbol.{name as #calls·has-key}

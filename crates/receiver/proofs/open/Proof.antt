@@ -47,11 +47,12 @@ use Rattle.calls.specs.Said.{saidOpened}
 use Rattle.calls.specs.Steps.{placingOf}
 use Rattle.calls.proofs.Slots.{open-meets}
 use Rattle.receiver.proofs.Calling.{calls-value}
+use Rattle.receiver.proofs.Enums.{opened-val, opened-ok, opened-typed, opened-has}
 use Rattle.receiver.proofs.Fields.{placing-answer, placing-slot, placing-stream}
 use Rattle.receiver.proofs.Handing.{owns-slice}
 use Rattle.receiver.proofs.Lending.{shr-own, mut-own, calls-shr, calls-mut}
 use Rattle.receiver.proofs.Rows.{R, val, has, enters-mut}
-use Rattle.receiver.proofs.Values.{survey-val, survey-tells, survey-typed, survey-has, opened-val, opened-ok, opened-typed, opened-has, placing-val, placing-tells, placing-typed, Six, six-row, six-val, six-spells, six-tells, six-ok, six-typed, six-has}
+use Rattle.receiver.proofs.Values.{survey-val, survey-tells, survey-typed, survey-has, placing-val, placing-tells, placing-typed, Six, six-row, six-val, six-spells, six-tells, six-ok, six-typed, six-has}
 use Rattle.frame.proofs.destination as fn-destination
 use Rattle.frame.proofs.destination.Symbol as fn-destination-def
 use Rattle.frame.proofs.destination.Symbol.{name as #frame·destination}

@@ -42,9 +42,9 @@ use Rattle.calls.specs.Table.{blank}
 use Rattle.calls.specs.Steps.{judged, recordOf}
 use Rattle.calls.specs.declared.Judged.{Judged}
 use Rattle.receiver.proofs.Calling.{calls-value}
+use Rattle.receiver.proofs.Enums.{judged-val, judged-tells, judged-ok, judged-typed, judged-has}
 use Rattle.receiver.proofs.Handing.{owns-slice}
 use Rattle.receiver.proofs.Rows.{R, val, size, fits-at, typed, tells, has, opens-at, closes-at, enters-mut}
-use Rattle.receiver.proofs.Values.{judged-val, judged-tells, judged-ok, judged-typed, judged-has}
 use Rattle.calls.proofs.judge as fn-judge
 use Rattle.calls.proofs.judge.Symbol as fn-judge-def
 use Rattle.calls.proofs.judge.Symbol.{name as #calls·judge}

@@ -43,11 +43,12 @@ use Rattle.calls.specs.Calls.{ticking, Meets as CallMeets}
 use Rattle.calls.specs.Said.{saidSwept}
 use Rattle.calls.specs.Ticks.{sums, tickedAll}
 use Rattle.calls.proofs.Slots.{tick-refused, sweep-meets}
+use Rattle.receiver.proofs.Enums.{swept-ty, swept-val, swept-ok, swept-typed, swept-has}
 use Rattle.receiver.proofs.Fields.{refused-ok, counted-ok}
 use Rattle.receiver.proofs.Handing.{owns-slice}
 use Rattle.receiver.proofs.Lending.{mut-own, calls-mut}
 use Rattle.receiver.proofs.Rows.{R, mutTy, enters-mut}
-use Rattle.receiver.proofs.Values.{sums-ty, sums-val, sums-tells, sums-typed, swept-ty, swept-val, swept-ok, swept-typed, swept-has}
+use Rattle.receiver.proofs.Values.{sums-ty, sums-val, sums-tells, sums-typed}
 use Rattle.receiver.proofs.sweep as fn-sweep
 use Rattle.receiver.proofs.sweep.Symbol as fn-sweep-def
 use Rattle.receiver.proofs.sweep.Symbol.{name as #receiver·sweep}
