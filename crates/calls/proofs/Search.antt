@@ -8,14 +8,13 @@ use Prim.Native.Nat.{ℕ, zero, suc, _<_}
 use native.Mathlib.Nat.{not-suc-le-zero, le-of-suc-le-suc}
 use native.Mathlib.Omega.{arith}
 use mathlib.Core.Bool.{Bool, true, false, cond, _||_}
-use mathlib.Core.List.{List, [], _∷_, _++_}
+use mathlib.Core.List.{[], _∷_, _++_}
 use lib.Dec.{ltb, leb·suc-suc, leb·zero}
-use lib.ListN.{length, getD}
+use lib.ListN.{length}
 use Rattle.record.specs.declared.Stream.{Stream}
-use Rattle.calls.specs.Table.{Table, blank, at, search, someSlot, found, hasKey, isFree, surveyed, looked, orElse, foundHere}
+use Rattle.calls.specs.Table.{Table, at, search, someSlot, found, hasKey, isFree, surveyed, looked, orElse, foundHere}
 use Rattle.calls.specs.declared.Found.{Found}
 use Rattle.calls.specs.declared.Found.the-variants.{At, Nothing}
-use Rattle.calls.specs.declared.Survey.{Survey}
 
 -- one slot further on
 abbrev pub next : Found → Found

@@ -7,7 +7,7 @@ use Prim.Native.Nat.{ℕ, suc, _+_, _%_, _^_, _<_, _≤_}
 use native.Mathlib.Omega.{arith}
 use native.Mathlib.Nat.{mod-eq-of-lt}
 use mathlib.Core.Bool.{Bool, true, false, cond}
-use mathlib.Core.List.{List, [], _∷_, _++_, map, map-append}
+use mathlib.Core.List.{[], _∷_, _++_, map-append}
 use lib.ListN.{length, length-map}
 use Rattle.record.specs.declared.Stream.{Stream}
 use Rattle.stream.specs.Record.{damaged}

@@ -1,5 +1,4 @@
 -- Document 01, "Decisions": a tick of a whole table. Assumes nothing.
-use Prim.Native.Nat.{ℕ}
 use mathlib.Core.List.{map}
 use Rattle.record.specs.declared.Stream.{Stream}
 use Rattle.stream.specs.Record.{damaged}

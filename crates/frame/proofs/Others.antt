@@ -1,24 +1,18 @@
 -- What else holds of one frame's bytes: short in the paper's words, the destination as one number, reserved bytes,
 -- refusals, and that two outcomes coincide. Assumes nothing.
 use mathlib.Core.Path.{_≡_, refl, sym, ap, ap₂, _∙_}
-use Prim.Native.Nat.{ℕ, _+_, _-_, _*_, _%_, _≤_, _<_}
+use Prim.Native.Nat.{ℕ, _+_, _-_, _*_, _<_}
 use native.Mathlib.Omega.{arith}
-use mathlib.Core.Bool.{Bool, true, false, cond, not, _&&_, _||_}
-use mathlib.Core.Logic.{_⊎_, inl, inr}
 use mathlib.Core.List.{List}
-use lib.ListN.{length, getD, take}
-use lib.Seq.{ext-getD}
-use lib.Dec.{ltb, eqb}
-use borrow.Author.Tests.{lt-ltb, le-ltb, eq-eqb, ne-eqb, ltb-true, ltb-false, eqb-true, eqb-false}
+use lib.ListN.{length, getD}
+use lib.Dec.{ltb}
 use Rattle.refusal.specs.Checks.{Said}
 use Rattle.refusal.specs.Checks.Said.{refused, answers}
-use Rattle.refusal.specs.Numbers.{ROOM}
 use Rattle.refusal.proofs.Checks.{same-value}
 use Rattle.frame.specs.Bytes.{word, overlay, Bytes}
-use Rattle.frame.specs.Frame.{Tag, destOf, typeAt, hasVlan, vlanOf, isTagged, headShort, tagShort, headerOf, readOf, cutAt, untagged, writeOf}
-use Rattle.frame.specs.TagCalls.{Outcome, Bare, takeFrom, takeTag, writeInto, writeTag, saidHead, saidRead, saidTaken, saidWritten}
-use Rattle.frame.specs.Refusals.{short}
-use Rattle.frame.specs.Laws.{Stands, ShortWords, DestSix, ReservedIgnored, TakeRefusedKeeps, WriteRefusedKeeps, Coincide, AnswersTell}
+use Rattle.frame.specs.Frame.{Tag, readOf, untagged, writeOf}
+use Rattle.frame.specs.TagCalls.{takeFrom, takeTag, writeInto, writeTag, saidHead, saidRead, saidTaken, saidWritten}
+use Rattle.frame.specs.Laws.{DestSix, TakeRefusedKeeps, WriteRefusedKeeps, Coincide, AnswersTell}
 use Rattle.frame.specs.declared.Head.{Head}
 use Rattle.frame.specs.declared.Head.the-variants as head
 use Rattle.frame.specs.declared.Read.{Read}
@@ -27,9 +21,8 @@ use Rattle.frame.specs.declared.Taken.{Taken}
 use Rattle.frame.specs.declared.Taken.the-variants as taken
 use Rattle.frame.specs.declared.Written.{Written}
 use Rattle.frame.specs.declared.Written.the-variants as written
-use Rattle.frame.proofs.Heads.{type-vlan, type-plain}
 use Rattle.frame.proofs.Writes.{picks-keeps}
-use Rattle.frame.proofs.Words.{Place, plain, vlan, place, six}
+use Rattle.frame.proofs.Words.{six}
 
 -- ---- the destination as one number stands for its six bytes
 

@@ -1,6 +1,6 @@
 -- Short in the paper's words, and reserved bytes ignored on reading. Assumes nothing.
 use mathlib.Core.Path.{_≡_, refl, sym, ap, ap₂, _∙_}
-use Prim.Native.Nat.{ℕ, _+_, _-_, _%_, _≤_, _<_}
+use Prim.Native.Nat.{ℕ, _+_, _%_, _≤_, _<_}
 use native.Mathlib.Omega.{arith}
 use native.Mathlib.Decide.{decLt}
 use mathlib.Core.Bool.{Bool, true, false, cond, _&&_, _||_}
@@ -9,7 +9,7 @@ use mathlib.Core.List.{List, _++_}
 use lib.ListN.{length, getD, take, drop, length-take, length-drop}
 use lib.Seq.{ext-getD, getD-take, getD-drop}
 use lib.Dec.{ltb, eqb}
-use borrow.Author.Tests.{lt-ltb, le-ltb, eq-eqb, ne-eqb, ltb-true, ltb-false, eqb-true, eqb-false}
+use borrow.Author.Tests.{lt-ltb, eq-eqb, ltb-true, eqb-true}
 use Rattle.frame.specs.Bytes.{word}
 use Rattle.refusal.specs.Checks.{Said}
 use Rattle.refusal.specs.Checks.Said.{refused, answers}

@@ -1,21 +1,19 @@
 -- Each refusal number is given exactly when document 01 says. Assumes nothing.
-use mathlib.Core.Path.{_≡_, refl, sym, ap, _∙_}
-use Prim.Native.Nat.{ℕ, _+_, _-_, _≤_, _<_}
+use mathlib.Core.Path.{_≡_, refl}
+use Prim.Native.Nat.{ℕ, _+_, _-_}
 use native.Mathlib.Omega.{arith}
 use mathlib.Core.Bool.{Bool, true, false, cond, not, _&&_, _||_}
 use mathlib.Core.List.{List}
-use mathlib.Core.Logic.{_↔_}
 use lib.ListN.{length}
 use lib.Dec.{ltb}
-use borrow.Author.Tests.{lt-ltb, le-ltb}
-use Rattle.refusal.specs.Checks.{Said, Check, First, firstOf}
+use Rattle.refusal.specs.Checks.{Said, firstOf}
 use Rattle.refusal.specs.Checks.Said.{refused, answers}
 use Rattle.refusal.specs.Numbers.{LONG, SHORT, UNTAGGED, ROOM, TAGGED}
 use Rattle.refusal.proofs.Checks.{first-exactly}
 use Rattle.record.specs.Sizes.{frameMost, untaggedMost}
 use Rattle.frame.specs.Bytes.{overlay}
 use Rattle.frame.specs.Frame.{Tag, typeAt, isTagged, headShort, tagShort, headerOf, numberOf, readOf, untagged, tagged, writeOf}
-use Rattle.frame.specs.TagCalls.{Outcome, Bare, takeFrom, takeTag, writeInto, writeTag}
+use Rattle.frame.specs.TagCalls.{Bare, takeFrom, takeTag, writeInto, writeTag}
 use Rattle.frame.specs.Refusals.{takeChecks, writeChecks, TakeRefusedExactly, WriteRefusedExactly}
 use Rattle.frame.proofs.Heads.{head-room}
 use Rattle.frame.proofs.Writes.{tag-length, picks-said}

@@ -4,23 +4,21 @@ use Prim.Native.Nat.{ℕ, _+_, _-_, _≤_, _<_}
 use native.Mathlib.Omega.{arith}
 use native.Mathlib.Decide.{decLt}
 use mathlib.Core.Bool.{Bool, true, false, cond, _&&_, _||_}
-use mathlib.Core.Logic.{_⊎_, inl, inr}
 use mathlib.Core.List.{List}
 use lib.ListN.{length, length-append, length-take, length-drop}
-use lib.Dec.{ltb, leb, eqb}
-use borrow.Author.Tests.{lt-ltb, le-ltb, le-leb, lt-leb, eq-eqb, ne-eqb, ltb-false}
-use Rattle.refusal.specs.Checks.{Said}
+use lib.Dec.{ltb, eqb}
+use borrow.Author.Tests.{lt-ltb, le-ltb, le-leb, lt-leb, ne-eqb, ltb-false}
 use Rattle.refusal.specs.Checks.Said.{refused, answers}
 use Rattle.refusal.specs.Numbers.{LONG, SHORT, ROOM, TAGGED}
 use Rattle.refusal.proofs.Checks.{passed}
 use Rattle.record.specs.Sizes.{frameMost, untaggedMost}
 use Rattle.frame.specs.Bytes.{overlay}
-use Rattle.frame.specs.Frame.{Tag, typeAt, hasVlan, isTagged, headShort, headerOf, readOf, cutAt, tagAt, tagged, writeOf}
-use Rattle.frame.specs.TagCalls.{Outcome, Bare, takeTag, takeFrom, writeInto, writeTag, saidRead, refusalOf, typePlace, cutFits, writtenWithout, tagFits, writtenWith}
+use Rattle.frame.specs.Frame.{typeAt, hasVlan, isTagged, headShort, readOf, cutAt, tagAt, tagged, writeOf}
+use Rattle.frame.specs.TagCalls.{Outcome, takeTag, takeFrom, writeInto, writeTag, saidRead, refusalOf, typePlace, cutFits, writtenWithout, tagFits, writtenWith}
 use Rattle.frame.specs.declared.Header.{Header}
 use Rattle.frame.specs.declared.Read.{Read}
 use Rattle.frame.specs.declared.Read.the-variants.{Refused, Tagged}
-use Rattle.frame.proofs.Heads.{type-least, head-whole, head-room, HeadIs, TagIs, tag-is}
+use Rattle.frame.proofs.Heads.{head-whole, head-room, HeadIs, tag-is}
 
 -- ---- where a type field can stand
 

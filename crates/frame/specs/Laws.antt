@@ -7,15 +7,11 @@ use mathlib.Core.Bool.{true}
 use mathlib.Core.List.{List}
 use lib.ListN.{length, take, getD}
 use Rattle.refusal.specs.Checks.{Said}
-use Rattle.refusal.specs.Checks.Said.{refused, answers}
+use Rattle.refusal.specs.Checks.Said.{refused}
 use Rattle.frame.specs.Bytes.{word, Bytes}
 use Rattle.frame.specs.Frame.{destOf, typeAt, readOf}
-use Rattle.frame.specs.TagCalls.{Outcome, Bare, takeTag, writeTag, saidHead, saidRead, saidTaken, saidWritten}
+use Rattle.frame.specs.TagCalls.{Outcome, takeTag, writeTag, saidHead, saidRead, saidTaken, saidWritten}
 use Rattle.frame.specs.Refusals.{short}
-use Rattle.frame.specs.declared.Head.{Head}
-use Rattle.frame.specs.declared.Read.{Read}
-use Rattle.frame.specs.declared.Taken.{Taken}
-use Rattle.frame.specs.declared.Written.{Written}
 
 -- A word stands at a place of a frame that holds both of its bytes.
 abbrev pub Stands : (w : ℕ) (i : ℕ) (f : List ℕ) → Type 0

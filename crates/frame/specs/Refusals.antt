@@ -7,8 +7,8 @@ use mathlib.Core.Bool.{Bool, _||_, not}
 use mathlib.Core.List.{List, [], _∷_}
 use lib.ListN.{length}
 use lib.Dec.{ltb}
-use Rattle.refusal.specs.Checks.{Check, Said, First}
-use Rattle.refusal.specs.Checks.Said.{refused, answers}
+use Rattle.refusal.specs.Checks.{Check, First}
+use Rattle.refusal.specs.Checks.Said.{refused}
 use Rattle.refusal.specs.Numbers.{LONG, SHORT, UNTAGGED, ROOM, TAGGED}
 use Rattle.record.specs.Sizes.{frameMost, untaggedMost}
 use Rattle.frame.specs.Frame.{headShort, tagShort, isTagged}

@@ -5,11 +5,10 @@ use mathlib.Core.Logic.{_↔_}
 use mathlib.Core.Bool.{true, false}
 use mathlib.Core.List.{List}
 use lib.ListN.{length, take}
-use Rattle.refusal.specs.Checks.{Said}
 use Rattle.refusal.specs.Checks.Said.{refused, answers}
 use Rattle.refusal.specs.Numbers.{SHORT, TAGGED}
 use Rattle.frame.specs.Bytes.{word, overlay, Bytes}
-use Rattle.frame.specs.Frame.{Tag, destOf, hasVlan, vlanOf, typeAt, reservedOf, numberOf, formerOf, readOf, writeOf, untagged, tagAt}
+use Rattle.frame.specs.Frame.{Tag, destOf, hasVlan, vlanOf, typeAt, reservedOf, formerOf, readOf, writeOf, untagged, tagAt}
 use Rattle.frame.specs.TagCalls.{takeTag, writeTag}
 
 -- Putting one in and taking it out gives the frame and number back: of every frame that is accepted, and its key and

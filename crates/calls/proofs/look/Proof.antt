@@ -1,5 +1,4 @@
 -- `calls::look` meets its contract. Assumes nothing.
-use mathlib.Core.Path.{_≡_}
 use borrow.Author.Needs.{needs}
 use Rattle.calls.proofs.look.Statement.{statement}
 use Rattle.calls.proofs.look.Tie as tie

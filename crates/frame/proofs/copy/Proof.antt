@@ -1,12 +1,12 @@
 -- `frame::copy` meets its contract: what is copied to the room is src, and it is copied from there. Assumes nothing.
-use mathlib.Core.Path.{_≡_, refl, sym, ap, _∙_}
+use mathlib.Core.Path.{refl, ap, _∙_}
 use mathlib.Core.List.{List}
-use Prim.Native.Nat.{ℕ, _≤_}
+use Prim.Native.Nat.{ℕ}
 use native.Mathlib.Omega.{arith}
 use lib.ListN.{length, take, length-take}
 use borrow.Author.Needs.{needs}
 use Rattle.frame.specs.Bytes.{overlay}
-use Rattle.frame.proofs.Bytes.{overlay-length, overlay-front}
+use Rattle.frame.proofs.Bytes.{overlay-front}
 use Rattle.frame.proofs.copy.Statement.{statement}
 use Rattle.frame.proofs.copy.Tie as tie
 

@@ -3,7 +3,7 @@ use native.Mathlib.Omega.{arith}
 use Prim.Native.Nat.{_+_}
 use mathlib.Core.Path.{_≡_}
 use mathlib.Core.List.{_++_}
-use lib.ListN.{length, length-take, length-append, take, drop}
+use lib.ListN.{length, length-take, length-append, take}
 use Rattle.frame.specs.Frame.{tagAt, tagBytes}
 use Rattle.frame.proofs.Bytes.{tail-over, tail-copied}
 use Rattle.frame.proofs.tag_at.Statement.{statement}
