@@ -261,7 +261,9 @@ class Frame:
             ev = f'(tt, (tt, (record {{ fits = g-{p[0]} .0 }}, tt)))' if p[1].startswith('&') else Type(p[1]).typed(p[0], f'g-{p[0]}')
             passes += f'pass1 ! (init ! @{i + 1} refl {ev}) $ '
         enters = ''
-        if len(self.refs()) == 1:
+        if any('given' in p[2:] for p in self.params):
+            pass   # handed on whole
+        elif len(self.refs()) == 1:
             enters = f'\n        move ! (&1 ∷ &0 ∷ []) $ enters-{"mut" if "mut" in self.params[0][1] else "shr"} ! (x .0) $'
         elif self.refs():
             enters = f'\n        move ! (&1 ∷ &0 ∷ []) $ {self.enters_many()}'

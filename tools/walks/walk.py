@@ -12,6 +12,7 @@ Of the function:
   %about TEXT               the file's first comment
   %param NAME TYPE          a parameter, in order: &[Stream], &mut [Stream], &[u8], &mut [u8], a number, bool, Stream, or a type of Values.antt.
                             NAME is its value (of a slice: its list; the table is ys), g-NAME the fact that it fits
+                            `given` behind a &mut says that it is handed on for good: %walk then leaves [..; tokens; what the parameters own] together
   %result TYPE              what it returns; () for nothing
   %requires FACT            over the parameters' names; `given` is the proof of it
   %calls CRATE::G ..        the callees; known .g′ is the theorem of each

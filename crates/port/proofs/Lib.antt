@@ -1,1 +1,3 @@
 pub mod Tags
+pub mod Answers
+mod Values
