@@ -176,6 +176,13 @@ fn tell_swept(a: Swept) -> TickAnswer
     }
 }
 
+// The six bytes of a destination, copied out.
+fn six_of(dest: &[u8; 6]) -> [u8; 6]
+    ensures { λ r. ⌜ r ≡ now (dest .entry) ⌝ }
+{
+    *dest
+}
+
 // Arrival.
 #[no_mangle]
 pub extern "C" fn nippitsun_arrival(
@@ -215,4 +222,21 @@ pub extern "C" fn nippitsun_tick(table: &mut [Stream]) -> TickAnswer
 {
     let a = receiver::tick(table);
     tell_swept(a)
+}
+
+// Open. The destination is six bytes.
+#[no_mangle]
+pub extern "C" fn nippitsun_open(
+    table: &mut [Stream],
+    dest: &[u8; 6],
+    vlan: u16,
+    rule: u8,
+    window: u16,
+    time: u16,
+) -> SlotAnswer
+    ensures { λ r. ⌜ Told tellOpened (now (table .entry)) (opening (now (dest .entry)) vlan rule window time) r (now (table .exit)) [] ⌝ }
+{
+    let d = six_of(dest);
+    let a = receiver::open(table, d, vlan, rule, window, time);
+    tell_opened(a)
 }
