@@ -5,7 +5,7 @@ use mathlib.Core.List.{List}
 use Rattle.refusal.specs.Checks.{Said}
 use Rattle.refusal.specs.Checks.Said.{refused, answers}
 use Rattle.calls.specs.Table.{Table}
-use Rattle.calls.specs.Calls.{Call, Answer, Verdict, arrived, placed, done, swept, handedUp, duplicate, rogue, act, after, answer, output, outOf}
+use Rattle.calls.specs.Calls.{Call, arriving, opening, closing, resetting, ticking, Answer, Verdict, arrived, placed, done, swept, handedUp, duplicate, rogue, act, after, answer, output, outOf}
 use Rattle.port.specs.declared.ArrivalAnswer.{ArrivalAnswer}
 use Rattle.port.specs.declared.SlotAnswer.{SlotAnswer}
 use Rattle.port.specs.declared.TickAnswer.{TickAnswer}
@@ -55,3 +55,31 @@ pub record Told {A : Type 0} (tell : Said Answer → A) (t : Table) (c : Call) (
   pub said : told ≡ tell (answer t (act t c))
   pub table : rows ≡ after t (act t c)
   pub output : bytes ≡ output t (outOf c) (act t c)
+
+-- Nothing is lost: calls that are told alike said the same.
+abbrev pub ArrivalTold : Type 0
+ArrivalTold =
+    (t : Table) (network : ℕ) (f out : List ℕ) (u : Table) (other : ℕ) (g back : List ℕ)
+    → tellArrival (answer t (act t (arriving network f out))) ≡ tellArrival (answer u (act u (arriving other g back)))
+    → answer t (act t (arriving network f out)) ≡ answer u (act u (arriving other g back))
+
+abbrev pub OpenTold : Type 0
+OpenTold =
+    (t : Table) (dest : List ℕ) (vlan rule window time : ℕ) (u : Table) (dest′ : List ℕ) (vlan′ rule′ window′ time′ : ℕ)
+    → tellOpened (answer t (act t (opening dest vlan rule window time))) ≡ tellOpened (answer u (act u (opening dest′ vlan′ rule′ window′ time′)))
+    → answer t (act t (opening dest vlan rule window time)) ≡ answer u (act u (opening dest′ vlan′ rule′ window′ time′))
+
+abbrev pub CloseTold : Type 0
+CloseTold =
+    (t : Table) (i : ℕ) (u : Table) (j : ℕ) → tellDone (answer t (act t (closing i))) ≡ tellDone (answer u (act u (closing j)))
+    → answer t (act t (closing i)) ≡ answer u (act u (closing j))
+
+abbrev pub ResetTold : Type 0
+ResetTold =
+    (t : Table) (i : ℕ) (u : Table) (j : ℕ) → tellDone (answer t (act t (resetting i))) ≡ tellDone (answer u (act u (resetting j)))
+    → answer t (act t (resetting i)) ≡ answer u (act u (resetting j))
+
+abbrev pub TickTold : Type 0
+TickTold =
+    (t u : Table) → tellSwept (answer t (act t ticking)) ≡ tellSwept (answer u (act u ticking))
+    → answer t (act t ticking) ≡ answer u (act u ticking)
