@@ -101,7 +101,7 @@ class Steps(Frame):
         own, p = self.owner(k), self.refs()[k][1]
         # the & is Copy: one is handed over with its token, one stays
         move([have.index(('own', k))])
-        out.append(f'use1 W (‵ ({own}) ⊛ ‵ ({own})) (shr-slice-copy 𝓤 H A W (named {k}) {κ} {self.element(p)} .twice ({self.reference(k)}) ({self.value(p)} ∷ [])) $ split ! $')
+        out.append(f'use1 W (‵ ({own}) ⊛ ‵ ({own})) ({"shr" if self.lone(p) else "shr-slice"}-copy 𝓤 H A W (named {k}) {κ} {self.element(p)} .twice ({self.reference(k)}) ({self.value(p)} ∷ [])) $ split ! $')
         have[0:1] = ['given', ('own', k)]
         move([0, have.index(('tok', k))]); out.append('join ! $'); have[0:2] = ['given']
         j = by[lent[1]] if lent else None

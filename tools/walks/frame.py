@@ -43,10 +43,14 @@ class Frame:
     def refs(self): return [(k, p) for k, p in enumerate(p for p in self.params if p[1].startswith('&'))]
     def ref(self, p): return next(k for k, q in self.refs() if q is p)
     def names(self, k): return [v + ('' if k == 0 else str(k).translate(SUB)) for v in ('κ', 'q', 'b', 'o', 'γ')]
-    def element(self, p): return 'R' if 'Stream' in p[1] else 'u8'
+    def lone(self, p): return p[1].startswith('&') and '[' not in p[1]   # a & to one value, as &Six
+    def element(self, p): return Type(p[1][1:]).row if self.lone(p) else 'R' if 'Stream' in p[1] else 'u8'
     def item(self, p): return 'Stream' if 'Stream' in p[1] else 'ℕ'
+    def value_type(self, p): return Type(p[1][1:]).denot if self.lone(p) else f'List {self.item(p)}'
 
     def slot(self, p):
+        if self.lone(p):
+            return f'shrRefTo ({self.ref(p)} ∷ []) tt (plain (λ _. {self.element(p)}))'
         if p[1].startswith('&'):
             return f'shrSliceOf ({self.ref(p)} ∷ []) tt (plain (λ _. {self.element(p)}))'
         return f'plain (λ _. {Type(p[1]).row})'
@@ -65,13 +69,13 @@ class Frame:
     def value(self, p):
         if p[1].startswith('&'):
             _, _, b, o, _ = self.names(self.ref(p))
-            return f'sliceVal ({b}, {o}) (length {p[0]})'
+            return f'vptr {b} {o}' if self.lone(p) else f'sliceVal ({b}, {o}) (length {p[0]})'
         return Type(p[1]).val(p[0])
 
     def row(self, p):
         if p[1].startswith('&'):
             k = self.ref(p)
-            return f'{"MutSlice" if "mut" in p[1] else "ShrSlice"} (named {k}) {self.names(k)[0]} {self.element(p)}'
+            return f'{"ShrRef" if self.lone(p) else "MutSlice" if "mut" in p[1] else "ShrSlice"} (named {k}) {self.names(k)[0]} {self.element(p)}'
         return Type(p[1]).row
 
     def lifetimes(self):
@@ -172,14 +176,14 @@ class Frame:
         for p in self.params:
             if p[1].startswith('&'):
                 κ, q, b, o, γ = self.names(self.ref(p))
-                tele += f' ({κ} : Lft) ({q} : Share) ({b} {o} : ℕ) ({γ} : GName) ({p[0]} : List {self.item(p)})'
+                tele += f' ({κ} : Lft) ({q} : Share) ({b} {o} : ℕ) ({γ} : GName) ({p[0]} : {self.value_type(p)})'
             else:
                 tele += f' ({p[0]} : {Type(p[1]).denot})'
         xs, ts = [], []
         for p in self.params:
             if p[1].startswith('&'):
                 _, _, b, o, γ = self.names(self.ref(p))
-                xs.append(f'record {{ ptr = ({b}, {o}); name = {γ}; now = {p[0]} }}'); ts.append(f'RefT (List {self.item(p)})')
+                xs.append(f'record {{ ptr = ({b}, {o}); name = {γ}; now = {p[0]} }}'); ts.append(f'RefT ({self.value_type(p)})')
             else:
                 xs.append(p[0]); ts.append(Type(p[1]).denot)
         prod = lambda l: ' × ('.join(l + ['Unit {0}']).replace(' × (Unit', ' × Unit') + ')' * (len(l) - 1)
@@ -230,6 +234,7 @@ class Frame:
     def evidence(self):
         r = []
         for p in self.params:
+            if self.lone(p): continue
             if p[1].startswith('&'):
                 r.append(f'(g-{p[0]} : Room {self.element(p)} (length {p[0]}))')
             elif Type(p[1]).fact:
@@ -258,10 +263,12 @@ class Frame:
         rows = ' ∷ '.join(self.row(p) for p in self.params) + ' ∷ []'
         passes = ''
         for i, p in enumerate(self.params):
-            ev = f'(tt, (tt, (record {{ fits = g-{p[0]} .0 }}, tt)))' if p[1].startswith('&') else Type(p[1]).typed(p[0], f'g-{p[0]}')
+            ev = '(tt, tt)' if self.lone(p) else f'(tt, (tt, (record {{ fits = g-{p[0]} .0 }}, tt)))' if p[1].startswith('&') else Type(p[1]).typed(p[0], f'g-{p[0]}')
             passes += f'pass1 ! (init ! @{i + 1} refl {ev}) $ '
         enters = ''
-        if len(self.refs()) == 1:
+        if any('given' in p[2:] for p in self.params):
+            pass   # handed on whole
+        elif len(self.refs()) == 1:
             enters = f'\n        move ! (&1 ∷ &0 ∷ []) $ enters-{"mut" if "mut" in self.params[0][1] else "shr"} ! (x .0) $'
         elif self.refs():
             enters = f'\n        move ! (&1 ∷ &0 ∷ []) $ {self.enters_many()}'
@@ -287,10 +294,10 @@ class Frame:
             at = path(j)
             if p[1].startswith('&'):
                 k = self.ref(p)
-                spells.append('slice-vals')
-                tells.append(f'{"mut" if "mut" in p[1] else "shr"}-slice-tells (named {k}) (κs {path(k)}) {self.element(p)}')
+                spells.append('ptr-vals' if self.lone(p) else 'slice-vals')
+                tells.append(f'{"shr" if self.lone(p) else "mut-slice" if "mut" in p[1] else "shr-slice"}-tells (named {k}) (κs {path(k)}) {self.element(p)}')
                 args.append(f'(κs {path(k)}) (qs {path(k)}) (a {at} .ptr .0) (a {at} .ptr .1) (a {at} .name) (a {at} .now)')
-                are.append(f'(are {at} .0 .1)')
+                if not self.lone(p): are.append(f'(are {at} .0 .1)')
                 where[p[0]] = f'(a {at} .now)'
             else:
                 t = Type(p[1])

@@ -38,11 +38,11 @@ denote.Laws: Is
 denote.Memory: shares pointee
 denote.Plain: Boolean nothing-tells uint-vals uint-tells uint-makes bool-vals bool-tells bool-makes
 denote.Builtin: u8 u16 u32 u64 usize
-denote.Ref: RefT
+denote.Ref: RefT ShrRef ptr-vals shr-tells shr-copy
 denote.Slice: finally sliceTy sliceVal ShrSlice MutSlice Room heres codedHoleys slice-vals shr-slice-copy shr-slice-tells mut-slice-tells
 denote.Lend: Held
 denote.Index: place-is
-denote.Signature: Slot plain shrSliceOf mutSliceOf
+denote.Signature: Slot plain shrSliceOf mutSliceOf shrRefTo
 denote.Steps: nothing owned
 denote.Triple.Entry: onEntry
 denote.Triple.Spec: Meets tripleOf

@@ -115,4 +115,4 @@ for line in open(f'tools/walks/{crate}/values.txt'):
     uses[kind] += USES.format(name=name, base=f'Rattle.{home}.specs.' if own else f'Rattle.{home}.', proofs=f'Rattle.{home}.proofs' if own else f'Rattle.{home}.proofs')
     blocks[kind] += BLOCK.format(name=name, low=name.lower(), laws='Enum-laws' if kind == 'enum' else 'Struct-laws', few=' tt' if kind == 'enum' else '')
 write('Values', 'struct and array', 'use denote.Struct.Laws as Struct-laws\n' + uses['struct'], blocks['struct'] + blocks['array'], blocks['array'] != '')
-write('Enums', 'enum', 'use denote.Enum.Laws as Enum-laws\n' + uses['enum'], blocks['enum'])
+if blocks['enum']: write('Enums', 'enum', 'use denote.Enum.Laws as Enum-laws\n' + uses['enum'], blocks['enum'])

@@ -10,8 +10,9 @@ A walk that is another one with other words has one line, `%like F: word=other .
 
 Of the function:
   %about TEXT               the file's first comment
-  %param NAME TYPE          a parameter, in order: &[Stream], &mut [Stream], &[u8], &mut [u8], a number, bool, Stream, or a type of Values.antt or Enums.antt.
+  %param NAME TYPE          a parameter, in order: &[Stream], &mut [Stream], &[u8], &mut [u8], a number, bool, Stream, a type of Values.antt or Enums.antt, or a & to one of these (&Six).
                             NAME is its value (of a slice: its list; the table is ys), g-NAME the fact that it fits
+                            `given` behind a &mut says that it is handed on for good: %walk then leaves [..; tokens; what the parameters own] together
   %result TYPE              what it returns; () for nothing
   %requires FACT            over the parameters' names; `given` is the proof of it
   %calls CRATE::G ..        the callees; known .g′ is the theorem of each

@@ -1,1 +1,4 @@
 pub mod Tags
+pub mod Answers
+pub mod Told
+mod Values

@@ -1,10 +1,20 @@
 // The interface for C: numbers and slices only. Each function calls the library below it and tells its answer as plain
 // fields, since an enum can't cross.
 ghost use mathlib.Core.Path.{_≡_};
+ghost use mathlib.Core.List.{[]};
 ghost use Rattle.frame.specs.TagCalls.{takeTag, writeTag};
+ghost use Rattle.calls.specs.Calls.{arriving, opening, closing, resetting, ticking};
+ghost use Rattle.calls.specs.Said.{saidVerdict, saidArrival, saidOpened, saidDone, saidSwept};
 ghost use Rattle.port.specs.Tags.{tellTaken, tellWritten};
+ghost use Rattle.port.specs.Answers.{tellVerdict, tellArrival, tellOpened, tellDone, tellSwept, Told};
+use calls::Answer;
+use calls::Done;
+use calls::Opened;
+use calls::Swept;
+use calls::Verdict;
 use frame::Taken;
 use frame::Written;
+use record::Stream;
 
 // The answer of a tag call. Where it is refused, refusal is the number and the rest is 0; otherwise refusal is 0.
 #[repr(C)]
@@ -54,4 +64,179 @@ pub extern "C" fn nippitsun_write_tag(frame: &[u8], number: u16, out: &mut [u8])
             refusal: 0,
         },
     }
+}
+
+// ---- the calls on a table
+
+// The answer of an arrival. Refusal 0: verdict is 1 handed up, 2 duplicate, 3 rogue, and length is what was written to the
+// output, 0 but for a frame handed up. Where it is refused, refusal is the number and the rest is 0.
+#[repr(C)]
+pub struct ArrivalAnswer {
+    pub slot: usize,
+    pub length: usize,
+    pub number: u16,
+    pub verdict: u8,
+    pub refusal: u8,
+}
+
+// The answer of an open. Where it is refused, refusal is the number and slot is 0; otherwise refusal is 0.
+#[repr(C)]
+pub struct SlotAnswer {
+    pub slot: usize,
+    pub refusal: u8,
+}
+
+// The answer of a tick. Where it is refused, refusal is the number and the rest is 0; otherwise refusal is 0.
+#[repr(C)]
+pub struct TickAnswer {
+    pub resets: u64,
+    pub damaged: u64,
+    pub refusal: u8,
+}
+
+fn tell_verdict(slot: usize, number: u16, v: Verdict) -> ArrivalAnswer
+    ensures { λ r. ⌜ r ≡ tellVerdict slot number (saidVerdict v) ⌝ }
+{
+    match v {
+        Verdict::HandedUp(length) => ArrivalAnswer {
+            slot,
+            length,
+            number,
+            verdict: 1,
+            refusal: 0,
+        },
+        Verdict::Duplicate => ArrivalAnswer {
+            slot,
+            length: 0,
+            number,
+            verdict: 2,
+            refusal: 0,
+        },
+        Verdict::Rogue => ArrivalAnswer {
+            slot,
+            length: 0,
+            number,
+            verdict: 3,
+            refusal: 0,
+        },
+    }
+}
+
+fn tell_arrival(a: Answer) -> ArrivalAnswer
+    ensures { λ r. ⌜ r ≡ tellArrival (saidArrival a) ⌝ }
+{
+    match a {
+        Answer::Refused(refusal) => ArrivalAnswer {
+            slot: 0,
+            length: 0,
+            number: 0,
+            verdict: 0,
+            refusal,
+        },
+        Answer::Arrival {
+            slot,
+            number,
+            verdict,
+        } => tell_verdict(slot, number, verdict),
+    }
+}
+
+fn tell_opened(a: Opened) -> SlotAnswer
+    ensures { λ r. ⌜ r ≡ tellOpened (saidOpened a) ⌝ }
+{
+    match a {
+        Opened::Refused(refusal) => SlotAnswer { slot: 0, refusal },
+        Opened::At(slot) => SlotAnswer { slot, refusal: 0 },
+    }
+}
+
+fn tell_done(a: Done) -> u8
+    ensures { λ r. ⌜ r ≡ tellDone (saidDone a) ⌝ }
+{
+    match a {
+        Done::Refused(refusal) => refusal,
+        Done::Ok => 0,
+    }
+}
+
+fn tell_swept(a: Swept) -> TickAnswer
+    ensures { λ r. ⌜ r ≡ tellSwept (saidSwept a) ⌝ }
+{
+    match a {
+        Swept::Refused(refusal) => TickAnswer {
+            resets: 0,
+            damaged: 0,
+            refusal,
+        },
+        Swept::Counted(resets, damaged) => TickAnswer {
+            resets,
+            damaged,
+            refusal: 0,
+        },
+    }
+}
+
+// The six bytes of a destination, copied out.
+fn six_of(dest: &[u8; 6]) -> [u8; 6]
+    ensures { λ r. ⌜ r ≡ now (dest .entry) ⌝ }
+{
+    *dest
+}
+
+// Arrival.
+#[no_mangle]
+pub extern "C" fn nippitsun_arrival(
+    table: &mut [Stream],
+    network: u8,
+    frame: &[u8],
+    out: &mut [u8],
+) -> ArrivalAnswer
+    ensures { λ r. ⌜ Told tellArrival (now (table .entry)) (arriving network (now (frame .entry)) (now (out .entry))) r (now (table .exit)) (now (out .exit)) ⌝ }
+{
+    let a = receiver::arrival(table, network, frame, out);
+    tell_arrival(a)
+}
+
+// Close.
+#[no_mangle]
+pub extern "C" fn nippitsun_close(table: &mut [Stream], slot: usize) -> u8
+    ensures { λ r. ⌜ Told tellDone (now (table .entry)) (closing slot) r (now (table .exit)) [] ⌝ }
+{
+    let a = receiver::close(table, slot);
+    tell_done(a)
+}
+
+// Reset.
+#[no_mangle]
+pub extern "C" fn nippitsun_reset(table: &mut [Stream], slot: usize) -> u8
+    ensures { λ r. ⌜ Told tellDone (now (table .entry)) (resetting slot) r (now (table .exit)) [] ⌝ }
+{
+    let a = receiver::reset(table, slot);
+    tell_done(a)
+}
+
+// Tick.
+#[no_mangle]
+pub extern "C" fn nippitsun_tick(table: &mut [Stream]) -> TickAnswer
+    ensures { λ r. ⌜ Told tellSwept (now (table .entry)) ticking r (now (table .exit)) [] ⌝ }
+{
+    let a = receiver::tick(table);
+    tell_swept(a)
+}
+
+// Open. The destination is six bytes.
+#[no_mangle]
+pub extern "C" fn nippitsun_open(
+    table: &mut [Stream],
+    dest: &[u8; 6],
+    vlan: u16,
+    rule: u8,
+    window: u16,
+    time: u16,
+) -> SlotAnswer
+    ensures { λ r. ⌜ Told tellOpened (now (table .entry)) (opening (now (dest .entry)) vlan rule window time) r (now (table .exit)) [] ⌝ }
+{
+    let d = six_of(dest);
+    let a = receiver::open(table, d, vlan, rule, window, time);
+    tell_opened(a)
 }

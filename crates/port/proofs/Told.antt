@@ -1,0 +1,222 @@
+-- Nothing is lost in what the calls on a table tell: no refusal has the number 0, and what a call said can be read back.
+-- Assumes nothing.
+use mathlib.Core.Path.{_≡_, refl, sym, ap, _∙_}
+use Prim.Native.Nat.{ℕ, zero, suc, _-_}
+use native.Mathlib.Omega.{arith}
+use mathlib.Core.Bool.{Bool, true, false, cond, not}
+use mathlib.Core.List.{List}
+use lib.Dec.{eqb, ltb, leb}
+use lib.ListN.{length}
+use Rattle.refusal.specs.Checks.{Said}
+use Rattle.refusal.specs.Checks.Said.{refused, answers}
+use Rattle.refusal.specs.Numbers.{TABLE, NETWORK, UNKNOWN, DAMAGED, ROOM, SETTING, TAKEN, FULL, SLOT}
+use Rattle.refusal.proofs.Checks.{Positive, first-positive}
+use Rattle.record.specs.declared.Stream.{Stream}
+use Rattle.record.specs.Sizes.{slotsMost}
+use Rattle.frame.specs.Frame.{Tag, destOf, readOf, untagged}
+use Rattle.stream.specs.Record.{settled, lawful}
+use Rattle.stream.specs.Record as record′
+use Rattle.calls.specs.Table.{Table, at, search, someSlot, hasKey, isFree}
+use Rattle.calls.specs.Calls.{Call, arriving, opening, closing, resetting, ticking, Act, refuse, arrive, opens, closes, resets, ticks, Answer, Verdict, arrived, placed, done, swept, handedUp, duplicate, rogue, arrivalAt, arrival, inUse, open-call, checked, act, answer}
+use Rattle.calls.specs.Refusals.{checksOf}
+use Rattle.calls.proofs.Exactly.{refused-exactly}
+use Rattle.port.specs.declared.ArrivalAnswer.{ArrivalAnswer}
+use Rattle.port.specs.declared.SlotAnswer.{SlotAnswer}
+use Rattle.port.specs.declared.TickAnswer.{TickAnswer}
+use Rattle.port.specs.Answers.{tellArrival, tellOpened, tellDone, tellSwept, ArrivalTold, OpenTold, CloseTold, ResetTold, TickTold}
+
+-- ---- no refusal has the number 0
+
+positive : (t : Table) (c : Call) → Positive (checksOf t c)
+unfolding checksOf
+positive t (arriving network f out) = (omega arith, (omega arith, (omega arith, (omega arith, (omega arith, (omega arith, (omega arith, (omega arith, tt))))))))
+positive t (opening dest vlan rule window time) = (omega arith, (omega arith, (omega arith, (omega arith, tt))))
+positive t (closing i) = (omega arith, (omega arith, tt))
+positive t (resetting i) = (omega arith, (omega arith, (omega arith, tt)))
+positive t ticking = (omega arith, tt)
+
+never : (t : Table) (c : Call) → answer t (act t c) ≡ refused 0 → ⊥
+never t c e = let z = first-positive 0 (checksOf t c) (positive t c) (refused-exactly t c 0 .0 e) in omega arith
+
+-- ---- what is told is read back
+
+-- the answer where nothing was refused
+abbrev unless : ℕ → Answer → Said Answer
+unless zero a = answers a
+unless (suc n) a = refused (suc n)
+
+abbrev readVerdict : (verdict length : ℕ) → Verdict
+readVerdict v l = cond (eqb v 1) (handedUp l) (cond (eqb v 2) duplicate rogue)
+
+abbrev readArrival : ArrivalAnswer → Said Answer
+readArrival a = unless (a .refusal) (arrived (a .slot) (a .number) (readVerdict (a .verdict) (a .length)))
+
+abbrev readOpened : SlotAnswer → Said Answer
+readOpened a = unless (a .refusal) (placed (a .slot))
+
+abbrev readDone : ℕ → Said Answer
+readDone n = unless n done
+
+abbrev readSwept : TickAnswer → Said Answer
+readSwept a = unless (a .refusal) (swept (a .resets) (a .damaged))
+
+-- what each call may come to, beside a refusal
+abbrev Arrives : Act → Type 0
+Arrives (refuse n) = Unit
+Arrives (arrive i number network bare) = Unit
+Arrives (opens i s) = ⊥
+Arrives (closes i) = ⊥
+Arrives (resets i) = ⊥
+Arrives ticks = ⊥
+
+abbrev Opens : Act → Type 0
+Opens (refuse n) = Unit
+Opens (arrive i number network bare) = ⊥
+Opens (opens i s) = Unit
+Opens (closes i) = ⊥
+Opens (resets i) = ⊥
+Opens ticks = ⊥
+
+abbrev Slots : Act → Type 0
+Slots (refuse n) = Unit
+Slots (arrive i number network bare) = ⊥
+Slots (opens i s) = ⊥
+Slots (closes i) = Unit
+Slots (resets i) = Unit
+Slots ticks = ⊥
+
+abbrev Ticks : Act → Type 0
+Ticks (refuse n) = Unit
+Ticks (arrive i number network bare) = ⊥
+Ticks (opens i s) = ⊥
+Ticks (closes i) = ⊥
+Ticks (resets i) = ⊥
+Ticks ticks = Unit
+
+-- a check before it changes nothing of that
+either : (P : Act → Type 0) (b : Bool) (n : ℕ) (a : Act) → P (refuse n) → P a → P (cond b (refuse n) a)
+either P true n a p q = p
+either P false n a p q = q
+
+-- an arrival after 1 to 5
+read : (t : Table) (network : ℕ) (f out : List ℕ) (x : Said Tag) → Arrives (arrival t network f out x)
+unfolding arrivalAt arrival
+read t network f out (refused n) = tt
+read t network f out (answers g) =
+    let i = search (hasKey (g .header .dest) (g .header .vlan)) t in
+    go (leb (length t) i) (not (lawful (at t i))) (ltb (length out) (length f - 6)) i (g .number) (untagged f)
+  where
+    go : (a b c : Bool) (i number : ℕ) (bare : List ℕ) → Arrives (cond a (refuse UNKNOWN) (cond b (refuse DAMAGED) (cond c (refuse ROOM) (arrive i number network bare))))
+    go true b c i number bare = tt
+    go false true c i number bare = tt
+    go false false true i number bare = tt
+    go false false false i number bare = tt
+
+arrives : (t : Table) (network : ℕ) (f out : List ℕ) → Arrives (act t (arriving network f out))
+unfolding act checked
+arrives t network f out =
+    either Arrives (ltb slotsMost (length t)) TABLE (cond (ltb 1 network) (refuse NETWORK) (arrival t network f out (readOf f))) tt
+    (either Arrives (ltb 1 network) NETWORK (arrival t network f out (readOf f)) tt (read t network f out (readOf f)))
+
+opened : (t : Table) (dest : List ℕ) (vlan rule window time : ℕ) → Opens (act t (opening dest vlan rule window time))
+unfolding act checked open-call
+opened t dest vlan rule window time =
+    let s = record′.opened (destOf dest) vlan rule window time in
+    go (ltb slotsMost (length t)) (not (settled s)) (someSlot (hasKey (s .dest) (s .vlan)) t) (not (someSlot isFree t)) (search isFree t) s
+  where
+    go : (a b c d : Bool) (i : ℕ) (s : Stream) → Opens (cond a (refuse TABLE) (cond b (refuse SETTING) (cond c (refuse TAKEN) (cond d (refuse FULL) (opens i s)))))
+    go true b c d i s = tt
+    go false true c d i s = tt
+    go false false true d i s = tt
+    go false false false true i s = tt
+    go false false false false i s = tt
+
+closed : (t : Table) (i : ℕ) → Slots (act t (closing i))
+unfolding act checked
+closed t i = go (ltb slotsMost (length t)) (inUse t i)
+  where
+    go : (a b : Bool) → Slots (cond a (refuse TABLE) (cond b (closes i) (refuse SLOT)))
+    go true b = tt
+    go false true = tt
+    go false false = tt
+
+reset : (t : Table) (i : ℕ) → Slots (act t (resetting i))
+unfolding act checked
+reset t i = go (ltb slotsMost (length t)) (not (inUse t i)) (not (settled (at t i)))
+  where
+    go : (a b c : Bool) → Slots (cond a (refuse TABLE) (cond b (refuse SLOT) (cond c (refuse DAMAGED) (resets i))))
+    go true b c = tt
+    go false true c = tt
+    go false false true = tt
+    go false false false = tt
+
+ticked : (t : Table) → Ticks (act t ticking)
+unfolding act checked
+ticked t = either Ticks (ltb slotsMost (length t)) TABLE ticks tt tt
+
+read-refused : (n : ℕ) (a : Answer) → (_≡_ {A = Said Answer} (refused n) (refused 0) → ⊥) → unless n a ≡ refused n
+read-refused zero a p = absurd (p refl)
+read-refused (suc n) a p = refl
+
+read-verdict : (slot number : ℕ) (v : Verdict) → readArrival (tellArrival (answers (arrived slot number v))) ≡ answers (arrived slot number v)
+read-verdict slot number (handedUp l) = refl
+read-verdict slot number duplicate = refl
+read-verdict slot number rogue = refl
+
+read-arrival : (t : Table) (a : Act) → Arrives a → (answer t a ≡ refused 0 → ⊥) → readArrival (tellArrival (answer t a)) ≡ answer t a
+unfolding answer
+read-arrival t (refuse n) k p = read-refused n _ p
+read-arrival t (arrive i number network bare) k p = read-verdict i number _
+read-arrival t (opens i s) k p = absurd k
+read-arrival t (closes i) k p = absurd k
+read-arrival t (resets i) k p = absurd k
+read-arrival t ticks k p = absurd k
+
+read-opened : (t : Table) (a : Act) → Opens a → (answer t a ≡ refused 0 → ⊥) → readOpened (tellOpened (answer t a)) ≡ answer t a
+unfolding answer
+read-opened t (refuse n) k p = read-refused n _ p
+read-opened t (arrive i number network bare) k p = absurd k
+read-opened t (opens i s) k p = refl
+read-opened t (closes i) k p = absurd k
+read-opened t (resets i) k p = absurd k
+read-opened t ticks k p = absurd k
+
+read-done : (t : Table) (a : Act) → Slots a → (answer t a ≡ refused 0 → ⊥) → readDone (tellDone (answer t a)) ≡ answer t a
+unfolding answer
+read-done t (refuse n) k p = read-refused n _ p
+read-done t (arrive i number network bare) k p = absurd k
+read-done t (opens i s) k p = absurd k
+read-done t (closes i) k p = refl
+read-done t (resets i) k p = refl
+read-done t ticks k p = absurd k
+
+read-swept : (t : Table) (a : Act) → Ticks a → (answer t a ≡ refused 0 → ⊥) → readSwept (tellSwept (answer t a)) ≡ answer t a
+unfolding answer
+read-swept t (refuse n) k p = read-refused n _ p
+read-swept t (arrive i number network bare) k p = absurd k
+read-swept t (opens i s) k p = absurd k
+read-swept t (closes i) k p = absurd k
+read-swept t (resets i) k p = absurd k
+read-swept t ticks k p = refl
+
+-- ---- so calls that are told alike said the same
+
+alike : {A : Type 0} (tell : Said Answer → A) (back : A → Said Answer) (x y : Said Answer) → back (tell x) ≡ x → back (tell y) ≡ y → tell x ≡ tell y → x ≡ y
+alike tell back x y p q e = sym p ∙ ap back e ∙ q
+
+pub arrival-told : ArrivalTold
+arrival-told t network f out u other g back =
+    alike tellArrival readArrival _ _ (read-arrival t _ (arrives t network f out) (never t _)) (read-arrival u _ (arrives u other g back) (never u _))
+
+pub open-told : OpenTold
+open-told t dest vlan rule window time u dest′ vlan′ rule′ window′ time′ =
+    alike tellOpened readOpened _ _ (read-opened t _ (opened t dest vlan rule window time) (never t _)) (read-opened u _ (opened u dest′ vlan′ rule′ window′ time′) (never u _))
+
+pub close-told : CloseTold
+close-told t i u j = alike tellDone readDone _ _ (read-done t _ (closed t i) (never t _)) (read-done u _ (closed u j) (never u _))
+
+pub reset-told : ResetTold
+reset-told t i u j = alike tellDone readDone _ _ (read-done t _ (reset t i) (never t _)) (read-done u _ (reset u j) (never u _))
+
+pub tick-told : TickTold
+tick-told t u = alike tellSwept readSwept _ _ (read-swept t _ (ticked t) (never t _)) (read-swept u _ (ticked u) (never u _))

@@ -1,0 +1,85 @@
+-- The calls on a table for C: how what they say is told in plain fields. Assumes nothing.
+use Prim.Native.Nat.{ℕ}
+use mathlib.Core.Path.{_≡_}
+use mathlib.Core.List.{List}
+use Rattle.refusal.specs.Checks.{Said}
+use Rattle.refusal.specs.Checks.Said.{refused, answers}
+use Rattle.calls.specs.Table.{Table}
+use Rattle.calls.specs.Calls.{Call, arriving, opening, closing, resetting, ticking, Answer, Verdict, arrived, placed, done, swept, handedUp, duplicate, rogue, act, after, answer, output, outOf}
+use Rattle.port.specs.declared.ArrivalAnswer.{ArrivalAnswer}
+use Rattle.port.specs.declared.SlotAnswer.{SlotAnswer}
+use Rattle.port.specs.declared.TickAnswer.{TickAnswer}
+
+-- An arrival carries the slot, the number and one of three verdicts: 1 handed up with its length, 2 duplicate, 3 rogue.
+abbrev pub tellVerdict : (slot number : ℕ) → Verdict → ArrivalAnswer
+tellVerdict slot number (handedUp l) = record { slot = slot; length = l; number = number; verdict = 1; refusal = 0 }
+tellVerdict slot number duplicate = record { slot = slot; length = 0; number = number; verdict = 2; refusal = 0 }
+tellVerdict slot number rogue = record { slot = slot; length = 0; number = number; verdict = 3; refusal = 0 }
+
+-- all fields 0 but the refusal's number
+abbrev pub noArrival : (refusal : ℕ) → ArrivalAnswer
+noArrival n = record { slot = 0; length = 0; number = 0; verdict = 0; refusal = n }
+
+-- (The other answers are no arrival's; the same of each call below.)
+abbrev pub tellArrival : Said Answer → ArrivalAnswer
+tellArrival (refused n) = noArrival n
+tellArrival (answers (arrived slot number v)) = tellVerdict slot number v
+tellArrival (answers (placed slot)) = noArrival 0
+tellArrival (answers done) = noArrival 0
+tellArrival (answers (swept streams records)) = noArrival 0
+
+-- Open tells the slot.
+abbrev pub tellOpened : Said Answer → SlotAnswer
+tellOpened (refused n) = record { slot = 0; refusal = n }
+tellOpened (answers (placed slot)) = record { slot = slot; refusal = 0 }
+tellOpened (answers (arrived slot number v)) = record { slot = 0; refusal = 0 }
+tellOpened (answers done) = record { slot = 0; refusal = 0 }
+tellOpened (answers (swept streams records)) = record { slot = 0; refusal = 0 }
+
+-- Close and reset tell nothing more: the refusal's number, or 0 where it was done.
+abbrev pub tellDone : Said Answer → ℕ
+tellDone (refused n) = n
+tellDone (answers a) = 0
+
+-- A tick tells how many streams it reset and how many records in use are damaged.
+abbrev pub tellSwept : Said Answer → TickAnswer
+tellSwept (refused n) = record { resets = 0; damaged = 0; refusal = n }
+tellSwept (answers (swept streams records)) = record { resets = streams; damaged = records; refusal = 0 }
+tellSwept (answers (arrived slot number v)) = record { resets = 0; damaged = 0; refusal = 0 }
+tellSwept (answers (placed slot)) = record { resets = 0; damaged = 0; refusal = 0 }
+tellSwept (answers done) = record { resets = 0; damaged = 0; refusal = 0 }
+
+-- The contract of every exported call: what document 01 says of the call is told, and the table and the output bytes are
+-- those that it gives.
+pub record Told {A : Type 0} (tell : Said Answer → A) (t : Table) (c : Call) (told : A) (rows : Table) (bytes : List ℕ) : Type 0 where
+  pub said : told ≡ tell (answer t (act t c))
+  pub table : rows ≡ after t (act t c)
+  pub output : bytes ≡ output t (outOf c) (act t c)
+
+-- Nothing is lost: calls that are told alike said the same.
+abbrev pub ArrivalTold : Type 0
+ArrivalTold =
+    (t : Table) (network : ℕ) (f out : List ℕ) (u : Table) (other : ℕ) (g back : List ℕ)
+    → tellArrival (answer t (act t (arriving network f out))) ≡ tellArrival (answer u (act u (arriving other g back)))
+    → answer t (act t (arriving network f out)) ≡ answer u (act u (arriving other g back))
+
+abbrev pub OpenTold : Type 0
+OpenTold =
+    (t : Table) (dest : List ℕ) (vlan rule window time : ℕ) (u : Table) (dest′ : List ℕ) (vlan′ rule′ window′ time′ : ℕ)
+    → tellOpened (answer t (act t (opening dest vlan rule window time))) ≡ tellOpened (answer u (act u (opening dest′ vlan′ rule′ window′ time′)))
+    → answer t (act t (opening dest vlan rule window time)) ≡ answer u (act u (opening dest′ vlan′ rule′ window′ time′))
+
+abbrev pub CloseTold : Type 0
+CloseTold =
+    (t : Table) (i : ℕ) (u : Table) (j : ℕ) → tellDone (answer t (act t (closing i))) ≡ tellDone (answer u (act u (closing j)))
+    → answer t (act t (closing i)) ≡ answer u (act u (closing j))
+
+abbrev pub ResetTold : Type 0
+ResetTold =
+    (t : Table) (i : ℕ) (u : Table) (j : ℕ) → tellDone (answer t (act t (resetting i))) ≡ tellDone (answer u (act u (resetting j)))
+    → answer t (act t (resetting i)) ≡ answer u (act u (resetting j))
+
+abbrev pub TickTold : Type 0
+TickTold =
+    (t u : Table) → tellSwept (answer t (act t ticking)) ≡ tellSwept (answer u (act u ticking))
+    → answer t (act t ticking) ≡ answer u (act u ticking)
