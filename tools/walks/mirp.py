@@ -73,9 +73,9 @@ def named(t):
         ref = '&mut ' if how == 'mut' else '&'
         if 'Stream' in of and k == '0': return ('shrTy' if how == 'imm' else 'mutTy'), ref + '[Stream]'
         return f'sliceTy (tyRef (named {k}) {how} (pointee (u8 .written)))', ref + '[u8]'
-    m = re.fullmatch(r'(\(tyStruct "&\[\]" \(tcons )?\(tyRef erased (imm|mut) \(Stream\)\)(.*)', t)
+    m = re.fullmatch(r'(\(tyStruct "&\[\]" \(tcons )?\(tyRef erased (imm|mut) \((Stream|tyInt 8)\)\)(.*)', t)
     if m:
-        lent = f'tyRef erased {m[2]} (pointee (R .written))'
+        lent = f'tyRef erased {m[2]} (pointee ({"R" if m[3] == "Stream" else "u8"} .written))'
         return (f'sliceTy ({lent})' if m[1] else lent), '?'
     m = re.fullmatch(r'\(tyArray \(tyInt 8\) \(lenLit 6\)\)', t)
     if m: return 'six-ty', 'Six'

@@ -42,7 +42,7 @@ use Rattle.record.specs.declared.Stream.{Stream}
 use Rattle.refusal.specs.Checks.Said.{refused}
 use Rattle.refusal.specs.Numbers.{UNKNOWN}
 use Rattle.frame.specs.declared.Header.{Header}
-use Rattle.calls.specs.Calls as calls
+use Rattle.calls.specs.Calls.{arriving, Meets as CallMeets}
 use Rattle.calls.specs.Said.{saidArrival}
 use Rattle.calls.specs.Table.{blank, found, hasKey}
 use Rattle.calls.specs.Steps.{saidAsked, asked, refusalIn, hasRoom, judged, recordOf, finished, bytesOf}
@@ -144,7 +144,7 @@ module _ {M : Type 1} (𝓤 : URA M) (H : Heap 𝓤) (A : Atoms 𝓤) (W : Given
   abbrev Post′ : Val → SProp 𝓤
   Post′ = walkOf 𝓤 H A fn.ended stayed (fn.clauses 𝓤 H A mem run) .post (((κ, (κ₁, (κ₂, tt))), (q, (q₁, (q₂, tt))), tt, x, mv), tt)
 
-  exits : Room R (length ys) → (zs : List Stream) → length zs ≡ length ys → Room u8 (length us) → (us′ : List ℕ) → length us′ ≡ length us → (r : Answer) → answer-ok r → calls.Meets ys (calls.arriving network fr us) (record { said = saidArrival r; table = zs; output = us′ }) → ent 𝓤 (⋆ 𝓤 H A (‵ (fobs γ (codedHoleys R .code (heres R zs))) ∷ ‵ (fbor κ (Held R (length zs) b o γ)) ∷ ‵ (flft κ q) ∷ ‵ (flft κ₁ q₁) ∷ ‵ (fobs γ₂ (codedHoleys u8 .code (heres u8 us′))) ∷ ‵ (fbor κ₂ (Held u8 (length us′) b₂ o₂ γ₂)) ∷ ‵ (flft κ₂ q₂) ∷ [])) (Post′ (answer-val r))
+  exits : Room R (length ys) → (zs : List Stream) → length zs ≡ length ys → Room u8 (length us) → (us′ : List ℕ) → length us′ ≡ length us → (r : Answer) → answer-ok r → CallMeets ys (arriving network fr us) (record { said = saidArrival r; table = zs; output = us′ }) → ent 𝓤 (⋆ 𝓤 H A (‵ (fobs γ (codedHoleys R .code (heres R zs))) ∷ ‵ (fbor κ (Held R (length zs) b o γ)) ∷ ‵ (flft κ q) ∷ ‵ (flft κ₁ q₁) ∷ ‵ (fobs γ₂ (codedHoleys u8 .code (heres u8 us′))) ∷ ‵ (fbor κ₂ (Held u8 (length us′) b₂ o₂ γ₂)) ∷ ‵ (flft κ₂ q₂) ∷ [])) (Post′ (answer-val r))
   exits g-ys zs len-ys g-us us′ len-us r g said =
       qed W (‵ (fobs γ (codedHoleys R .code (heres R zs))) ∷ ‵ (fbor κ (Held R (length zs) b o γ)) ∷ ‵ (flft κ q) ∷ ‵ (flft κ₁ q₁) ∷ ‵ (fobs γ₂ (codedHoleys u8 .code (heres u8 us′))) ∷ ‵ (fbor κ₂ (Held u8 (length us′) b₂ o₂ γ₂)) ∷ ‵ (flft κ₂ q₂) ∷ []) ∵
       suffices ! _ (ends-at 𝓤 H A fn.ended stayed (fn.clauses 𝓤 H A mem run) W (((κ, (κ₁, (κ₂, tt))), (q, (q₁, (q₂, tt))), tt, x, mv), tt) (answer-val r) r (zs, (tt, (tt, (us′, tt)))) (len-ys, (tt, (tt, (len-us, tt))))) $ says ! said $
@@ -165,7 +165,7 @@ module _ {M : Type 1} (𝓤 : URA M) (H : Heap 𝓤) (A : Atoms 𝓤) (W : Given
       abbrev En : Env 𝓤 H
       En = (answer-ty, l₀) ∷ (mutTy, l₁) ∷ (tyInt w8, l₂) ∷ (sliceTy (tyRef (named 1) imm (pointee (u8 .written))), l₃) ∷ (sliceTy (tyRef (named 2) mut (pointee (u8 .written))), l₄) ∷ (asked-ty, l₅) ∷ (header-ty, l₆) ∷ (tyInt w16, l₇) ∷ (found-ty, l₈) ∷ (tyInt w64, l₉) ∷ (tyBool, l₁₀) ∷ (judged-ty, l₁₁) ∷ (tyInt w64, l₁₂) ∷ (tyRef erased imm (pointee (R .written)), l₁₃) ∷ (sliceTy (tyRef erased imm (pointee (R .written))), l₁₄) ∷ (tyRef erased imm (pointee (u8 .written)), l₁₅) ∷ (sliceTy (tyRef erased imm (pointee (u8 .written))), l₁₆) ∷ (tyRef erased mut (pointee (R .written)), l₁₇) ∷ (sliceTy (tyRef erased mut (pointee (R .written))), l₁₈) ∷ (tyRef erased mut (pointee (u8 .written)), l₁₉) ∷ (sliceTy (tyRef erased mut (pointee (u8 .written))), l₂₀) ∷ []
 
-      -- the search is done: the second `let .. else` and what follows
+      -- the table was searched: the second `let .. else` and what follows
       module _ (h : Header) (number : ℕ) (g-h : header-ok h) (g-number : number < 2 ^ 16) (p : saidAsked (Asked.For h number) ≡ asked (length ys) network fr) where
         abbrev Searched : Found → List (Item 𝓤)
         Searched f = ‵ (fobs γ (codedHoleys R .code (heres R ys))) ∷ ‵ (fbor κ (Held R (length ys) b o γ)) ∷ ‵ (flft κ q) ∷ ‵ (ShrSlice (named 1) κ₁ u8 .own (record { ptr = (b₁, o₁); name = γ₁; now = fr }) (sliceVal (b₁, o₁) (length fr) ∷ [])) ∷ ‵ (flft κ₁ q₁) ∷ ‵ (fobs γ₂ (codedHoleys u8 .code (heres u8 us))) ∷ ‵ (fbor κ₂ (Held u8 (length us) b₂ o₂ γ₂)) ∷ ‵ (flft κ₂ q₂) ∷ ‵ (froom (sliceTy (tyRef erased mut (pointee (u8 .written)))) l₂₀ 0) ∷ ‵ (fdies (sliceTy (tyRef erased mut (pointee (u8 .written)))) l₂₀) ∷ ‵ (froom (tyRef erased mut (pointee (u8 .written))) l₁₉ 0) ∷ ‵ (fdies (tyRef erased mut (pointee (u8 .written))) l₁₉) ∷ ‵ (froom (sliceTy (tyRef erased mut (pointee (R .written)))) l₁₈ 0) ∷ ‵ (fdies (sliceTy (tyRef erased mut (pointee (R .written)))) l₁₈) ∷ ‵ (froom (tyRef erased mut (pointee (R .written))) l₁₇ 0) ∷ ‵ (fdies (tyRef erased mut (pointee (R .written))) l₁₇) ∷ ‵ (froom (sliceTy (tyRef erased imm (pointee (u8 .written)))) l₁₆ 0) ∷ ‵ (fdies (sliceTy (tyRef erased imm (pointee (u8 .written)))) l₁₆) ∷ ‵ (froom (tyRef erased imm (pointee (u8 .written))) l₁₅ 0) ∷ ‵ (fdies (tyRef erased imm (pointee (u8 .written))) l₁₅) ∷ ‵ (froom (sliceTy (tyRef erased imm (pointee (R .written)))) l₁₄ 0) ∷ ‵ (fdies (sliceTy (tyRef erased imm (pointee (R .written)))) l₁₄) ∷ ‵ (froom (tyRef erased imm (pointee (R .written))) l₁₃ 0) ∷ ‵ (fdies (tyRef erased imm (pointee (R .written))) l₁₃) ∷ ‵ (froom (tyInt w64) l₁₂ 0) ∷ ‵ (fdies (tyInt w64) l₁₂) ∷ ‵ (froom judged-ty l₁₁ 0) ∷ ‵ (fdies judged-ty l₁₁) ∷ ‵ (froom tyBool l₁₀ 0) ∷ ‵ (fdies tyBool l₁₀) ∷ ‵ (froom (tyInt w64) l₉ 0) ∷ ‵ (fdies (tyInt w64) l₉) ∷ ‵ (fat fullShare found-ty l₈ 0 (found-val f)) ∷ ‵ (fdies found-ty l₈) ∷ ‵ (fat fullShare (tyInt w16) l₇ 0 (vint w16 number)) ∷ ‵ (fdies (tyInt w16) l₇) ∷ ‵ (fat fullShare header-ty l₆ 0 (header-val h)) ∷ ‵ (fdies header-ty l₆) ∷ ‵ (fat fullShare asked-ty l₅ 0 (asked-val (Asked.For h number))) ∷ ‵ (fdies asked-ty l₅) ∷ ‵ (fat fullShare (sliceTy (tyRef (named 2) mut (pointee (u8 .written)))) l₄ 0 (sliceVal (b₂, o₂) (length us))) ∷ ‵ (fdies (sliceTy (tyRef (named 2) mut (pointee (u8 .written)))) l₄) ∷ ‵ (fat fullShare (sliceTy (tyRef (named 1) imm (pointee (u8 .written)))) l₃ 0 (sliceVal (b₁, o₁) (length fr))) ∷ ‵ (fdies (sliceTy (tyRef (named 1) imm (pointee (u8 .written)))) l₃) ∷ ‵ (fat fullShare (tyInt w8) l₂ 0 (vint w8 network)) ∷ ‵ (fdies (tyInt w8) l₂) ∷ ‵ (fat fullShare mutTy l₁ 0 s) ∷ ‵ (fdies mutTy l₁) ∷ ‵ (froom answer-ty l₀ 0) ∷ ‵ (fdies answer-ty l₀) ∷ []
@@ -201,13 +201,13 @@ module _ {M : Type 1} (𝓤 : URA M) (H : Heap 𝓤) (A : Atoms 𝓤) (W : Given
             move ! (48 ∷ 49 ∷ []) $ free1 ! $ move ! (46 ∷ 47 ∷ []) $ free1 ! $ move ! (44 ∷ 45 ∷ []) $ free1 ! $ move ! (42 ∷ 43 ∷ []) $ free1 ! $ move ! (40 ∷ 41 ∷ []) $ free1 ! $ move ! (38 ∷ 39 ∷ []) $ free1 ! $ move ! (36 ∷ 37 ∷ []) $ free1 ! $ move ! (34 ∷ 35 ∷ []) $ free1 ! $ move ! (32 ∷ 33 ∷ []) $ free1 ! $ move ! (30 ∷ 31 ∷ []) $ free1 ! $ move ! (28 ∷ 29 ∷ []) $ free1 ! $ move ! (26 ∷ 27 ∷ []) $ free1 ! $ move ! (24 ∷ 25 ∷ []) $ free1 ! $ move ! (22 ∷ 23 ∷ []) $ free1 ! $ move ! (20 ∷ 21 ∷ []) $ free1 ! $ move ! (18 ∷ 19 ∷ []) $ free1 ! $ move ! (16 ∷ 17 ∷ []) $ free1 ! $ move ! (14 ∷ 15 ∷ []) $ free1 ! $ move ! (12 ∷ 13 ∷ []) $ free1 ! $ move ! (10 ∷ 11 ∷ []) $ free1 ! $ move ! (8 ∷ 9 ∷ []) $ free1 ! $ free0 ! $ keep ! (0 ∷ 1 ∷ 2 ∷ 4 ∷ 5 ∷ 6 ∷ 7 ∷ []) $ by ! (exits g-ys zs len g-us us′ len-us′ r g-r (arrival-settled ys network fr us p refl (sym e) r roomy (settled .0) (settled .1) (said .0) (said .1))))))
 
       -- 1 to 5 are asked: the first `let .. else` and what follows
-      abbrev Known-1 : Asked → List (Item 𝓤)
-      Known-1 q′ = ‵ (fobs γ (codedHoleys R .code (heres R ys))) ∷ ‵ (fbor κ (Held R (length ys) b o γ)) ∷ ‵ (flft κ q) ∷ ‵ (ShrSlice (named 1) κ₁ u8 .own (record { ptr = (b₁, o₁); name = γ₁; now = fr }) (sliceVal (b₁, o₁) (length fr) ∷ [])) ∷ ‵ (flft κ₁ q₁) ∷ ‵ (fobs γ₂ (codedHoleys u8 .code (heres u8 us))) ∷ ‵ (fbor κ₂ (Held u8 (length us) b₂ o₂ γ₂)) ∷ ‵ (flft κ₂ q₂) ∷ ‵ (froom (sliceTy (tyRef erased mut (pointee (u8 .written)))) l₂₀ 0) ∷ ‵ (fdies (sliceTy (tyRef erased mut (pointee (u8 .written)))) l₂₀) ∷ ‵ (froom (tyRef erased mut (pointee (u8 .written))) l₁₉ 0) ∷ ‵ (fdies (tyRef erased mut (pointee (u8 .written))) l₁₉) ∷ ‵ (froom (sliceTy (tyRef erased mut (pointee (R .written)))) l₁₈ 0) ∷ ‵ (fdies (sliceTy (tyRef erased mut (pointee (R .written)))) l₁₈) ∷ ‵ (froom (tyRef erased mut (pointee (R .written))) l₁₇ 0) ∷ ‵ (fdies (tyRef erased mut (pointee (R .written))) l₁₇) ∷ ‵ (froom (sliceTy (tyRef erased imm (pointee (u8 .written)))) l₁₆ 0) ∷ ‵ (fdies (sliceTy (tyRef erased imm (pointee (u8 .written)))) l₁₆) ∷ ‵ (froom (tyRef erased imm (pointee (u8 .written))) l₁₅ 0) ∷ ‵ (fdies (tyRef erased imm (pointee (u8 .written))) l₁₅) ∷ ‵ (froom (sliceTy (tyRef erased imm (pointee (R .written)))) l₁₄ 0) ∷ ‵ (fdies (sliceTy (tyRef erased imm (pointee (R .written)))) l₁₄) ∷ ‵ (froom (tyRef erased imm (pointee (R .written))) l₁₃ 0) ∷ ‵ (fdies (tyRef erased imm (pointee (R .written))) l₁₃) ∷ ‵ (froom (tyInt w64) l₁₂ 0) ∷ ‵ (fdies (tyInt w64) l₁₂) ∷ ‵ (froom judged-ty l₁₁ 0) ∷ ‵ (fdies judged-ty l₁₁) ∷ ‵ (froom tyBool l₁₀ 0) ∷ ‵ (fdies tyBool l₁₀) ∷ ‵ (froom (tyInt w64) l₉ 0) ∷ ‵ (fdies (tyInt w64) l₉) ∷ ‵ (froom found-ty l₈ 0) ∷ ‵ (fdies found-ty l₈) ∷ ‵ (froom (tyInt w16) l₇ 0) ∷ ‵ (fdies (tyInt w16) l₇) ∷ ‵ (froom header-ty l₆ 0) ∷ ‵ (fdies header-ty l₆) ∷ ‵ (fat fullShare asked-ty l₅ 0 (asked-val q′)) ∷ ‵ (fdies asked-ty l₅) ∷ ‵ (fat fullShare (sliceTy (tyRef (named 2) mut (pointee (u8 .written)))) l₄ 0 (sliceVal (b₂, o₂) (length us))) ∷ ‵ (fdies (sliceTy (tyRef (named 2) mut (pointee (u8 .written)))) l₄) ∷ ‵ (fat fullShare (sliceTy (tyRef (named 1) imm (pointee (u8 .written)))) l₃ 0 (sliceVal (b₁, o₁) (length fr))) ∷ ‵ (fdies (sliceTy (tyRef (named 1) imm (pointee (u8 .written)))) l₃) ∷ ‵ (fat fullShare (tyInt w8) l₂ 0 (vint w8 network)) ∷ ‵ (fdies (tyInt w8) l₂) ∷ ‵ (fat fullShare mutTy l₁ 0 s) ∷ ‵ (fdies mutTy l₁) ∷ ‵ (froom answer-ty l₀ 0) ∷ ‵ (fdies answer-ty l₀) ∷ []
+      abbrev Answered : Asked → List (Item 𝓤)
+      Answered q′ = ‵ (fobs γ (codedHoleys R .code (heres R ys))) ∷ ‵ (fbor κ (Held R (length ys) b o γ)) ∷ ‵ (flft κ q) ∷ ‵ (ShrSlice (named 1) κ₁ u8 .own (record { ptr = (b₁, o₁); name = γ₁; now = fr }) (sliceVal (b₁, o₁) (length fr) ∷ [])) ∷ ‵ (flft κ₁ q₁) ∷ ‵ (fobs γ₂ (codedHoleys u8 .code (heres u8 us))) ∷ ‵ (fbor κ₂ (Held u8 (length us) b₂ o₂ γ₂)) ∷ ‵ (flft κ₂ q₂) ∷ ‵ (froom (sliceTy (tyRef erased mut (pointee (u8 .written)))) l₂₀ 0) ∷ ‵ (fdies (sliceTy (tyRef erased mut (pointee (u8 .written)))) l₂₀) ∷ ‵ (froom (tyRef erased mut (pointee (u8 .written))) l₁₉ 0) ∷ ‵ (fdies (tyRef erased mut (pointee (u8 .written))) l₁₉) ∷ ‵ (froom (sliceTy (tyRef erased mut (pointee (R .written)))) l₁₈ 0) ∷ ‵ (fdies (sliceTy (tyRef erased mut (pointee (R .written)))) l₁₈) ∷ ‵ (froom (tyRef erased mut (pointee (R .written))) l₁₇ 0) ∷ ‵ (fdies (tyRef erased mut (pointee (R .written))) l₁₇) ∷ ‵ (froom (sliceTy (tyRef erased imm (pointee (u8 .written)))) l₁₆ 0) ∷ ‵ (fdies (sliceTy (tyRef erased imm (pointee (u8 .written)))) l₁₆) ∷ ‵ (froom (tyRef erased imm (pointee (u8 .written))) l₁₅ 0) ∷ ‵ (fdies (tyRef erased imm (pointee (u8 .written))) l₁₅) ∷ ‵ (froom (sliceTy (tyRef erased imm (pointee (R .written)))) l₁₄ 0) ∷ ‵ (fdies (sliceTy (tyRef erased imm (pointee (R .written)))) l₁₄) ∷ ‵ (froom (tyRef erased imm (pointee (R .written))) l₁₃ 0) ∷ ‵ (fdies (tyRef erased imm (pointee (R .written))) l₁₃) ∷ ‵ (froom (tyInt w64) l₁₂ 0) ∷ ‵ (fdies (tyInt w64) l₁₂) ∷ ‵ (froom judged-ty l₁₁ 0) ∷ ‵ (fdies judged-ty l₁₁) ∷ ‵ (froom tyBool l₁₀ 0) ∷ ‵ (fdies tyBool l₁₀) ∷ ‵ (froom (tyInt w64) l₉ 0) ∷ ‵ (fdies (tyInt w64) l₉) ∷ ‵ (froom found-ty l₈ 0) ∷ ‵ (fdies found-ty l₈) ∷ ‵ (froom (tyInt w16) l₇ 0) ∷ ‵ (fdies (tyInt w16) l₇) ∷ ‵ (froom header-ty l₆ 0) ∷ ‵ (fdies header-ty l₆) ∷ ‵ (fat fullShare asked-ty l₅ 0 (asked-val q′)) ∷ ‵ (fdies asked-ty l₅) ∷ ‵ (fat fullShare (sliceTy (tyRef (named 2) mut (pointee (u8 .written)))) l₄ 0 (sliceVal (b₂, o₂) (length us))) ∷ ‵ (fdies (sliceTy (tyRef (named 2) mut (pointee (u8 .written)))) l₄) ∷ ‵ (fat fullShare (sliceTy (tyRef (named 1) imm (pointee (u8 .written)))) l₃ 0 (sliceVal (b₁, o₁) (length fr))) ∷ ‵ (fdies (sliceTy (tyRef (named 1) imm (pointee (u8 .written)))) l₃) ∷ ‵ (fat fullShare (tyInt w8) l₂ 0 (vint w8 network)) ∷ ‵ (fdies (tyInt w8) l₂) ∷ ‵ (fat fullShare mutTy l₁ 0 s) ∷ ‵ (fdies mutTy l₁) ∷ ‵ (froom answer-ty l₀ 0) ∷ ‵ (fdies answer-ty l₀) ∷ []
 
       abbrev Then-4 : Post 𝓤 H
       Then-4 = anyQ (afterSeq 𝓤 H (Wp 𝓤 H C Λ En mir′.t-4 (atReturn 𝓤 H En Post′)) (atReturn 𝓤 H En Post′))
 
-      questioned : (q′ : Asked) → asked-ok q′ → saidAsked q′ ≡ asked (length ys) network fr → Sq W (Known-1 q′) (runs C Λ En mir′.t-3 (atRet En Post′))
+      questioned : (q′ : Asked) → asked-ok q′ → saidAsked q′ ≡ asked (length ys) network fr → Sq W (Answered q′) (runs C Λ En mir′.t-3 (atRet En Post′))
       questioned (Asked.Refused k) g-q p =
           first ! $ switches-on ! (load ! (from ! (vrt ! refl (fld ! refl (stop !)))) (look-tag ! 38 (whole !))) $ exec ! C Λ En (arm-of 1 mir′.s-3) Then-4 $
           calls-value {𝓤 = 𝓤} {H = H} {A = A} ! fm fn-refused.ended (fn-refused.clauses 𝓤 H A mem run) (known .refused′) ((tt, tt, tt, ((Asked.Refused k), tt), (asked-val (Asked.Refused k) ∷ [], tt)), tt) (qed W [] ∵ nothing ! $ asked-has ! (Asked.Refused k) g-q $ fjoin ! $ nothing ! $ join ! $ frame ! $ done !) answer-val (λ r vs p. answer-tells r vs p) (λ (r : Answer). saidArrival r ≡ refused (refusalIn (Asked.Refused k))) (λ r ws. id⊢ 𝓤 _) (and-then ! (load ! (from ! (stop !)) (look-cell ! 39 refl)) (no-more !)) (λ r g-r said.
