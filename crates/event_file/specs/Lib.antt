@@ -1,0 +1,7 @@
+pub mod Text
+pub mod Records
+pub mod Lines
+pub mod Files
+pub mod Example
+pub mod Pieces
+pub mod Laws

@@ -1,0 +1,103 @@
+-- Document 01, "Event file and the program `events`": one line a record, and the last line. Assumes nothing.
+use Prim.Native.Nat.{ℕ, _+_, _≤_}
+use Prim.Native.Char.{code}
+use mathlib.Core.Path.{_≡_}
+use mathlib.Core.List.{List, [], _∷_, _++_}
+use lib.ListN.{length, take, drop}
+use lib.Dec.{leb, eqb}
+use Rattle.refusal.specs.Checks.{Said}
+use Rattle.refusal.specs.Checks.Said.{refused, answers}
+use Rattle.record.specs.Words.{if_then_else_}
+use Rattle.calls.specs.Calls.{Verdict, handedUp, duplicate, rogue, Answer, arrived, placed, done, swept}
+use Rattle.calls.specs.Said.{saidArrival, saidOpened, saidDone, saidSwept}
+use Rattle.event_file.specs.Text.{text, decimalOf}
+use Rattle.event_file.specs.declared.line.Numeral.{Numeral}
+use Rattle.event_file.specs.declared.line.Numeral.the-variants.{One, Two, Other}
+use Rattle.event_file.specs.declared.line.Reply.{Reply}
+use Rattle.event_file.specs.declared.line.Reply.the-variants.{Open, Close, Reset, Arrival, Tick}
+use Rattle.event_file.specs.declared.line.Told.{Told}
+use Rattle.event_file.specs.declared.line.Told.the-variants.{Bad, Answered}
+
+-- ---- the answer, parted by single spaces, numbers in decimal
+
+-- two numbers
+abbrev pub pairOf : ℕ → ℕ → List ℕ
+pairOf a b = decimalOf a ++ text " " ++ decimalOf b
+
+-- Arrival prints `up`, `dup` or `rogue`, then slot and number.
+abbrev pub verdictWord : Verdict → List ℕ
+verdictWord (handedUp length) = text "up"
+verdictWord duplicate = text "dup"
+verdictWord rogue = text "rogue"
+
+-- A refusal prints `no` and its number. Open prints the slot. Close and reset print `ok`. Tick prints streams reset and
+-- records damaged.
+unfoldable pub answerOf : Said Answer → List ℕ
+answerOf (refused number) = text "no " ++ decimalOf number
+answerOf (answers (arrived slot number v)) = verdictWord v ++ text " " ++ pairOf slot number
+answerOf (answers (placed slot)) = decimalOf slot
+answerOf (answers done) = text "ok"
+answerOf (answers (swept streams records)) = pairOf streams records
+
+-- ---- the lines, each with its end
+
+-- One line a record: its number, a letter (O C R A T), the answer.
+unfoldable pub lineOf : (number letter : ℕ) → Said Answer → List ℕ
+lineOf number letter said = decimalOf number ++ text " " ++ (letter ∷ text " ") ++ answerOf said ++ text "\n"
+
+-- A bad record prints the record number and `bad`.
+unfoldable pub badLine : (number : ℕ) → List ℕ
+badLine number = decimalOf number ++ text " bad\n"
+
+-- the last line, with so many bytes left behind the last whole record
+unfoldable pub lastLine : (left : ℕ) → List ℕ
+lastLine left = if eqb left 0 then text "end\n" else text "cut\n"
+
+-- ---- what each case of the writer's enums stands for
+
+abbrev pub numeralOf : Numeral → List ℕ
+numeralOf (One a) = a ∷ []
+numeralOf (Two a b) = a ∷ b ∷ []
+numeralOf (Other n) = decimalOf n
+
+abbrev pub letterOf : Reply → ℕ
+letterOf (Open o) = code "O"
+letterOf (Close d) = code "C"
+letterOf (Reset d) = code "R"
+letterOf (Arrival a) = code "A"
+letterOf (Tick s) = code "T"
+
+abbrev pub saidReply : Reply → Said Answer
+saidReply (Open o) = saidOpened o
+saidReply (Close d) = saidDone d
+saidReply (Reset d) = saidDone d
+saidReply (Arrival a) = saidArrival a
+saidReply (Tick s) = saidSwept s
+
+unfoldable pub toldLine : (number : ℕ) → Told → List ℕ
+toldLine number Bad = badLine number
+toldLine number (Answered r) = lineOf number (letterOf r) (saidReply r)
+
+-- ---- what a writer does to a buffer
+
+-- bytes written over a list from a place on
+unfoldable pub written : (at : ℕ) (new old : List ℕ) → List ℕ
+written at new old = take at old ++ (new ++ drop (at + length new) old)
+
+-- It puts the bytes at a place, within the buffer, and answers the place behind them.
+pub record Put (new : List ℕ) (at : ℕ) (old now : List ℕ) (next : ℕ) : Type 0 where
+  pub room : at + length new ≤ length old
+  pub same : now ≡ written at new old
+  pub place : next ≡ at + length new
+
+-- The same for every place and buffer: where there is no room for `most` bytes it writes nothing, and answers the place.
+pub record Writes (most : ℕ) (new : List ℕ) (at : ℕ) (old now : List ℕ) (next : ℕ) : Type 0 where
+  pub same : now ≡ (if leb (at + most) (length old) then written at new old else old)
+  pub place : next ≡ (if leb (at + most) (length old) then at + length new else at)
+
+-- the bytes that the longest line takes, and the last one
+abbrev pub lineMost : ℕ
+lineMost = 71
+
+abbrev pub lastMost : ℕ
+lastMost = 4
