@@ -10,9 +10,9 @@ use Rattle.calls.specs.Calls.{arrivalAt, arrival, open-call, checked, act, afte
 use Rattle.event_file.specs.Text.{digitsOf, decimalOf}
 use Rattle.event_file.specs.Records.{recordsIn, recordsOf, eventOf, askedBy, asked}
 use Rattle.event_file.specs.Lines.{answerOf, lineOf}
-use Rattle.event_file.specs.Files.{lineFor, tableAfter, linesFrom, linesOf}
+use Rattle.event_file.specs.Files.{entryFor, tableAfter, linesFrom, linesOf}
 use Rattle.event_file.specs.Example.{hex, ExampleRuns}
 
 pub example-runs : ExampleRuns
-unfolding yes hasVlan vlanOf typeAt isTagged headShort tagShort headerOf readOf cutAt bitOf isEmpty bit within isFresh settled lawful damaged shaped signed difference vectorCase caseOf stateAfter outOfOrder losses tally countsAfter verdict decided reset expires ticked search someSlot hasKey isFree count arrivalAt arrival open-call checked act after answer digitsOf decimalOf recordsIn recordsOf eventOf askedBy asked answerOf lineOf lineFor tableAfter linesFrom linesOf hex
+unfolding yes hasVlan vlanOf typeAt isTagged headShort tagShort headerOf readOf cutAt bitOf isEmpty bit within isFresh settled lawful damaged shaped signed difference vectorCase caseOf stateAfter outOfOrder losses tally countsAfter verdict decided reset expires ticked search someSlot hasKey isFree count arrivalAt arrival open-call checked act after answer digitsOf decimalOf recordsIn recordsOf eventOf askedBy asked answerOf lineOf entryFor tableAfter linesFrom linesOf hex
 example-runs = refl

@@ -81,10 +81,10 @@ front-of {new} {old} {now} {at} {r} p =
 -- a writer for every place: with room it puts its bytes, and without it writes nothing
 module _ {new old now : List ℕ} (most at : ℕ) {r : ℕ} where
   pub put-writes : at + most ≤ length old → Put new at old now r → Writes most new at old now r
-  put-writes h p = record { same = rw (le-leb _ _ h) (p .same); place = rw (le-leb _ _ h) (p .place) }
+  put-writes h p = record { same = rw (le-leb _ _ h) (p .same); place = rw (le-leb _ _ h) (p .place); enough = λ _. p .room }
 
-  pub writes-put : at + most ≤ length old → length new ≤ most → Writes most new at old now r → Put new at old now r
-  writes-put h l w = record { room = omega arith; same = rw (le-leb _ _ h) at (w .same); place = rw (le-leb _ _ h) at (w .place) }
+  pub writes-put : at + most ≤ length old → Writes most new at old now r → Put new at old now r
+  writes-put h w = record { room = w .enough h; same = rw (le-leb _ _ h) at (w .same); place = rw (le-leb _ _ h) at (w .place) }
 
 pub nothing-written : (most : ℕ) (new : List ℕ) (at : ℕ) (old : List ℕ) → length old < at + most → Writes most new at old old at
-nothing-written most new at old h = record { same = rw (lt-leb _ _ h); place = rw (lt-leb _ _ h) }
+nothing-written most new at old h = record { same = rw (lt-leb _ _ h); place = rw (lt-leb _ _ h); enough = λ k. absurd (omega arith) }

@@ -10,7 +10,7 @@ use Rattle.calls.specs.Table.{Table, blank}
 use Rattle.calls.specs.Calls.{Call, arriving, opening, closing, resetting, ticking, act, after, answer}
 use Rattle.event_file.specs.Text.{text}
 use Rattle.event_file.specs.Records.{File, ended, cut, body, recordsOf, Asked, nothing, asks, asked}
-use Rattle.event_file.specs.Lines.{lineOf, badLine}
+use Rattle.event_file.specs.Lines.{Entry, bad, told, lineOf}
 
 -- the letter of a record that asks for a call: O C R A T
 abbrev pub letterFor : Call → ℕ
@@ -20,10 +20,10 @@ letterFor (resetting slot) = code "R"
 letterFor (arriving network frame out) = code "A"
 letterFor ticking = code "T"
 
--- The line of a record, and the table after it. A bad record leaves the table.
-unfoldable pub lineFor : (number : ℕ) → Table → Asked → List ℕ
-lineFor number t nothing = badLine number
-lineFor number t (asks c) = lineOf number (letterFor c) (answer t (act t c))
+-- What is told of a record, and the table after it. A bad record leaves the table.
+unfoldable pub entryFor : Table → Asked → Entry
+entryFor t nothing = bad
+entryFor t (asks c) = told (letterFor c) (answer t (act t c))
 
 unfoldable pub tableAfter : Table → Asked → Table
 tableAfter t nothing = t
@@ -42,7 +42,7 @@ unfoldable pub linesFrom : Table → (number : ℕ) → File → List ℕ
 linesFrom t number ended = text "end\n"
 linesFrom t number cut = text "cut\n"
 linesFrom t number (body b f) =
-    lineFor number t (asked output b) ++ linesFrom (tableAfter t (asked output b)) (number + 1) f
+    lineOf number (entryFor t (asked output b)) ++ linesFrom (tableAfter t (asked output b)) (number + 1) f
 
 -- Standard input: one version byte, 1, then records, numbered from 1. An absent or different version byte prints `version`
 -- and nothing more.

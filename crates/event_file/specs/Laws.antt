@@ -6,7 +6,7 @@ use lib.ListN.{length}
 use Rattle.record.specs.Sizes.{frameMost}
 use Rattle.calls.specs.Table.{Table}
 use Rattle.event_file.specs.Records.{recordsIn, recordsOf, asked}
-use Rattle.event_file.specs.Files.{output, lineFor, tableAfter}
+use Rattle.event_file.specs.Files.{output, entryFor, tableAfter}
 use Rattle.event_file.specs.Pieces.{piecesOf, allOf}
 
 -- There are no more records than bytes: more steps find the same.
@@ -18,9 +18,8 @@ EnoughSteps = (most : ℕ) (s : List ℕ) → length s ≤ most → recordsIn mo
 abbrev pub AnyPieces : Type 0
 AnyPieces = (held : List ℕ) (pieces : List (List ℕ)) → piecesOf held pieces ≡ recordsOf (held ++ allOf pieces)
 
--- Neither a line nor the table after it depends on what the output buffer holds.
+-- Neither what is told of a record nor the table after it depends on what the output buffer holds.
 abbrev pub AnyOutput : Type 0
 AnyOutput =
-    (number : ℕ) (t : Table) (b out : List ℕ) → length out ≡ frameMost
-    → (lineFor number t (asked out b) ≡ lineFor number t (asked output b))
-    × (tableAfter t (asked out b) ≡ tableAfter t (asked output b))
+    (t : Table) (b out : List ℕ) → length out ≡ frameMost
+    → (entryFor t (asked out b) ≡ entryFor t (asked output b)) × (tableAfter t (asked out b) ≡ tableAfter t (asked output b))

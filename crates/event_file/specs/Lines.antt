@@ -41,13 +41,15 @@ answerOf (answers (swept streams records)) = pairOf streams records
 
 -- ---- the lines, each with its end
 
--- One line a record: its number, a letter (O C R A T), the answer.
-unfoldable pub lineOf : (number letter : ℕ) → Said Answer → List ℕ
-lineOf number letter said = decimalOf number ++ text " " ++ (letter ∷ text " ") ++ answerOf said ++ text "\n"
+-- What a line tells of a record: that it is bad, or a letter and the answer.
+pub data Entry : Type 0 where
+  bad : Entry
+  told : (letter : ℕ) → Said Answer → Entry
 
--- A bad record prints the record number and `bad`.
-unfoldable pub badLine : (number : ℕ) → List ℕ
-badLine number = decimalOf number ++ text " bad\n"
+-- One line a record: its number, a letter (O C R A T), the answer. A bad record prints the record number and `bad`.
+unfoldable pub lineOf : (number : ℕ) → Entry → List ℕ
+lineOf number bad = decimalOf number ++ text " bad\n"
+lineOf number (told letter said) = decimalOf number ++ text " " ++ (letter ∷ text " ") ++ answerOf said ++ text "\n"
 
 -- the last line, with so many bytes left behind the last whole record
 unfoldable pub lastLine : (left : ℕ) → List ℕ
@@ -74,9 +76,9 @@ saidReply (Reset d) = saidDone d
 saidReply (Arrival a) = saidArrival a
 saidReply (Tick s) = saidSwept s
 
-unfoldable pub toldLine : (number : ℕ) → Told → List ℕ
-toldLine number Bad = badLine number
-toldLine number (Answered r) = lineOf number (letterOf r) (saidReply r)
+abbrev pub saidTold : Told → Entry
+saidTold Bad = bad
+saidTold (Answered r) = told (letterOf r) (saidReply r)
 
 -- ---- what a writer does to a buffer
 
@@ -91,9 +93,11 @@ pub record Put (new : List ℕ) (at : ℕ) (old now : List ℕ) (next : ℕ) : T
   pub place : next ≡ at + length new
 
 -- The same for every place and buffer: where there is no room for `most` bytes it writes nothing, and answers the place.
+-- So many are enough.
 pub record Writes (most : ℕ) (new : List ℕ) (at : ℕ) (old now : List ℕ) (next : ℕ) : Type 0 where
   pub same : now ≡ (if leb (at + most) (length old) then written at new old else old)
   pub place : next ≡ (if leb (at + most) (length old) then at + length new else at)
+  pub enough : at + most ≤ length old → at + length new ≤ length old
 
 -- the bytes that the longest line takes, and the last one
 abbrev pub lineMost : ℕ

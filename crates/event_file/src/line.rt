@@ -11,7 +11,7 @@ ghost use lib.ListN.{length};
 ghost use Rattle.refusal.specs.Checks.{Said};
 ghost use Rattle.calls.specs.Said.{saidVerdict, saidArrival, saidOpened, saidDone, saidSwept};
 ghost use Rattle.event_file.specs.Text.{text, decimalOf};
-ghost use Rattle.event_file.specs.Lines.{pairOf, verdictWord, answerOf, lineOf, badLine, lastLine, numeralOf, letterOf, saidReply, toldLine, Put, Writes, lineMost, lastMost};
+ghost use Rattle.event_file.specs.Lines.{pairOf, verdictWord, answerOf, lineOf, bad, told, lastLine, numeralOf, letterOf, saidReply, saidTold, Put, Writes, lineMost, lastMost};
 
 // The answer of the call that a record asked for.
 pub enum Reply {
@@ -220,7 +220,7 @@ fn write_reply(r: Reply, buf: &mut [u8], at: usize) -> usize
 // The line of a record that asked for a call: its number, a letter, the answer.
 fn line(number: u64, r: Reply, buf: &mut [u8], at: usize) -> usize
     requires { ⌜ at + lineMost ≤ length (now buf) ⌝ }
-    ensures { λ x. ⌜ Put (lineOf number (letterOf r) (saidReply r)) at (now (buf .entry)) (now (buf .exit)) x ⌝ }
+    ensures { λ x. ⌜ Put (lineOf number (told (letterOf r) (saidReply r))) at (now (buf .entry)) (now (buf .exit)) x ⌝ }
 {
     let n = decimal(number, buf, at);
     let x = byte(b' ', buf, n);
@@ -233,7 +233,7 @@ fn line(number: u64, r: Reply, buf: &mut [u8], at: usize) -> usize
 // The line of one that did not.
 fn bad(number: u64, buf: &mut [u8], at: usize) -> usize
     requires { ⌜ at + lineMost ≤ length (now buf) ⌝ }
-    ensures { λ r. ⌜ Put (badLine number) at (now (buf .entry)) (now (buf .exit)) r ⌝ }
+    ensures { λ r. ⌜ Put (lineOf number bad) at (now (buf .entry)) (now (buf .exit)) r ⌝ }
 {
     let n = decimal(number, buf, at);
     word(b" bad\n", buf, n)
@@ -241,7 +241,7 @@ fn bad(number: u64, buf: &mut [u8], at: usize) -> usize
 
 fn either(number: u64, told: Told, buf: &mut [u8], at: usize) -> usize
     requires { ⌜ at + lineMost ≤ length (now buf) ⌝ }
-    ensures { λ r. ⌜ Put (toldLine number told) at (now (buf .entry)) (now (buf .exit)) r ⌝ }
+    ensures { λ r. ⌜ Put (lineOf number (saidTold told)) at (now (buf .entry)) (now (buf .exit)) r ⌝ }
 {
     match told {
         Told::Bad => bad(number, buf, at),
@@ -252,7 +252,7 @@ fn either(number: u64, told: Told, buf: &mut [u8], at: usize) -> usize
 // Writes the line of a record at a place, and answers the place behind it. Where there may not be room for it, it writes
 // nothing, and answers the place itself.
 pub fn say(number: u64, told: Told, buf: &mut [u8], at: usize) -> usize
-    ensures { λ r. ⌜ Writes lineMost (toldLine number told) at (now (buf .entry)) (now (buf .exit)) r ⌝ }
+    ensures { λ r. ⌜ Writes lineMost (lineOf number (saidTold told)) at (now (buf .entry)) (now (buf .exit)) r ⌝ }
 {
     if buf.len() < LINE {
         return at;

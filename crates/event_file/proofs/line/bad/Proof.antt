@@ -1,6 +1,6 @@
 -- `event_file::line::bad` meets its contract: a number and a word, one behind the other. Assumes nothing.
 use borrow.Author.Needs.{needs}
-use Rattle.event_file.specs.Lines.{badLine}
+use Rattle.event_file.specs.Lines.{lineOf}
 use Rattle.event_file.proofs.Writing.{joined}
 use Rattle.event_file.proofs.line.bad.Statement.{statement}
 use Rattle.event_file.proofs.line.bad.Tie as tie
@@ -18,7 +18,7 @@ same-length : tie.Need-same-length
 same-length c = search needs
 
 returns : tie.Need-returns
-unfolding badLine
+unfolding lineOf
 returns c = joined (c .before .before .before .before .before .before .before .decimal .ensures .0) (c .before .before .word .ensures)
 
 pub bad-spec : {M : Type 1} → statement M

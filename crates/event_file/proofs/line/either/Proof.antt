@@ -2,7 +2,7 @@
 use mathlib.Core.Path.{ap}
 use borrow.Author.Needs.{needs}
 use Rattle.event_file.specs.declared.line.Told.{Told}
-use Rattle.event_file.specs.Lines.{toldLine}
+use Rattle.event_file.specs.Lines.{lineOf, saidTold}
 use Rattle.event_file.proofs.Writing.{renamed}
 use Rattle.event_file.proofs.line.either.Statement.{statement}
 use Rattle.event_file.proofs.line.either.Tie as tie
@@ -23,15 +23,13 @@ same-length : tie.Need-same-length
 same-length c = search needs
 
 returns : tie.Need-returns
-unfolding toldLine
-returns c = renamed (ap (λ (t : Told). toldLine (c .before .before .before .before .before .before .before .args .number) t) (c .before .before .before .before .enum-told .given .1)) (c .before .before .bad .ensures)
+returns c = renamed (ap (λ (t : Told). lineOf (c .before .before .before .before .before .before .before .args .number) (saidTold t)) (c .before .before .before .before .enum-told .given .1)) (c .before .before .bad .ensures)
 
 same-length-2 : tie.Need-same-length-2
 same-length-2 c = search needs
 
 returns-2 : tie.Need-returns-2
-unfolding toldLine
-returns-2 c = renamed (ap (λ (t : Told). toldLine (c .before .before .before .before .before .before .before .before .args .number) t) (c .before .before .before .before .before .told .given .1)) (c .before .before .line .ensures)
+returns-2 c = renamed (ap (λ (t : Told). lineOf (c .before .before .before .before .before .before .before .before .args .number) (saidTold t)) (c .before .before .before .before .before .told .given .1)) (c .before .before .line .ensures)
 
 pub either-spec : {M : Type 1} → statement M
 either-spec =
