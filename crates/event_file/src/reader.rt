@@ -59,10 +59,9 @@ fn word_at(s: &[u8], at: usize) -> u16
     wide(s[at]) * 256 + wide(s[at + 1])
 }
 
-// The record at a place. If it is not whole, then the bytes from there on are less than the longest record has.
+// The record at a place.
 pub fn next(s: &[u8], at: usize) -> Read
     ensures { λ r. ⌜ r ≡ readAt (now (s .entry)) at ⌝ }
-    ensures { λ r. ⌜ (r ≡ Read.More → length (now (s .entry)) < at + 65537) ⌝ }
 {
     if s.len() < 2 {
         return Read::More;

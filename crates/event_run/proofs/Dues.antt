@@ -5,11 +5,13 @@ use native.Mathlib.Decide.{decLt}
 use native.Mathlib.Omega.{arith}
 use mathlib.Core.Bool.{Bool, true, false, _&&_}
 use mathlib.Core.List.{List, _++_, append-assoc}
-use lib.ListN.{length, take, drop}
+use lib.ListN.{length, take, drop, getD, length-take, List·getD-eq-default}
+use lib.Seq.{length-take-le, getD-take}
 use lib.Dec.{ltb, leb}
 use borrow.Author.Tests.{lt-ltb, le-ltb, le-leb, lt-leb, ltb-true, leb-true, eq-eqb, ne-eqb}
 use Rattle.record.specs.Words.{if_then_else_}
 use Rattle.record.specs.Sizes.{frameMost}
+use Rattle.frame.specs.Bytes.{Bytes}
 use Rattle.calls.specs.Table.{Table}
 use Rattle.event_file.specs.Records.{recordsOf, readAt}
 use Rattle.event_file.specs.Lines.{lineOf, saidTold, lastLine, Put, Writes, lineMost}
@@ -17,11 +19,11 @@ use Rattle.event_file.specs.Files.{linesFrom}
 use Rattle.event_file.specs.declared.reader.Read.{Read}
 use Rattle.event_file.specs.declared.reader.Read.the-variants.{More, Body}
 use Rattle.event_file.specs.declared.line.Told.{Told}
-use Rattle.event_file.proofs.Framing.{Whole, whole-is, one-record, last-record}
+use Rattle.event_file.proofs.Framing.{Whole, whole-is, more-near, one-record, last-record}
 use Rattle.event_file.proofs.Writing.{front-of, writes-put}
 use Rattle.event_file.proofs.Outputs.{any-output}
 use Rattle.event_run.specs.declared.Place.{Place}
-use Rattle.event_run.specs.Run.{due, lastNumber, nextOf, Handled, Noted, Kept}
+use Rattle.event_run.specs.Run.{due, lastNumber, nextOf, Handled, Noted, Kept, Drained}
 
 -- ---- the next record that can be answered
 
@@ -90,6 +92,19 @@ module _ (t u : Table) (p r : Place) (input old new out : List ℕ) (i j : ℕ) 
 
 pub kept-start : (t : Table) (p : Place) (input lines : List ℕ) → Kept t p input lines t p lines
 kept-start t p input lines = record { same = λ rest. refl; within = λ h. h; room = λ h. h }
+
+-- ---- a buffer that is read up to a place
+
+bytes-take : (n : ℕ) (s : List ℕ) → Bytes s → Bytes (take n s)
+bytes-take n s h i = elim (decLt i n) [ yes p ↦ (let e : getD (take n s) i 0 ≡ getD s i 0 = getD-take n s i 0 p in omega (arith, h i)) | no p ↦ (let l : length (take n s) ≤ i = omega (arith, length-take n s) in omega (arith, List·getD-eq-default (take n s) 0 l)) ]
+
+pub drained-to : {t u : Table} {p r : Place} (to : ℕ) (input : List ℕ) {old new out : List ℕ} → Bytes input
+    → (p .at ≤ to) × (to ≤ length input) × (p .used ≤ length old) × (length out ≡ frameMost) → Drained t p (take to input) old out u r new
+    → ((r .at ≤ to) × (r .used ≤ length new)) × (r .used + lineMost ≤ length new → r .number < lastNumber → to < r .at + 65537)
+drained-to {t} {u} {p} {r} to input {old} {new} {out} h pre d =
+    let k = d .kept (pre .3) in
+    let l : length (take to input) ≡ to = length-take-le to input (pre .1) in
+    ((omega (arith, k .within (omega arith)), k .room (pre .2)), λ a b. omega (arith, more-near (take to input) (r .at) (bytes-take to input h) (sym (answerable r (take to input) (length new) a b ∙ d .none))))
 
 -- ---- the last line
 
