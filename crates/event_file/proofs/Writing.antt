@@ -9,7 +9,8 @@ use lib.ListN.{length, take, drop, getD, set, length-append, length-take, length
 use lib.Seq.{take-at, drop-at, drop-drop, set-split, take-suc, length-take-le, take-all}
 use borrow.Author.Tests.{le-leb, lt-leb}
 use Rattle.event_file.specs.Text.{digit, decimalOf}
-use Rattle.event_file.specs.Lines.{written, Put, Writes}
+use Rattle.event_file.specs.Buffers.{written, Put, Writes}
+use Rattle.event_file.specs.Laws.{WritesCoincide}
 use Rattle.event_file.proofs.Decimals.{decimal-small, decimal-large}
 
 -- two writes, one behind the other
@@ -88,3 +89,6 @@ module _ {new old now : List ℕ} (most at : ℕ) {r : ℕ} where
 
 pub nothing-written : (most : ℕ) (new : List ℕ) (at : ℕ) (old : List ℕ) → length old < at + most → Writes most new at old old at
 nothing-written most new at old h = record { same = rw (lt-leb _ _ h); place = rw (lt-leb _ _ h); enough = λ k. absurd (omega arith) }
+
+pub writes-coincide : WritesCoincide
+writes-coincide most new at old now other next behind a b = (a .same ∙ sym (b .same), a .place ∙ sym (b .place))

@@ -7,6 +7,7 @@ use Rattle.record.specs.Sizes.{frameMost}
 use Rattle.calls.specs.Table.{Table}
 use Rattle.event_file.specs.Records.{recordsIn, recordsOf, asked}
 use Rattle.event_file.specs.Files.{output, entryFor, tableAfter}
+use Rattle.event_file.specs.Buffers.{Writes}
 use Rattle.event_file.specs.Pieces.{piecesOf, allOf}
 
 -- There are no more records than bytes: more steps find the same.
@@ -23,3 +24,9 @@ abbrev pub AnyOutput : Type 0
 AnyOutput =
     (t : Table) (b out : List ℕ) → length out ≡ frameMost
     → (entryFor t (asked out b) ≡ entryFor t (asked output b)) × (tableAfter t (asked out b) ≡ tableAfter t (asked output b))
+
+-- Two outcomes of a line writer coincide.
+abbrev pub WritesCoincide : Type 0
+WritesCoincide =
+    (most : ℕ) (new : List ℕ) (at : ℕ) (old now other : List ℕ) (next behind : ℕ)
+    → Writes most new at old now next → Writes most new at old other behind → (now ≡ other) × (next ≡ behind)

@@ -11,7 +11,8 @@ ghost use lib.ListN.{length};
 ghost use Rattle.refusal.specs.Checks.{Said};
 ghost use Rattle.calls.specs.Said.{saidVerdict, saidArrival, saidOpened, saidDone, saidSwept};
 ghost use Rattle.event_file.specs.Text.{text, decimalOf};
-ghost use Rattle.event_file.specs.Lines.{pairOf, verdictWord, answerOf, lineOf, bad, told, lastLine, numeralOf, letterOf, saidReply, saidTold, Put, Writes, lineMost, lastMost};
+ghost use Rattle.event_file.specs.Lines.{pairOf, verdictWord, answerOf, lineOf, bad, told, lastLine, numeralOf, letterOf, saidReply, saidTold};
+ghost use Rattle.event_file.specs.Buffers.{Put, Writes, lineMost, lastMost};
 
 // The answer of the call that a record asked for.
 pub enum Reply {

@@ -14,7 +14,8 @@ use Rattle.record.specs.Sizes.{frameMost}
 use Rattle.frame.specs.Bytes.{Bytes}
 use Rattle.calls.specs.Table.{Table}
 use Rattle.event_file.specs.Records.{recordsOf, readAt}
-use Rattle.event_file.specs.Lines.{lineOf, saidTold, lastLine, Put, Writes, lineMost}
+use Rattle.event_file.specs.Lines.{lineOf, saidTold, lastLine}
+use Rattle.event_file.specs.Buffers.{Put, Writes, lineMost}
 use Rattle.event_file.specs.Files.{linesFrom}
 use Rattle.event_file.specs.declared.reader.Read.{Read}
 use Rattle.event_file.specs.declared.reader.Read.the-variants.{More, Body}

@@ -10,7 +10,8 @@ use Rattle.record.specs.Words.{if_then_else_}
 use Rattle.record.specs.Sizes.{frameMost}
 use Rattle.calls.specs.Table.{Table}
 use Rattle.event_file.specs.Records.{recordsOf, readAt, asked}
-use Rattle.event_file.specs.Lines.{lineOf, saidTold, Writes, lineMost}
+use Rattle.event_file.specs.Lines.{lineOf, saidTold}
+use Rattle.event_file.specs.Buffers.{Writes, lineMost}
 use Rattle.event_file.specs.Files.{entryFor, tableAfter, linesFrom}
 use Rattle.event_file.specs.declared.reader.Read.{Read}
 use Rattle.event_file.specs.declared.reader.Read.the-variants.{More}

@@ -3,7 +3,7 @@ use Prim.Native.Nat.{_-_, _≤_}
 use mathlib.Core.Path.{_≡_}
 use native.Mathlib.Omega.{arith}
 use lib.ListN.{length, take, length-set}
-use Rattle.event_file.specs.Lines.{written}
+use Rattle.event_file.specs.Buffers.{written}
 use Rattle.event_file.proofs.Writing.{word-start, word-turn, word-end}
 use Rattle.event_file.proofs.line.word.Statement.{statement}
 use Rattle.event_file.proofs.line.word.Tie as tie
