@@ -1,7 +1,7 @@
 """The parts of a walk's proof that follow from the function's signature alone: module, entry, exit, ending. Used by walk.py."""
 import re
 
-from names import Type, dash, local, nest, path
+from names import SUB, Type, dash, local, nest, path
 
 
 class Frame:
@@ -76,6 +76,88 @@ class Frame:
         ks = [self.names(k) for k, _ in self.refs()]
         return nest([k[0] for k in ks], 'tt'), nest([k[1] for k in ks], 'tt')
 
+    # ---- a function of several references: in front stand, reference by reference, observation, borrow, token of a &mut, and own, token of a &
+    def front(self):
+        r = []
+        for k, p in self.refs():
+            r += [('obs', k), ('bor', k), ('tok', k)] if 'mut' in p[1] else [('own', k), ('tok', k)]
+        return r
+
+    def entry(self, kind, k, now=None):
+        p = self.refs()[k][1]
+        κ, q, b, o, γ = self.names(k)
+        R = self.element(p)
+        if kind == 'tok': return f'‵ (flft {κ} {q})'
+        if kind == 'own': return f'‵ ({self.owner(k)})'
+        if kind == 'obs': return f'‵ (fobs {γ} (codedHoleys {R} .code (heres {R} {now})))'
+        return f'‵ (fbor {κ} (Held {R} (length {now}) {b} {o} {γ}))'
+
+    def reference(self, k, now=None, name=None):
+        _, _, b, o, γ = self.names(k)
+        return f'record {{ ptr = ({b}, {o}); name = {name or γ}; now = {now or self.refs()[k][1][0]} }}'
+
+    def owner(self, k):
+        p = self.refs()[k][1]
+        return f'{self.row(p)} .own ({self.reference(k)}) ({self.value(p)} ∷ [])'
+
+    def enters_many(self):
+        have, out = ['O', 'T'], []
+        move = lambda *ix: (out.append('move ! (' + ' ∷ '.join(map(str, ix)) + ' ∷ []) $'), have.__setitem__(slice(None), [have[i] for i in ix] + [h for i, h in enumerate(have) if i not in ix]))
+        def do(step, head): out.append(step + ' ! $'); have[0:1] = head
+        for p in self.params:
+            do('fsplit', ['P', 'O'])
+            if p[1].startswith('&'):
+                have[0] = ('P', self.ref(p)); move(1)
+            else:
+                do('lose', [])
+        do('lose', [])
+        move(have.index('T'))
+        for k, _ in self.refs():
+            do('split', [('tok', k), 'T']); move(1)
+        do('lose', [])
+        for k, p in reversed(self.refs()):
+            move(have.index(('P', k)), have.index(('tok', k)))
+            if 'mut' in p[1]:
+                do('fsplit', ['pure', 'rest']); do('lose', []); do('fsplit', [('obs', k), ('bor', k)])
+            else:
+                have[0] = ('own', k)
+        assert have == self.front()
+        return ' '.join(out)
+
+    def exits_many(self, said):
+        r, many = Type(self.result), len(self.params)
+        muts = [(k, p) for k, p in self.refs() if 'mut' in p[1]]
+        last = {k: ('zs' if p[0] == 'ys' else p[0] + '′') for k, p in muts}
+        have = [e for e in self.front() if e[0] != 'own']
+        kept = ' ∷ '.join(self.entry(e, k, last.get(k)) for e, k in have) + ' ∷ []'
+        args = ' → '.join(f'Room {self.element(p)} (length {p[0]}) → ({last[k]} : List {self.item(p)}) → length {last[k]} ≡ length {p[0]}' for k, p in muts)
+        names = ' '.join(f'g-{p[0]} {last[k]} len-{p[0]}' for k, p in muts)
+        out = []
+        move = lambda *ix: (out.append('move ! (' + ' ∷ '.join(map(str, ix)) + ' ∷ []) $'), have.__setitem__(slice(None), [have[i] for i in ix] + [h for i, h in enumerate(have) if i not in ix]))
+        out.append('nothing ! $'); have.insert(0, 'acc')
+        for k, _ in reversed(self.refs()):
+            move(have.index(('tok', k)), 0); out.append('join ! $'); have[0:2] = ['acc']
+        out.append('frame ! $'); have.pop(0)
+        for k, p in muts:
+            _, _, b, o, _ = self.names(k)
+            move(have.index(('obs', k)), have.index(('bor', k)))
+            out.append(f'owns-slice ! {self.element(p)} (named {k}) {p[0]} {last[k]} {b} {o} len-{p[0]} g-{p[0]} $'); have[0:2] = [('own', k)]
+        out.append('nothing ! $'); have.insert(0, 'acc')
+        for p in reversed(self.params):
+            if p[1].startswith('&mut'):
+                move(have.index(('own', self.ref(p))), 0)
+            else:
+                out.append('nothing ! $'); have.insert(0, 'one')
+            out.append('fjoin ! $'); have[0:2] = ['acc']
+        at = nest([last[self.ref(p)] if p[1].startswith('&mut') else 'tt' for p in self.params], 'tt')
+        lens = nest([f'len-{p[0]}' if p[1].startswith('&mut') else 'tt' for p in self.params], 'tt')
+        return f'''  exits : {args} → (r : {r.denot}) → {r.fact('r')} → {said} → ent 𝓤 (⋆ 𝓤 H A ({kept})) (Post′ ({r.val('r')}))
+  exits {names} r g said =
+      qed W ({kept}) ∵
+      suffices ! _ (ends-at 𝓤 H A fn.ended stayed (fn.clauses 𝓤 H A mem run) W {self.ghost()} ({r.val('r')}) r {at} {lens}) $ says ! said $
+      {' '.join(out)} frame ! $ {r.owned('r', 'g')} $ done !
+'''
+
     def stayed(self):
         return f'abbrev stayed : Stays (fn.ended .signature .params) (fn.ended .kept)\nstayed = {nest([self.stays(p) for p in self.params], "tt")}\n\n'
 
@@ -118,6 +200,8 @@ class Frame:
 '''
 
     def exits(self, said):
+        if len(self.refs()) > 1:
+            return self.exits_many(said)
         r, many = Type(self.result), len(self.params)
         unit = self.result == '()'
         args = '' if unit else f' (r : {r.denot})' + (f' → {r.fact("r")}' if r.fact else '')
@@ -127,7 +211,7 @@ class Frame:
             kept = '‵ (fobs γ (codedHoleys R .code (heres R zs))) ∷ ‵ (fbor κ (Held R (length zs) b o γ)) ∷ ‵ (flft κ q) ∷ []'
             args, names = f' → Room R n → (zs : List Stream) → length zs ≡ n →{args}', f'gn zs len {names}'
             at, lens = nest(['zs'] + ['tt'] * (many - 1), 'tt'), nest(['len'] + ['tt'] * (many - 1), 'tt')
-            back = 'nothing ! $ move ! (3 ∷ 0 ∷ []) $ join ! $ frame ! $ owns-mut ! (named 0) ys zs b o len gn $ nothing ! $ ' + 'nothing ! $ fjoin ! $ ' * (many - 1) + 'move ! (1 ∷ 0 ∷ []) $ fjoin ! $ frame !'
+            back = 'nothing ! $ move ! (3 ∷ 0 ∷ []) $ join ! $ frame ! $ owns-slice ! R (named 0) ys zs b o len gn $ nothing ! $ ' + 'nothing ! $ fjoin ! $ ' * (many - 1) + 'move ! (1 ∷ 0 ∷ []) $ fjoin ! $ frame !'
         else:
             kept = '‵ (flft κ q) ∷ []'
             at = lens = ends
@@ -177,6 +261,8 @@ class Frame:
         enters = ''
         if len(self.refs()) == 1:
             enters = f'\n        move ! (&1 ∷ &0 ∷ []) $ enters-{"mut" if "mut" in self.params[0][1] else "shr"} ! (x .0) $'
+        elif self.refs():
+            enters = f'\n        move ! (&1 ∷ &0 ∷ []) $ {self.enters_many()}'
         allocs = ' '.join(f'alloc1 ! (λ {local(i)}.' for i in range(self.n))
         return f'''    walk : ent 𝓤 (onEntry 𝓤 H A fn.signature {ks} {qs} x mv) (WpFn 𝓤 H C Λ code.function ({values}) Post′)
     walk =
@@ -213,7 +299,7 @@ class Frame:
         call = f'walk 𝓤 H A W mem run {" ".join(args)} 𝓣 (fmOf 𝓤 H (W .laws) 𝓣){known} {" ".join(are)}'
         if self.requires:
             fact = re.sub(r"[^\s()]+", lambda m: where.get(m.group(0), m.group(0)), self.requires)
-            last = f'needs 𝓤 ({fact}) _ (λ given. {call})'
+            last = f'needs 𝓤 ({fact}) _ (λ given. {call} given)'
         else:
             last = f'via 𝓤 _ (fst∗ 𝓤 _ (emp 𝓤)) ({call})'
         return f'''pub {f}-spec : {{M : Type 1}} → stated.statement M

@@ -1,73 +1,68 @@
 #!/usr/bin/env python3
 """Expands a walk: tools/walks/CRATE/F.walk to crates/CRATE/proofs/F/Proof.antt.
 
-    tools/walks/walk.py CRATE F G ..       from the repository's root
-    tools/walks/walk.py CRATE --check      do the proofs say what their walks expand to? (after `rt fmt`)
+    tools/walks/walk.py CRATE F G ..       from the repository's root, then `rt fmt`
+    tools/walks/walk.py CRATE --check      do the proofs say what their walks expand to?
 
-A walk is a proof in antt, with these short forms. docs/WALKS.md says how one is written.
+A walk is a proof in antt with these short forms. docs/WALKS.md says how one is written.
+
+Of the function:
   %about TEXT               the file's first comment
   %param NAME TYPE          a parameter, in order: &[Stream], &mut [Stream], &[u8], &mut [u8], a number, bool, Stream, or a type of Values.antt.
-                            NAME is its value (of a slice: its list), g-NAME the fact that it fits
-  %result TYPE              what the function returns; () for nothing
-  %requires FACT            over the parameters' names; the proof of it is `given`
+                            NAME is its value (of a slice: its list; the table is ys), g-NAME the fact that it fits
+  %result TYPE              what it returns; () for nothing
+  %requires FACT            over the parameters' names; `given` is the proof of it
   %calls CRATE::G ..        the callees; known .g′ is the theorem of each
-  %locals N                 the function has N locals;  %ty 1 4: T   the MIR type of locals 1 and 4
-  %module                   opens the module over the parameters, with x, mv, Post′ (and n, s of the first slice)
-  %exits FACT               the lemma `exits`, for a function of one slice: from what is kept to Post′. FACT is over r and, of a &mut, zs
+  %locals N   %ty 1 4: T    it has N locals; the MIR type of locals 1 and 4
+Of the proof:
+  %module                   opens the module over the parameters, with x, mv, Post′ (and n, s: length and machine value of the first slice)
+  %exits FACT               the lemma `exits`, from what is kept to Post′. FACT is over r and the last lists of what is &mut: zs of ys, us′ of us
   %tables                   opens the module over the callees' theorems and the g-NAMEs
-  %walk                     the statement `walk` and its start: locals made, parameters passed, and of a function of one slice that slice entered
+  %walk                     the statement `walk` and its start: locals made, parameters passed, slices entered
   %loop turn-1 then t-3     a loop over the records: opens the proof `turn` of a turn from the state t; t-3 is the code behind the loop
   %loops t-2                ends it: `runs-on t`, the code t-2, which the loop begins, from the state t
   %end                      the ending: from the walk to the contract
   %off K                    K entries stand before the locals from here on
   @i  &i                    where local i stands;  where entry i behind the locals stands
-  <<ls>> <<env>> <<cells 1 = v; 3 = w>> <<forgets 1 2>> <<frees>> <<close>>
-                            the locals' names; the environment; the locals' part of a context; locals become room; locals are freed; brackets of %walk
-  lines that begin with a colon are statements of the MIR. An operand is a local, 3, or a field of one, 3.1. `:=` is into room, `<-` over a value.
-  A value's EVIDENCE is `fits FACT` for a number, `bool`, `ptr`, or a term
+  <<ls>> <<env>>            the locals' names; the environment
+  <<cells 1 = v; 3 = w>>    the locals' part of a context;  <<front zs us>>  what stands before it in a function of several slices, at these lists
+  <<opd 3>> <<tag 3>>       local 3 as an operand; the tag of the enum in it
+  <<forgets 1 2>> <<frees>> <<keeps>> <<close>>      locals become room; locals are freed; what `exits` wants is kept; the brackets of %walk
+Statements of the MIR, on lines that begin with a colon. An operand is a local 3, a field 3.1, or field 0 of variant 1, 3#1.0.
+`:=` is into room, `<-` over a value, `last` before it ends an arm or a turn. EVIDENCE is `fits FACT` for a number, `bool`, `ptr`, or a term.
   : 5 := 1.1 ; EVIDENCE                     a copy                      : 5 := lit ; EVIDENCE
   : 6 := 5 cmp 3                            a comparison                : 3 <- 3 plus ; fits FACT       plus 1
   : place 8 := 1[3] via := 5 ; FACT         local 8 points to record number _3 of the slice _1; _5 is its distance, of which FACT says that it fits
   : 9 := *8 ; EVIDENCE                      a record is read            : *8 := 4.0 ; EVIDENCE          a record is stored
-  : call CRATE::G | TYPE VALUE FACT OPERAND | .. -> TYPE r said. FACT       a callee by value; r is its result, g-r that it fits, `said` the FACT of it. A bracket is left open
-  : lands := 7 ; EVIDENCE                   where its result goes
+  : reborrow 8 := 1 via 7 ; FACT            local 8 is the slice _1 once more, of which FACT says that its length fits; _7 is its place
+Calls leave a bracket open. r is the result, g-r that it fits, `said` the FACT of it. An argument is `TYPE VALUE FACT OPERAND`; `| given PROOF` shows a `requires`.
+  : call CRATE::G | .. | .. -> TYPE r said. FACT                by value
+  : lend CRATE::G 8 LIST FACT | .. -> TYPE r said. FACT         lent the table as a &[Stream], _8, while the caller keeps it; it is LIST, and FACT is that its length fits
+  : lend mut CRATE::G 8 LIST FACT | .. -> TYPE r zs said. FACT  as a &mut [Stream]; zs is the list that it leaves, `len` that it is as long
+  : read CRATE::G | & NAME OPERAND | .. -> TYPE r said. FACT    handed a & parameter
+  : write CRATE::G | & NAME OPERAND | &mut NAME LIST FACT OPERAND | .. -> TYPE r vs said. FACT      and lent a &mut one; vs is what it leaves, len-vs that it is as long
+  : lands := 7 ; EVIDENCE                   where the result goes
 """
 import os, re, sys
 
 sys.dont_write_bytecode = True
 
-from frame import Frame
-from names import IMPORTS, OWN, Type, dash, imports, local, nest, paren
+from calls import Steps
+from names import IMPORTS, dash, imports, local, own, paren
 
 
-class Walk(Frame):
+class Walk(Steps):
     # ---- the statements of the MIR
-    def pos(self, i): return self.off + 2 * (self.n - 1 - int(i))
-
-    def opd(self, o, extra=0):
-        if o == 'lit':
-            return '(lit ! tt)'
-        if '.' in o:
-            i, j = o.split('.')
-            return f'(load ! (from ! (fld ! refl (stop !))) (look-in ! {self.pos(i) + extra} (sub ! {j} refl (whole !))))'
-        return f'(load ! (from ! (stop !)) (look-cell ! {self.pos(o) + extra} refl))'
-
-    def cell(self, how, d, ev):
-        return f'(from ! (stop !)) ({"init" if how == ":=" else "store-cell"} ! {self.pos(d)} refl {ev})'
-
-    @staticmethod
-    def shown(ev):
-        ev = ev.strip()
-        if ev in ('', 'bool', 'ptr'):
-            return '(tt, tt)'
-        if ev.startswith('fits '):
-            return f'(tt, record {{ fits = {ev[5:]} }})'
-        return paren(ev)
-
     def statement(self, ind, text):
         m = re.fullmatch(r'call (\S+)(.*?) -> (\S+) (\S+) (\S+)\. (.*)', text)
         if m:
             return ind + self.call(*m.groups())
+        m = re.fullmatch(r'(read|write) (\S+)(.*?) -> (\S+) (\S+) (?:(\S+) )?(\S+)\. (.*)', text)
+        if m:
+            return ind + self.hand(*m.groups())
+        m = re.fullmatch(r'lend (mut )?(\S+) (\d+) (\S+) (\S+)(.*?) -> (\S+) (\S+) (?:(\S+) )?(\S+)\. (.*)', text)
+        if m:
+            return ind + self.lend(*m.groups())
         body, _, ev = text.partition(' ; ')
         body = body.strip()
         m = re.fullmatch(r'lands (:=|<-) (\d+)', body)
@@ -79,6 +74,11 @@ class Walk(Frame):
             return (f'{ind}assigns ! (bin ! {self.opd(i)} (lit ! tt) (record {{ fits = {ev} }})) {self.cell(how, d, self.shown("fits " + ev))} $\n'
                     f'{ind}assigns ! (bin ! {self.opd(sl + ".0")} {self.opd(d)} tt) {self.cell(":=", p, "(tt, tt)")} $\n'
                     f'{ind}rewrite ! {self.pos(p)} (λ (p : ℕ). ‵ (fat fullShare tyPtr {local(p)} 0 (vptr b p))) (sym (place-is size o i)) refl $')
+        m = re.fullmatch(r'reborrow (\d+) := (\d+) via (\d+)', body)
+        if m:
+            d, sl, p = m.groups()
+            return (f'{ind}assigns ! (addr ! (from ! (fld ! refl (hop ! (look-in ! {self.pos(sl)} (sub ! 0 refl (whole !))) (stop !))))) {self.cell(":=", p, "(tt, tt)")} $\n'
+                    f'{ind}assigns ! (agg ! (and-then ! {self.opd(p)} (and-then ! {self.opd(sl + ".1")} (no-more !)))) {self.cell(":=", d, f"(tt, (tt, (record {{ fits = {ev} .0 }}, tt)))")} $')
         last = body.startswith('last ')
         step = 'assigns-last' if last else 'assigns'
         body = body[5:] if last else body
@@ -98,21 +98,6 @@ class Walk(Frame):
         if m:
             return f'{ind}{step} ! (of-opd ! {self.opd(m[3])}) {self.cell(m[2], m[1], self.shown(ev))} $'
         raise SystemExit(f'{self.name}: no such statement: {text}')
-
-    def call(self, g, args, kind, r, said, fact):
-        _, f, _, alias, _, _ = self.callee(g)
-        given = []
-        for a in args.split('|')[1:]:
-            given.append(re.findall(r'\([^()]*(?:\([^()]*(?:\([^()]*\)[^()]*)*\)[^()]*)*\)|[^\s()]+', a))
-        types = [Type(a[0]) for a in given]
-        y = f'((tt, tt, tt, {nest([a[1] for a in given], "tt")}, {nest([t.val(a[1]) + " ∷ []" for t, a in zip(types, given)], "tt")}), tt)'
-        goes = 'nothing ! $ ' + ''.join(f'{t.owned(a[1], a[2])} $ fjoin ! $ ' for t, a in reversed(list(zip(types, given)))) + 'nothing ! $ join ! $ frame ! $ done !'
-        opds = '(no-more !)'
-        for a in reversed(given):
-            opds = f'(and-then ! {self.opd(a[3], 1)} {opds})'
-        t = Type(kind)
-        return (f'calls-value ! fm {alias}.ended ({alias}.clauses 𝓤 H A mem run) (known .{dash(f)}′) {y} (qed W [] ∵ {goes})'
-                f' {t.make if " " not in t.make else "(" + t.make + ")"} (λ {r} vs p. {t.tells} {r} vs p) (λ ({r} : {t.denot}). {fact}) (λ {r} ws. id⊢ 𝓤 _) {opds} (λ {r} g-{r} {said}.')
 
     # ---- a loop that counts up to the table's length: its state is (i, .., facts), and n - i falls
     @staticmethod
@@ -155,6 +140,9 @@ class Walk(Frame):
             line = line.replace('<<env>>', ' ∷ '.join(f'({self.ty[i]}, {local(i)})' for i in range(self.n)) + ' ∷ []')
         line = re.sub(r'<<cells (.*?)>>', cells, line)
         line = re.sub(r'<<opd (\S+)>>', lambda m: self.opd(m[1]), line)
+        line = re.sub(r'<<tag (\d+)>>', lambda m: f'(load ! (from ! (vrt ! refl (fld ! refl (stop !)))) (look-tag ! {self.pos(m[1])} (whole !)))', line)
+        line = re.sub(r'<<front (.*?)>>', lambda m: self.fronts(m[1].split()), line)
+        line = line.replace('<<keeps>>', 'keep ! (' + ' ∷ '.join(str(i) for i, e in enumerate(self.front()) if e[0] != 'own') + ' ∷ []) $')
         line = line.replace('<<close>>', ')' * self.n)
         line = line.replace('<<ls>>', ' '.join(local(i) for i in range(self.n)))
         line = re.sub(r'<<forgets ([\d ]+)>>', lambda m: ' '.join(f'forget ! {pos(i)} refl $' for i in m[1].split()), line)
@@ -196,12 +184,11 @@ class Walk(Frame):
             else: out.append(self.line(line))
         body = self.stayed() + self.known() + '\n'.join(out).strip('\n') + '\n'
         body = re.sub(r'\n\n\n+', '\n\n', body)
-        f, own = dash(self.name), f'Rattle.{self.crate}.proofs'
+        f, mine = dash(self.name), f'Rattle.{self.crate}.proofs'
         head = [f'-- `{self.crate}::{self.name}` meets its contract: {self.about}', f'-- A walk of its MIR, made by tools/walks/walk.py from tools/walks/{self.crate}/{self.name}.walk: edit that. Assumes nothing.']
-        values = ' '.join(sorted(set(re.findall(r'[a-z]+-(?:row|ty|val|ok|typed|has|spells|tells)(?![\w-])', body)) - {'uint-tells', 'bool-tells', 'slice-tells'}))
-        head += imports(IMPORTS, body, '') + uses + imports(OWN + (f'Values: {values}\n' if values else ''), body, own + '.') + self.callee_uses()
-        head += [f'use {own}.{self.name}.Key.{{name as #{self.crate}·{f}}}', f'use {own}.{self.name} as fn', f'use {own}.{self.name}.Statement as stated', f'use {own}.{self.name}.Code as code']
-        if 'mir′.' in body: head += [f'use {own}.{self.name}.Code.Mir as mir′']
+        head += imports(IMPORTS, body, '') + uses + imports(own(self.crate), body, mine + '.') + self.callee_uses()
+        head += [f'use {mine}.{self.name}.Key.{{name as #{self.crate}·{f}}}', f'use {mine}.{self.name} as fn', f'use {mine}.{self.name}.Statement as stated', f'use {mine}.{self.name}.Code as code']
+        if 'mir′.' in body: head += [f'use {mine}.{self.name}.Code.Mir as mir′']
         return '\n'.join(head) + '\n\n' + body
 
 
@@ -213,7 +200,7 @@ def main():
         text = Walk(crate, f, open(f'{here}/{f}.walk').read()).expanded()
         path = f'crates/{crate}/proofs/{f}/Proof.antt'
         if check:
-            squeezed = lambda t: ' '.join(t.split())
+            squeezed = lambda t: ''.join(t.split()).replace(',)', ')')
             if squeezed(text) != squeezed(open(path).read()):
                 raise SystemExit(f'{path} is not what {here}/{f}.walk expands to')
         else:

@@ -1,5 +1,20 @@
-pub mod Bools
-pub mod Keys
-pub mod Looks
+-- The laws that other crates may cite. Of a table: the search, the place found, a tick of every record.
 pub mod Search
-pub mod Steps
+pub mod Places
+pub mod Lowest
+pub mod Visits
+-- The steps together are the calls: what ends a walk.
+pub mod Acts
+pub mod Arrivals
+pub mod Slots
+-- Of the calls: their refusals, what they keep, no damage, taking a tag out alike, the worked example.
+pub mod Exactly
+pub mod Kept
+pub mod Sound
+pub mod Alike
+pub mod Worked
+-- What the proofs of the functions rest on.
+mod Bools
+mod Keys
+mod Looks
+mod Steps

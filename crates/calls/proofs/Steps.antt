@@ -1,12 +1,11 @@
 -- What the steps of a call come to, by the tests that the code makes. Assumes nothing.
 use Prim.Native.Nat.{ℕ, _≤_, _<_}
 use mathlib.Core.Path.{_≡_, refl, sym, ap, _∙_}
-use mathlib.Core.Bool.{Bool, true, false, not, _&&_}
+use mathlib.Core.Bool.{Bool, true, false, _&&_, and-true, and-false}
 use mathlib.Core.List.{List}
-use mathlib.Core.Option.{Option, none, some}
+use mathlib.Core.Option.{none, some}
 use native.Mathlib.Omega.{arith}
 use lib.Dec.{ltb}
-use lib.ListN.{length}
 use borrow.Author.Tests.{lt-ltb, le-ltb, eq-eqb, ne-eqb}
 use Rattle.refusal.specs.Checks.Said.{refused, answers}
 use Rattle.refusal.specs.Numbers.{TABLE, NETWORK, DAMAGED, ROOM, SETTING, TAKEN, FULL, SLOT}
@@ -22,16 +21,13 @@ use Rattle.stream.specs.Record.{settled, lawful, closed}
 use Rattle.stream.specs.Decisions as decisions
 use Rattle.stream.specs.declared.Weighed.{Weighed}
 use Rattle.stream.specs.declared.Weighed.the-variants.{Damaged}
-use Rattle.stream.specs.Steps.{weighed, verdictIn}
+use Rattle.stream.specs.Steps.{weighed, said}
 use Rattle.stream.proofs.Steps.{steps-tell-verdict}
-use Rattle.calls.specs.declared.Found.{Found}
 use Rattle.calls.specs.declared.Found.the-variants.{At, Nothing}
 use Rattle.calls.specs.declared.Survey.{Survey}
 use Rattle.calls.specs.declared.Judged.the-variants as judges
 use Rattle.calls.specs.declared.Opened.the-variants as opened
 use Rattle.calls.specs.declared.Done.the-variants as done
-use Rattle.calls.specs.declared.Placing.{Placing}
-use Rattle.calls.specs.declared.Change.{Change}
 use Rattle.calls.specs.Steps.{asked, judged, notPlaced, placingOf, unchanged, closeChange, resetChange}
 
 -- ---- ask
@@ -67,7 +63,7 @@ no-verdict s n e = go (lawful s) refl
     clash x = let z : _≡_ {A = ℕ} 0 1 = cc in omega arith
 
     go : (b : Bool) → lawful s ≡ b → lawful s ≡ false
-    go true l = absurd (clash (ap verdictIn (sym e) ∙ steps-tell-verdict s n l))
+    go true l = absurd (clash (ap said (sym e) ∙ steps-tell-verdict s n l))
     go false l = l
 
 module _ (s : Stream) (number : ℕ) (room : Bool) where
@@ -111,11 +107,13 @@ module _ (slots : ℕ) (v : Survey) (s : Stream) where
 
 -- ---- close and reset
 
-pub beyond : (slots slot : ℕ) (s : Stream) → slots ≤ slot → false ≡ (ltb slot slots && yes (s .used))
-beyond slots slot s e = simp (le-ltb _ _ e)
+pub free-slot : (slots slot : ℕ) (s : Stream) → s .used ≡ 0 → false ≡ (ltb slot slots && yes (s .used))
+unfolding yes
+free-slot slots slot s e = rw (eq-eqb _ _ e) (sym (and-false (ltb slot slots)))
 
-pub within-table : (slots slot : ℕ) (s : Stream) → slot < slots → yes (s .used) ≡ (ltb slot slots && yes (s .used))
-within-table slots slot s e = simp (lt-ltb _ _ e)
+pub used-slot : (slots slot : ℕ) (s : Stream) → (s .used ≡ 0 → ⊥) → ltb slot slots ≡ (ltb slot slots && yes (s .used))
+unfolding yes
+used-slot slots slot s e = rw (ne-eqb _ _ e) (sym (and-true (ltb slot slots)))
 
 module _ (slots slot : ℕ) (s : Stream) where
   pub close-many : slotsMost < slots → unchanged slots s TABLE ≡ closeChange slots slot s

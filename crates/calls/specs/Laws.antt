@@ -1,17 +1,22 @@
 -- Document 01, "Calls and the order of checks" and "What the contracts have to say": what holds of the calls.
 -- Assumes nothing.
-use Prim.Native.Nat.{ℕ}
+use Prim.Native.Nat.{ℕ, _≤_, _<_}
 use mathlib.Core.Path.{_≡_}
-use mathlib.Core.Bool.{true, false}
+use mathlib.Core.Logic.{_↔_}
+use mathlib.Core.Bool.{Bool, true, false, _||_}
 use mathlib.Core.List.{List}
+use lib.Dec.{eqb}
 use lib.ListN.{length}
-use Rattle.refusal.specs.Checks.{Said}
 use Rattle.refusal.specs.Checks.Said.{refused, answers}
-use Rattle.record.specs.Words.{yes}
+use Rattle.refusal.specs.Numbers.{LONG, SHORT, UNTAGGED}
+use Rattle.record.specs.declared.Stream.{Stream}
+use Rattle.record.specs.Sizes.{slotsMost}
+use Rattle.frame.specs.Frame.{destOf, vlanOf}
 use Rattle.frame.specs.TagCalls.{takeTag}
-use Rattle.stream.specs.Record.{damaged}
-use Rattle.calls.specs.Table.{Table, at}
-use Rattle.calls.specs.Calls.{Call, arriving, Act, refuse, arrive, opens, closes, resets, ticks, act, after, answer, output, outOf, Result, Meets}
+use Rattle.stream.specs.Record.{lawful, damaged}
+use Rattle.stream.specs.Decisions.{up}
+use Rattle.calls.specs.Table.{Table, at, search, someSlot, hasKey}
+use Rattle.calls.specs.Calls.{Call, arriving, Act, refuse, arrive, opens, closes, resets, ticks, act, after, answer, output, outOf, writtenFor, Result, Meets}
 use Rattle.calls.specs.Said.{saidArrival, saidOpened, saidDone, saidSwept}
 use Rattle.calls.specs.declared.Answer.{Answer}
 use Rattle.calls.specs.declared.Opened.{Opened}
@@ -30,24 +35,70 @@ AnswersTell =
     × ((r s : Done) → saidDone r ≡ saidDone s → r ≡ s)
     × ((r s : Swept) → saidSwept r ≡ saidSwept s → r ≡ s)
 
--- A refusal changes nothing: no record, counter or output byte.
+-- "A refusal returns its number and changes nothing: no record, counter or output byte."
 abbrev pub RefusedChangesNothing : Type 0
 RefusedChangesNothing =
     (t : Table) (c : Call) (n : ℕ) → answer t (act t c) ≡ refused n
     → (after t (act t c) ≡ t) × (output t (outOf c) (act t c) ≡ outOf c)
 
--- The slot that a call is for, and "calls for one slot leave every other record as it is".
-pub data SlotOf : Act → ℕ → Type 0 where
-  of-arrive : {i number network : ℕ} {bare : List ℕ} → SlotOf (arrive i number network bare) i
+-- "Calls for one slot leave every other record as it is." A tick is for every slot, and a refused call for none.
+unfoldable pub forSlot : Act → (slot : ℕ) → Bool
+forSlot (refuse n) j = false
+forSlot (arrive i number network bare) j = eqb i j
+forSlot (opens i s) j = eqb i j
+forSlot (closes i) j = eqb i j
+forSlot (resets i) j = eqb i j
+forSlot ticks j = true
+
+abbrev pub OthersStay : Type 0
+OthersStay = (t : Table) (c : Call) (j : ℕ) → forSlot (act t c) j ≡ false → at (after t (act t c)) j ≡ at t j
 
 -- No call changes the number of slots.
 abbrev pub LengthKept : Type 0
 LengthKept = (t : Table) (c : Call) → length (after t (act t c)) ≡ length t
 
--- Take a tag out gives 3, 4, 5 and 8 as an arrival gives them: where the table has the frame's stream and the arrival gets
--- that far, both refuse with the same number or neither does.
-abbrev pub TakeAlike : Type 0
-TakeAlike =
+-- "The lowest slot with the key is taken", and "the lowest free slot": where some slot passes, the search gives one that
+-- passes with none below it; where no slot passes, none of the table does.
+abbrev pub LowestFound : Type 0
+LowestFound =
+    (p : Stream → Bool) (t : Table) → someSlot p t ≡ true
+    → (search p t < length t) × (p (at t (search p t)) ≡ true) × ((k : ℕ) → k < search p t → p (at t k) ≡ false)
+
+abbrev pub NoneFound : Type 0
+NoneFound = (p : Stream → Bool) (t : Table) → someSlot p t ≡ false → (k : ℕ) → k < length t → p (at t k) ≡ false
+
+-- No call damages a table: where every record is lawful or free, every record is so after it.
+abbrev pub NoneDamaged : Type 0
+NoneDamaged =
+    (t : Table) (c : Call) → ((j : ℕ) → damaged (at t j) ≡ false) → (j : ℕ) → damaged (at (after t (act t c)) j) ≡ false
+
+-- An open fills its slot with a lawful record, and "this mends a damaged record": so does a reset, whatever it held.
+abbrev pub OpenLawful : Type 0
+OpenLawful = (t : Table) (c : Call) (i : ℕ) (s : Stream) → act t c ≡ opens i s → lawful (at (after t (act t c)) i) ≡ true
+
+abbrev pub ResetLawful : Type 0
+ResetLawful = (t : Table) (c : Call) (i : ℕ) → act t c ≡ resets i → lawful (at (after t (act t c)) i) ≡ true
+
+-- "Take a tag out: 3, 4, 5, 8 as an arrival gives them." Once 1 and 2 are passed, both refuse a frame with 3, 4 or 5, or
+-- neither does;
+abbrev pub byFrame : (number : ℕ) → Bool
+byFrame n = eqb n LONG || eqb n SHORT || eqb n UNTAGGED
+
+abbrev pub TakeRefusesFrame : Type 0
+TakeRefusesFrame =
+    (t : Table) (network : ℕ) (f out : List ℕ) (n : ℕ) → length t ≤ slotsMost → network ≤ 1 → byFrame n ≡ true
+    → (answer t (act t (arriving network f out)) ≡ refused n) ↔ (takeTag f out .said ≡ refused n)
+
+-- where 6 and 7 are passed too, both refuse with the same number, 8 among them, or neither does;
+abbrev pub TakeRefusesAlike : Type 0
+TakeRefusesAlike =
+    (t : Table) (network : ℕ) (f out : List ℕ) (n : ℕ) → length t ≤ slotsMost → network ≤ 1
+    → someSlot (hasKey (destOf f) (vlanOf f)) t ≡ true → lawful (at t (search (hasKey (destOf f) (vlanOf f)) t)) ≡ true
+    → (answer t (act t (arriving network f out)) ≡ refused n) ↔ (takeTag f out .said ≡ refused n)
+
+-- and for an arrival that is not refused, taking the tag out "answers number and length and writes as handed up does".
+abbrev pub TakeWritesAlike : Type 0
+TakeWritesAlike =
     (t : Table) (network : ℕ) (f out : List ℕ) (i number : ℕ) (bare : List ℕ)
     → act t (arriving network f out) ≡ arrive i number network bare
-    → takeTag f out .said ≡ answers (record { number = number; length = length bare })
+    → takeTag f out ≡ record { said = answers (record { number = number; length = length bare }); bytes = writtenFor up bare out }

@@ -7,10 +7,9 @@ use mathlib.Core.Bool.{Bool, false, _||_, not}
 use mathlib.Core.List.{List, [], _∷_}
 use lib.Dec.{eqb, ltb, leb}
 use lib.ListN.{length}
-use Rattle.refusal.specs.Checks.{Check, Said, First}
+use Rattle.refusal.specs.Checks.{Check, First}
 use Rattle.refusal.specs.Checks.Said.{refused}
 use Rattle.refusal.specs.Numbers.{TABLE, NETWORK, LONG, SHORT, UNTAGGED, UNKNOWN, DAMAGED, ROOM, SETTING, TAKEN, FULL, SLOT}
-use Rattle.record.specs.Words.{yes}
 use Rattle.record.specs.Sizes.{slotsMost, frameMost}
 use Rattle.record.specs.declared.Stream.{Stream}
 use Rattle.frame.specs.Frame.{destOf, vlanOf}

@@ -1,6 +1,5 @@
 -- Document 01, "Which form goes where": what each case of an answer enum says, the paper's number or its values.
 -- Assumes nothing.
-use Prim.Native.Nat.{ℕ}
 use Rattle.refusal.specs.Checks.{Said}
 use Rattle.refusal.specs.Checks.Said.{refused, answers}
 use Rattle.calls.specs.Calls as calls

@@ -17,7 +17,7 @@ use Rattle.frame.specs.TagCalls.{writtenWithout}
 use Rattle.stream.specs.Record.{settled, lawful, closed}
 use Rattle.stream.specs.Decisions.{reset}
 use Rattle.stream.specs.Decisions as decisions
-use Rattle.stream.specs.Steps.{weighed, verdictIn, recordAfter}
+use Rattle.stream.specs.Steps.{weighed, said, recordAfter}
 use Rattle.calls.specs.Calls.{Answer, arrived, verdictWith}
 use Rattle.calls.specs.declared.Found.{Found}
 use Rattle.calls.specs.declared.Found.the-variants as found
@@ -44,6 +44,11 @@ abbrev pub saidAsked : Asked → Said Tag
 saidAsked (asks.Refused n) = refused n
 saidAsked (asks.For h number) = answers (record { header = h; number = number })
 
+-- the number where they refuse, and 0 for a frame that is not refused
+abbrev pub refusalIn : Asked → ℕ
+refusalIn (asks.Refused n) = n
+refusalIn (asks.For h number) = 0
+
 -- The output holds length - 6 bytes.
 abbrev pub hasRoom : (frame out : List ℕ) → Bool
 hasRoom f out = leb (length f - 6) (length out)
@@ -68,7 +73,7 @@ answerFor (some v) slot number l = answers (arrived slot number (verdictWith l v
 
 abbrev pub finished : Judged → (slot number : ℕ) (frame : List ℕ) → Said Answer
 finished (judges.Refused n) slot number f = refused n
-finished (judges.Weighed w) slot number f = answerFor (verdictIn w) slot number (length f - 6)
+finished (judges.Weighed w) slot number f = answerFor (said w) slot number (length f - 6)
 
 -- The output bytes: handed up writes the frame without the tag at its type field, and nothing else writes.
 abbrev pub bytesFor : Option decisions.Verdict → (place : ℕ) (frame out : List ℕ) → List ℕ
@@ -79,7 +84,7 @@ bytesFor (some decisions.rogue) o f out = out
 
 abbrev pub bytesOf : Judged → (place : ℕ) (frame out : List ℕ) → List ℕ
 bytesOf (judges.Refused n) o f out = out
-bytesOf (judges.Weighed w) o f out = bytesFor (verdictIn w) o f out
+bytesOf (judges.Weighed w) o f out = bytesFor (said w) o f out
 
 -- ---- open, close and reset: the answer, and what is stored in which slot
 

@@ -1,6 +1,6 @@
 -- Document 01, "The stream record" and "Calls and the order of checks": a table of streams and the search in it.
 -- Assumes nothing.
-use Prim.Native.Nat.{ℕ, zero, suc}
+use Prim.Native.Nat.{ℕ, zero, suc, _+_}
 use mathlib.Core.Bool.{Bool, true, false, _&&_, _||_, not}
 use mathlib.Core.List.{List, [], _∷_}
 use lib.Dec.{eqb, ltb}
@@ -44,6 +44,11 @@ someSlot p t = ltb (search p t) (length t)
 unfoldable pub found : (Stream → Bool) → Table → Found
 found p t = if someSlot p t then At (search p t) else Nothing
 
+-- how many slots have a record that passes
+unfoldable pub count : (Stream → Bool) → Table → ℕ
+count p [] = 0
+count p (s ∷ t) = (if p s then 1 else 0) + count p t
+
 -- a slot in use that has the key
 unfoldable pub hasKey : (dest vlan : ℕ) → Stream → Bool
 hasKey dest vlan s = yes (s .used) && eqb (s .dest) dest && eqb (s .vlan) vlan
@@ -69,8 +74,3 @@ foundHere p s i = if p s then At i else Nothing
 
 unfoldable pub looked : (dest vlan : ℕ) → Survey → Stream → ℕ → Survey
 looked dest vlan a s i = record { taken = a .taken || hasKey dest vlan s; free = orElse (a .free) (foundHere isFree s i) }
-
--- in how many slots the record passes the test
-unfoldable pub count : (Stream → Bool) → Table → ℕ
-count p [] = zero
-count p (s ∷ t) = if p s then suc (count p t) else count p t

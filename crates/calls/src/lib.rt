@@ -1,21 +1,28 @@
 // The by-value part of each call on a table: what it answers, what it stores, what it writes (document 01, "Calls and the
 // order of checks"). The walks over the table are in the crate `receiver`.
+mod arrival;
+mod slot;
+
+pub use arrival::ask;
+pub use arrival::finish;
+pub use arrival::fits;
+pub use arrival::judge;
+pub use arrival::record_after;
+pub use arrival::refused;
+pub use arrival::unknown;
 use frame::Header;
-use frame::Read;
 use record::Counts;
 use record::State;
 use record::Stream;
+pub use slot::close;
+pub use slot::place;
+pub use slot::reset;
 use stream::Weighed;
 ghost use mathlib.Core.Path.{_≡_};
-ghost use Prim.Native.Nat.{_-_};
-ghost use mathlib.Core.Bool.{_&&_, _||_};
-ghost use lib.Dec.{ltb};
-ghost use lib.ListN.{length};
+ghost use mathlib.Core.Bool.{_||_};
+ghost use Rattle.stream.specs.Decisions.{counted};
+ghost use Rattle.calls.specs.Ticks.{noSums, visited};
 ghost use Rattle.calls.specs.Table.{blank, hasKey, isFree, unseen, looked, orElse, foundHere};
-ghost use Rattle.record.specs.Words.{yes};
-ghost use Rattle.stream.specs.Record.{opened};
-ghost use Rattle.calls.specs.Said.{saidArrival};
-ghost use Rattle.calls.specs.Steps.{saidAsked, asked, hasRoom, judged, recordOf, finished, bytesOf, notPlaced, placingOf, unchanged, closeChange, resetChange};
 
 // What an arrival was found to be.
 pub enum Verdict {
@@ -50,7 +57,7 @@ pub enum Done {
 // The answer of a tick: how many streams it reset, and how many records in use are damaged.
 pub enum Swept {
     Refused(u8),
-    Counted(usize, usize),
+    Counted(u64, u64),
 }
 
 // What an arrival asks of the table, by its frame's header and number; or 1 to 5.
@@ -184,207 +191,46 @@ fn free_too(before: Found, s: Stream, i: usize) -> Found
     }
 }
 
-// Arrival: 1 and 2, then 3, 4 and 5 as the frame's reader gives them.
-pub fn ask(slots: usize, network: u8, frame: &[u8]) -> Asked
-    ensures { λ r. ⌜ saidAsked r ≡ asked slots network (now (frame .entry)) ⌝ }
-{
-    if slots > Stream::SLOTS_MOST {
-        return Asked::Refused(refusal::TABLE);
-    }
-    if network > 1 {
-        return Asked::Refused(refusal::NETWORK);
-    }
-    let got = frame::read_tag(frame);
-    let Read::Tagged(h, number) = got else {
-        return Asked::Refused(frame::refusal_of(got));
-    };
-    Asked::For(h, number)
+// What a tick counts: streams that it reset, and records in use that are damaged.
+pub struct Sums {
+    pub resets: u64,
+    pub damaged: u64,
 }
 
-// Does the output hold the frame without a tag?
-pub fn fits(frame: &[u8], out: &[u8]) -> bool
-    ensures { λ r. ⌜ r ≡ hasRoom (now (frame .entry)) (now (out .entry)) ⌝ }
-{
-    bare_length(frame) <= out.len()
+// A record after its tick, and what was counted so far.
+pub struct Turn {
+    pub stream: Stream,
+    pub sums: Sums,
 }
 
-// The length of a frame without its tag; 0 for one that is too short to hold a tag.
-fn bare_length(frame: &[u8]) -> usize
-    ensures { λ r. ⌜ r ≡ length (now (frame .entry)) - 6 ⌝ }
+// What is counted before any record is looked at.
+pub fn no_sums() -> Sums
+    ensures { λ r. ⌜ r ≡ noSums ⌝ }
 {
-    if frame.len() < 6 {
-        return 0;
-    }
-    frame.len() - 6
-}
-
-// Arrival: 7 and 8, then what it is to its record. Nothing is marked yet.
-pub fn judge(s: Stream, number: u16, room: bool) -> Judged
-    ensures { λ r. ⌜ r ≡ judged s number room ⌝ }
-{
-    let w = stream::weigh(s, number);
-    if let Weighed::Damaged = w {
-        return Judged::Refused(refusal::DAMAGED);
-    }
-    if !room {
-        return Judged::Refused(refusal::ROOM);
-    }
-    Judged::Weighed(w)
-}
-
-// The record after it. A refused arrival leaves it as it is.
-pub fn record_after(s: Stream, network: u8, j: Judged) -> Stream
-    ensures { λ r. ⌜ r ≡ recordOf s network j ⌝ }
-{
-    match j {
-        Judged::Refused(_) => s,
-        Judged::Weighed(w) => stream::next(s, network, w),
+    Sums {
+        resets: 0,
+        damaged: 0,
     }
 }
 
-// The answer; and where the frame is handed up, the frame without its tag at the start of the output.
-pub fn finish(
-    j: Judged,
-    slot: usize,
-    at: usize,
-    number: u16,
-    frame: &[u8],
-    out: &mut [u8],
-) -> Answer
-    ensures { λ r. ⌜ saidArrival r ≡ finished j slot number (now (frame .entry)) ⌝ }
-    ensures { λ _. ⌜ now (out .exit) ≡ bytesOf j at (now (frame .entry)) (now (out .entry)) ⌝ }
+// A count, risen by 1 where the test holds.
+fn counted(test: bool, count: u64) -> u64
+    ensures { λ r. ⌜ r ≡ counted test count ⌝ }
 {
-    match j {
-        Judged::Refused(n) => Answer::Refused(n),
-        Judged::Weighed(w) => tell(w, slot, at, number, frame, out),
+    if test {
+        return std::num::wrapping_add_u64(count, 1);
     }
+    count
 }
 
-fn tell(w: Weighed, slot: usize, at: usize, number: u16, frame: &[u8], out: &mut [u8]) -> Answer
-    ensures { λ r. ⌜ saidArrival r ≡ finished (Judged.Weighed w) slot number (now (frame .entry)) ⌝ }
-    ensures { λ _. ⌜ now (out .exit) ≡ bytesOf (Judged.Weighed w) at (now (frame .entry)) (now (out .entry)) ⌝ }
+// The tick of one record, after those that c counts.
+pub fn visit(c: Sums, s: Stream) -> Turn
+    ensures { λ r. ⌜ r ≡ visited c s ⌝ }
 {
-    match w {
-        Weighed::Damaged => Answer::Refused(refusal::DAMAGED),
-        Weighed::HandedUp(_) => {
-            frame::write_without(frame, at, out);
-            Answer::Arrival {
-                slot,
-                number,
-                verdict: Verdict::HandedUp(bare_length(frame)),
-            }
-        }
-        Weighed::Duplicate => Answer::Arrival {
-            slot,
-            number,
-            verdict: Verdict::Duplicate,
-        },
-        Weighed::Rogue => Answer::Arrival {
-            slot,
-            number,
-            verdict: Verdict::Rogue,
-        },
-    }
-}
-
-// Open: 1, 9, 10, 11 from a survey of the table, else a fresh record for the lowest free slot.
-pub fn place(
-    slots: usize,
-    v: Survey,
-    dest: u64,
-    vlan: u16,
-    rule: u8,
-    window: u16,
-    time: u16,
-) -> Placing
-    ensures { λ r. ⌜ r ≡ placingOf slots v (opened dest vlan rule window time) ⌝ }
-{
-    let s = stream::opened(dest, vlan, rule, window, time);
-    if slots > Stream::SLOTS_MOST {
-        return not_placed(slots, s, refusal::TABLE);
-    }
-    if !stream::settled(s) {
-        return not_placed(slots, s, refusal::SETTING);
-    }
-    if v.taken {
-        return not_placed(slots, s, refusal::TAKEN);
-    }
-    let free = v.free;
-    match free {
-        Found::At(i) => Placing {
-            answer: Opened::At(i),
-            slot: i,
-            stream: s,
-        },
-        Found::Nothing => not_placed(slots, s, refusal::FULL),
-    }
-}
-
-fn not_placed(slots: usize, s: Stream, n: u8) -> Placing
-    ensures { λ r. ⌜ r ≡ notPlaced slots s n ⌝ }
-{
-    Placing {
-        answer: Opened::Refused(n),
-        slot: slots,
-        stream: s,
-    }
-}
-
-// Close: 1, 12, else the slot becomes free. s is the record in the slot, or any free one beyond the table.
-pub fn close(slots: usize, slot: usize, s: Stream) -> Change
-    ensures { λ r. ⌜ r ≡ closeChange slots slot s ⌝ }
-{
-    if slots > Stream::SLOTS_MOST {
-        return unchanged(slots, s, refusal::TABLE);
-    }
-    if !in_use(slots, slot, s) {
-        return unchanged(slots, s, refusal::SLOT);
-    }
-    let stream = stream::closed(s);
-    Change {
-        answer: Done::Ok,
-        slot,
-        stream,
-    }
-}
-
-// Reset: 1, 12, 7, else fresh state, resets rises.
-pub fn reset(slots: usize, slot: usize, s: Stream) -> Change
-    ensures { λ r. ⌜ r ≡ resetChange slots slot s ⌝ }
-{
-    if slots > Stream::SLOTS_MOST {
-        return unchanged(slots, s, refusal::TABLE);
-    }
-    if !in_use(slots, slot, s) {
-        return unchanged(slots, s, refusal::SLOT);
-    }
-    if !stream::settled(s) {
-        return unchanged(slots, s, refusal::DAMAGED);
-    }
-    let stream = stream::reset(s);
-    Change {
-        answer: Done::Ok,
-        slot,
-        stream,
-    }
-}
-
-// Is the slot within the table, and its record in use?
-fn in_use(slots: usize, slot: usize, s: Stream) -> bool
-    ensures { λ r. ⌜ r ≡ (ltb slot slots && yes (s .used)) ⌝ }
-{
-    if slot >= slots {
-        return false;
-    }
-    s.used != 0
-}
-
-fn unchanged(slots: usize, s: Stream, n: u8) -> Change
-    ensures { λ r. ⌜ r ≡ unchanged slots s n ⌝ }
-{
-    Change {
-        answer: Done::Refused(n),
-        slot: slots,
-        stream: s,
-    }
+    let k = stream::tick(s);
+    let resets = counted(k.reset, c.resets);
+    let damaged = counted(k.damaged, c.damaged);
+    let stream = k.stream;
+    let sums = Sums { resets, damaged };
+    Turn { stream, sums }
 }

@@ -11,7 +11,7 @@ use borrow.Author.Tests.{lt-ltb, le-ltb, eq-eqb, ne-eqb, ltb-true, ltb-false, no
 use Rattle.refusal.specs.Checks.{Said}
 use Rattle.refusal.specs.Checks.Said.{refused, answers}
 use Rattle.refusal.specs.Numbers.{LONG, SHORT, UNTAGGED}
-use Rattle.refusal.proofs.Checks.{passed}
+use Rattle.refusal.proofs.Checks.{passed, same-value}
 use Rattle.record.specs.Sizes.{frameMost}
 use Rattle.frame.specs.Bytes.{word}
 use Rattle.frame.specs.Frame.{Tag, typeAt, hasVlan, isTagged, headShort, tagShort, headerOf, headOf, destOf, vlanOf, numberOf, readOf}
@@ -156,16 +156,9 @@ tag-of f t p =
     let c = passed (not (isTagged f)) UNTAGGED (b .1) in
     let g : isTagged f ≡ true = not-false _ (c .0) in
     let d = passed (isTagged f && ltb (length f) (typeAt f + 8)) SHORT (c .1) in
-    let same : t .header ≡ headerOf f = ap (λ s. header-in s) (d .1) in
-    record { few = ltb-false _ _ (a .0); room = ltb-false _ _ (rw g at (d .0)); tagged = g; at = ap (λ x. x .at) same; number = ap (λ s. number-in s) (d .1); same = same }
-  where
-    header-in : Said Tag → Header
-    header-in (refused n) = t .header
-    header-in (answers x) = x .header
-
-    number-in : Said Tag → ℕ
-    number-in (refused n) = t .number
-    number-in (answers x) = x .number
+    let tag = same-value (d .1) in
+    let same : t .header ≡ headerOf f = ap (λ x. x .header) tag in
+    record { few = ltb-false _ _ (a .0); room = ltb-false _ _ (rw g at (d .0)); tagged = g; at = ap (λ x. x .at) same; number = ap (λ x. x .number) tag; same = same }
 
 pub tag-is : (f : List ℕ) {r : Read} (h : Header) (n : ℕ) → saidRead r ≡ readOf f → r ≡ Tagged h n → TagIs f h n
 tag-is f h n p q = tag-of f (record { header = h; number = n }) (sym p ∙ ap saidRead q)

@@ -2,3 +2,9 @@ pub mod Bytes
 pub mod Joined
 pub mod Heads
 pub mod Writes
+pub mod Words
+pub mod PutThenTake
+pub mod TakeThenPut
+pub mod Refusals
+pub mod Reading
+pub mod Others

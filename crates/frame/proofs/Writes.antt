@@ -106,6 +106,19 @@ module _ (f : List ℕ) (o : ℕ) (out : List ℕ) where
   unfolding writtenWith tagFits
   with-small n h = simp (lt-leb _ _ h, and-no)
 
+-- ---- an outcome that is picked by the room for it
+
+abbrev pub picks : {A : Type 0} → (small : Bool) → A → (out new : List ℕ) → Outcome A
+picks small a out new = cond small (record { said = refused ROOM; bytes = out }) (record { said = answers a; bytes = new })
+
+pub picks-said : {A : Type 0} (small : Bool) (a : A) (out new : List ℕ) → picks small a out new .said ≡ cond small (refused ROOM) (answers a)
+picks-said true a out new = refl
+picks-said false a out new = refl
+
+pub picks-keeps : {A : Type 0} (small : Bool) (a : A) (out new : List ℕ) (k : ℕ) → picks small a out new .said ≡ refused k → picks small a out new .bytes ≡ out
+picks-keeps true a out new k e = refl
+picks-keeps false a out new k e = absurd (let z : _≡_ {A = ℕ} 0 1 = cc in omega arith)
+
 -- ---- taking a tag out
 
 module _ (f out : List ℕ) where

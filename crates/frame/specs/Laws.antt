@@ -9,7 +9,7 @@ use lib.ListN.{length, take, getD}
 use Rattle.refusal.specs.Checks.{Said}
 use Rattle.refusal.specs.Checks.Said.{refused, answers}
 use Rattle.frame.specs.Bytes.{word, Bytes}
-use Rattle.frame.specs.Frame.{destOf, typeAt, isTagged, readOf}
+use Rattle.frame.specs.Frame.{destOf, typeAt, readOf}
 use Rattle.frame.specs.TagCalls.{Outcome, Bare, takeTag, writeTag, saidHead, saidRead, saidTaken, saidWritten}
 use Rattle.frame.specs.Refusals.{short}
 use Rattle.frame.specs.declared.Head.{Head}
@@ -38,7 +38,7 @@ DestSix = (f g : List ℕ) → Bytes f → Bytes g → 6 ≤ length f → 6 ≤ 
 -- Reserved bytes are ignored on reading: frames that differ only there read alike.
 abbrev pub ReservedIgnored : Type 0
 ReservedIgnored =
-    (f g : List ℕ) → isTagged f ≡ true → length f ≡ length g
+    (f g : List ℕ) → length f ≡ length g
     → ((i : ℕ) → (i ≡ typeAt f + 2 → ⊥) → (i ≡ typeAt f + 3 → ⊥) → getD f i 0 ≡ getD g i 0)
     → (readOf f ≡ readOf g) × ((out : List ℕ) → takeTag f out ≡ takeTag g out)
 

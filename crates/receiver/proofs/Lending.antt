@@ -1,4 +1,4 @@
--- A call of a function whose one reference is a slice of R's, by a caller that holds a `&κ mut [R]` and needs it afterwards. It says nothing of the crate, and can be copied as it stands.
+-- A call of a function whose one reference is a slice of R's, by a caller that holds a `&κ mut [R]` and needs it afterwards. It says nothing of the record.
 --     calls-shr        the callee takes a `&[R]`: the borrow is opened, what lies there is lent for a lifetime ν of the call and shared out, and it comes back as it was
 --     calls-mut        the callee takes a `&mut [R]`: the borrow is lent again for ν (`Again.antt`), and comes back at the callee's last list, of which the `ensures` says S r zs
 -- In both the caller's context is [obs; the borrow; the token; Γ] before and after. y is what the callee's triple binds outside, at the lifetime ν and the ghost name δ of the loan.

@@ -1,7 +1,9 @@
 pub mod Rows
-pub mod Calling
-pub mod Lending
-pub mod Again
-pub mod Pieces
 pub mod Values
+pub mod Fields
+pub mod Calling
+pub mod Again
+pub mod Lending
+pub mod Handing
+pub mod Pieces
 pub mod Lists

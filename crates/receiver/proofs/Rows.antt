@@ -1,7 +1,8 @@
--- Steps for a walk that reads and writes a slice of `Stream`s. Only the lines of "the struct" and its `use` lines are the struct's: for another struct change those.
+-- Steps for a walk that reads and writes a slice of stream records. Only the block "the struct" and its `use` lines know the record.
 --     looks-at, shuts-at       a `&[Stream]` is looked into for its record i, and shut
---     opens-at, closes-at      a `&mut [Stream]` is opened at its record i, and closed with e there
---     typed, makes             a record's machine value has the struct's MIR type;  what a record owns is had for nothing
+--     opens-at, closes-at, closes-as-it-was      a `&mut [Stream]` is opened at its record i, and closed with e there, or as it was
+--     enters-shr, enters-mut   what a function of one such slice has at its entry
+--     typed, has               a record's machine value has the struct's MIR type;  what a record owns is had for nothing
 -- Assumes `Given`.
 use mathlib.Core.Path.{_≡_, refl, sym, ap, subst}
 use Prim.Native.Nat.{ℕ, _<_, _*_, _^_, _≤_}
@@ -119,13 +120,6 @@ module _ {M : Type 1} {𝓤 : URA M} {H : Heap 𝓤} {A : Atoms 𝓤} {K : Type 
       (‵ (cellAt fullShare (R .mir) (val (getD ys i d) ∷ []) b (place size o i)) ∷ ‵ (R .own (getD ys i d) (val (getD ys i d) ∷ [])) ∷ ‵ (others (shares R) fullShare ys i b o)
       ∷ ‵ (fobor κ q (Held R (length ys) b o γ)) ∷ ‵ (fobs γ (codedHoleys R .code (heres R ys))) ∷ ‵ (fauth γ (codedHoleys R .code (heres R ys))) ∷ Γ) G
   closes-as-it-was t z ys i d b o l = step (λ s. elem-back t R fullShare ys i d (val (getD ys i d) ∷ []) b o l $ closes-slice t z R ys ys refl b o $ s)
-
-  -- [obs; the borrow; …] at zs is what the `&mut [Stream]` owns, at the machine value that it had at ys
-  pub owns-mut : K → {κ : Lft} {γ : GName} (ℓ : Lifetime) (ys zs : List Stream) (b o : ℕ) → length zs ≡ length ys → Room R (length ys)
-      → Step K W (‵ (MutSlice ℓ κ R .own (record { ptr = (b, o); name = γ; now = zs }) (sliceVal (b, o) (length ys) ∷ [])) ∷ Γ) G
-      (‵ (fobs γ (codedHoleys R .code (heres R zs))) ∷ ‵ (fbor κ (Held R (length zs) b o γ)) ∷ Γ) G
-  owns-mut t {κ} {γ} ℓ ys zs b o e room = step (λ s. fjoin t $ pureI t (at-slice R (record { ptr = (b, o); name = γ; now = zs }) (sliceVal (b, o) (length ys) ∷ [])) (tt, (tt, tt))
-      (ap (λ (m : ℕ). sliceVal (b, o) m ∷ []) (sym e), subst (Room R) (sym e) room) $ fjoin t $ s)
 
 -- ---- at the entry of a function
 module _ {M : Type 1} {𝓤 : URA M} {H : Heap 𝓤} {A : Atoms 𝓤} {K : Type 0} {W : Given 𝓤 H A} {Γ : List (Item 𝓤)} {G : Goal 𝓤 H} where

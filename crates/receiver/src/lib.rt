@@ -1,10 +1,13 @@
-// The table that the caller lends: a slice of stream records. Each function here is a thin walk over it; what is decided of one record is decided by value in the crates below.
+// The table that the caller lends: a slice of stream records. Each function here is a thin walk over it; what is decided
+// of one record is decided by value in the crates below.
 use calls::Found;
+use calls::Sums;
 use calls::Survey;
 use record::Stream;
 ghost use mathlib.Core.Path.{_≡_};
 ghost use lib.ListN.{set};
 ghost use Rattle.calls.specs.Table.{at, found, hasKey, surveyed};
+ghost use Rattle.calls.specs.Ticks.{sums, tickedAll};
 
 // The lowest slot in use that has the key: the search stops at it and yields its place.
 fn find(t: &[Stream], dest: u64, vlan: u16) -> Found
@@ -52,4 +55,19 @@ fn store(t: &mut [Stream], i: usize, s: Stream)
     if i < t.len() {
         t[i] = s;
     }
+}
+
+// A tick of every record: how many streams it reset, and how many records in use are damaged.
+fn sweep(t: &mut [Stream]) -> Sums
+    ensures { λ r. ⌜ (r ≡ sums (now (t .entry))) × (now (t .exit) ≡ tickedAll (now (t .entry))) ⌝ }
+{
+    let mut sums = calls::no_sums();
+    let mut i = 0;
+    while i < t.len() {
+        let turn = calls::visit(sums, t[i]);
+        t[i] = turn.stream;
+        sums = turn.sums;
+        i = i + 1;
+    }
+    sums
 }

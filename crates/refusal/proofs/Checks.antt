@@ -1,5 +1,5 @@
 -- `firstOf` gives the number that `First` speaks of. Assumes nothing.
-use Prim.Native.Nat.{ℕ}
+use Prim.Native.Nat.{ℕ, _<_}
 use mathlib.Core.Path.{_≡_, refl, sym, ap}
 use mathlib.Core.Logic.{_⊎_, inl, inr}
 use mathlib.Core.Bool.{Bool, true, false, cond}
@@ -32,3 +32,22 @@ first-exactly A cs a n = (to A a n cs, from A a n cs)
 pub passed : {A : Type 0} (b : Bool) (n : ℕ) {z : Said A} {a : A} → answers a ≡ cond b (refused n) z → (b ≡ false) × (answers a ≡ z)
 passed true n e = absurd (let z : _≡_ {A = ℕ} 0 1 = cc in omega arith)
 passed false n e = (refl, e)
+
+-- equal answers hold equal values
+abbrev pub valueOr : {A : Type 0} → A → Said A → A
+valueOr d (refused n) = d
+valueOr d (answers a) = a
+
+pub same-value : {A : Type 0} {a b : A} → answers a ≡ answers b → a ≡ b
+same-value {A} {a} {b} e = ap (valueOr a) e
+
+-- where every number of a list is above 0, so is the first whose condition holds
+abbrev pub Positive : List Check → Type 0
+Positive [] = Unit
+Positive (c ∷ cs) = (0 < c .number) × Positive cs
+
+pub first-positive : (n : ℕ) (cs : List Check) → Positive cs → First n cs → 0 < n
+unfolding First
+first-positive n [] p x = absurd x
+first-positive n (c ∷ cs) p (inl x) = omega (arith, x .1, p .0)
+first-positive n (c ∷ cs) p (inr x) = first-positive n cs (p .1) (x .1)

@@ -1,13 +1,12 @@
 -- The laws of the bits of a number. Assumes nothing.
-use Prim.Native.Nat.{ℕ, zero, suc, _+_, _-_, _*_, _/_, _%_, _^_, _≤_, _<_}
-use mathlib.Core.Path.{_≡_, refl, ap, sym, _∙_}
-use mathlib.Core.Bool.{Bool, true, false, _||_}
-use native.Mathlib.Nat.{add-suc, suc-add, add-zero, zero-add, div-one, zero-div, mod-lt}
+use Prim.Native.Nat.{ℕ, zero, suc, _+_, _-_, _*_, _/_, _%_, _^_, _<_}
+use mathlib.Core.Path.{_≡_, ap, sym, _∙_}
+use mathlib.Core.Bool.{false, _||_}
+use native.Mathlib.Nat.{div-one, zero-div}
 use native.Mathlib.Omega.{arith}
-use native.Mathlib.Decide.{decLt}
 use lib.Dec.{eqb, eqb·suc-suc, eqb·zero-suc, eqb·suc-zero}
-use lib.Pow.{pow-pos, pow-lt, shr-shr, field, mod-mod-pow}
-use borrow.Author.Tests.{lt-ltb, ltb-true, eqb-false, eqb-true, eq-eqb, ne-eqb}
+use lib.Pow.{shr-shr, field, mod-mod-pow}
+use borrow.Author.Tests.{eqb-false, eq-eqb, ne-eqb}
 use Rattle.stream.specs.History.{bitOf}
 
 pub bit-zero : (h : ℕ) → bitOf 0 h ≡ eqb (h % 2) 1

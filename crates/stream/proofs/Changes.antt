@@ -3,11 +3,10 @@ use Prim.Native.Nat.{ℕ}
 use mathlib.Core.Path.{_≡_, refl, ap, sym, _∙_}
 use mathlib.Core.Bool.{Bool, true, false, not}
 use lib.Dec.{eqb, ltb}
-use Rattle.record.specs.Words.{if_then_else_, yes}
-use Rattle.record.specs.Sizes.{vectorRule}
+use Rattle.record.specs.Words.{if_then_else_}
 use Rattle.stream.specs.History.{History, bit}
-use Rattle.stream.specs.Record.{State, Counts, Stream}
-use Rattle.stream.specs.Decisions.{Case, first, far, again, late, next, moved, vectorCase, caseOf, Verdict, up, duplicate, rogue, verdictOf, isUp, stateAfter, outOfOrder, losses, rise, counted, tally, countsAfter, with, verdict, decided, ahead, behind, Signed, difference}
+use Rattle.stream.specs.Record.{Stream}
+use Rattle.stream.specs.Decisions.{Case, first, far, again, late, next, moved, vectorCase, caseOf, verdictOf, isUp, stateAfter, outOfOrder, rise, tally, countsAfter, verdict, decided, behind}
 use Rattle.stream.specs.Laws.{DuplicateChanges, RogueChanges, OnlyUpRenews, OnlyUpPasses, AnchorStays, Coincide}
 
 module _ (s : Stream) (n : ℕ) where

@@ -7,7 +7,7 @@ use native.Mathlib.Decide.{decLt}
 use native.Mathlib.Omega.{arith}
 use lib.Dec.{eqb, ltb, lit<}
 use lib.Bits.{bitOr, or-block, or-step, or-zero-r}
-use lib.Pow.{pow-pos, pow-lt, pow-mono, split, shl-exact}
+use lib.Pow.{pow-pos, pow-mono, split, shl-exact}
 use lib.Arith.{mod-mul}
 use borrow.Author.Tests.{lt-ltb, le-ltb, eqb-true, eqb-false}
 use Rattle.record.specs.Words.{if_then_else_}
@@ -52,7 +52,9 @@ doubled (suc w) h a =
     let m : 2 ^ suc w ≡ 2 ^ w * 2 = omega arith in
     let d : h * 2 / 2 ≡ h = omega arith in
     let z : h * 2 % 2 ≡ 0 = omega arith in
-    rw (e, m, mod-mul (h * 2) {m = 2 ^ w} {c = 2} (pow-pos w) (omega arith), d, z) (omega arith)
+    let p : h % 2 ^ (suc w - 1) * 2 ≡ h * 2 % 2 ^ suc w =
+    rw (e, m, mod-mul (h * 2) {m = 2 ^ w} {c = 2} (pow-pos w) (omega arith), d, z) (omega arith) in
+    p
 
 pub doubled-fits : (w h : ℕ) → w ≤ 64 → 0 < w → h % 2 ^ (w - 1) * 2 < 2 ^ 64
 doubled-fits w h a b =

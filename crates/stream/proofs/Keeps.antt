@@ -1,18 +1,18 @@
 -- The decision, a tick, a reset and an open leave a record lawful. Assumes nothing.
 use Prim.Native.Nat.{ℕ, zero, suc, _-_, _≤_, _<_, zero-le}
-use mathlib.Core.Path.{_≡_, refl, ap, sym, _∙_}
-use mathlib.Core.Bool.{Bool, true, false, _&&_, _||_, Bool·beq}
+use mathlib.Core.Path.{_≡_, refl, sym, _∙_}
+use mathlib.Core.Bool.{Bool, true, false, _||_}
 use native.Mathlib.Omega.{arith}
 use lib.Dec.{eqb}
 use borrow.Author.Tests.{eqb-false, ne-eqb}
 use Rattle.record.specs.Words.{if_then_else_, yes}
 use Rattle.record.specs.Sizes.{vectorRule}
-use Rattle.stream.specs.History.{History, empty, isEmpty, bit, within, single, setBit, advance}
-use Rattle.stream.specs.Record.{State, Counts, Stream, fresh, isFresh, settled, shaped, lawful, opened}
+use Rattle.stream.specs.History.{History, empty, isEmpty, single}
+use Rattle.stream.specs.Record.{State, Counts, Stream, fresh, isFresh, settled, shaped, lawful}
 use Rattle.stream.specs.Decisions.{Case, first, far, again, late, next, moved, caseOf, handedUp, with, stateAfter, countsAfter, decided, reset, expires, aged, ticked}
 use Rattle.stream.specs.Laws.{LawfulWithoutCounters, DecidedLawful, TickedLawful, ResetLawful, OpenedLawful}
 use Rattle.stream.proofs.Logic.{tests}
-use Rattle.stream.proofs.Law.{Law, Sizes, law, unlaw, sizes, size}
+use Rattle.stream.proofs.Law.{Law, Sizes, law, unlaw, size}
 use Rattle.stream.proofs.Told.{Fact, case-told}
 use Rattle.stream.proofs.Past.{empty-is, set-bit, set-within, single-bit, single-within, advance-zero, advance-within}
 
@@ -30,51 +30,68 @@ law-with {s} t c l e = record {
   shape = rw e (l .shape);
 }
 
--- A reset.
+-- What a reset and a tick leave: a lawful record with the same settings and no more ticks than one less.
+pub record Aged (s u : Stream) : Type 0 where
+  pub law : Law u
+  pub rule : u .rule ≡ s .rule
+  pub window : u .window ≡ s .window
+  pub time : u .time ≡ s .time
+  pub less : u .state .remaining ≤ s .state .remaining - 1
+
 fresh-shape : (rule window : ℕ) → shaped rule window fresh ≡ true
 unfolding shaped isFresh yes isEmpty
 fresh-shape rule window = refl
 
-pub law-reset : (s : Stream) → yes (s .used) ≡ true → settled s ≡ true → Law (reset s)
+pub after-reset : (s : Stream) → yes (s .used) ≡ true → settled s ≡ true → Aged s (reset s)
 unfolding reset settled yes
-law-reset s u e =
-    record { used = u; settled = e; rest = zero-le; idle = refl; shape = fresh-shape (s .rule) (s .window) }
+after-reset s u e = record {
+  law = record { used = u; settled = e; rest = zero-le; idle = refl; shape = fresh-shape (s .rule) (s .window) };
+  rule = refl;
+  window = refl;
+  time = refl;
+  less = zero-le;
+}
 
 pub reset-lawful : ResetLawful
-reset-lawful s u e = unlaw (law-reset s u e)
+reset-lawful s u e = unlaw (after-reset s u e .law)
 
 pub opened-lawful : OpenedLawful
 unfolding yes
 opened-lawful dest vlan rule window time e =
     unlaw (record { used = refl; settled = e; rest = zero-le; idle = refl; shape = fresh-shape rule window })
 
--- A tick.
 idle-aged : (n : ℕ) → eqb n 1 ≡ false → eqb (n - 1) 0 ≡ eqb n 0
 idle-aged zero e = refl
 idle-aged (suc zero) e = absurd (eqb-false 1 1 e refl)
 idle-aged (suc (suc n)) e =
     ne-eqb (suc (suc n) - 1) 0 (omega arith) ∙ sym (ne-eqb (suc (suc n)) 0 (omega arith))
 
-law-aged : {s : Stream} → Law s → eqb (s .state .remaining) 1 ≡ false → Law (with s (aged (s .state)) (s .counts))
+after-age : {s : Stream} → Law s → eqb (s .state .remaining) 1 ≡ false → Aged s (with s (aged (s .state)) (s .counts))
 unfolding settled shaped isFresh
-law-aged {s} l e = record {
-  used = l .used;
-  settled = l .settled;
-  rest = omega (arith, l .rest);
-  idle = idle-aged (s .state .remaining) e ∙ l .idle;
-  shape = rw (idle-aged (s .state .remaining) e) (l .shape);
+after-age {s} l e = record {
+  law = record {
+    used = l .used;
+    settled = l .settled;
+    rest = omega (arith, l .rest);
+    idle = idle-aged (s .state .remaining) e ∙ l .idle;
+    shape = rw (idle-aged (s .state .remaining) e) (l .shape);
+  };
+  rule = refl;
+  window = refl;
+  time = refl;
+  less = omega arith;
 }
 
-pub law-ticked : {s : Stream} → Law s → Law (ticked s)
+pub after-tick : {s : Stream} → Law s → Aged s (ticked s)
 unfolding ticked expires
-law-ticked {s} l = go (eqb (s .state .remaining) 1) refl
+after-tick {s} l = go (eqb (s .state .remaining) 1) refl
   where
-    go : (b : Bool) → eqb (s .state .remaining) 1 ≡ b → Law (ticked s)
-    go true e = rw (unlaw l, e) (law-reset s (l .used) (l .settled))
-    go false e = rw (unlaw l, e) (law-aged l e)
+    go : (b : Bool) → eqb (s .state .remaining) 1 ≡ b → Aged s (ticked s)
+    go true e = rw (unlaw l, e) (after-reset s (l .used) (l .settled))
+    go false e = rw (unlaw l, e) (after-age l e)
 
 pub ticked-lawful : TickedLawful
-ticked-lawful s l = unlaw (law-ticked (law l))
+ticked-lawful s l = unlaw (after-tick (law l) .law)
 
 -- The decision: what is handed up leaves a lawful record if its history has the right shape.
 or-true : (b : Bool) → b || true ≡ true

@@ -1,10 +1,9 @@
 -- What a lawful record is, part by part. Assumes nothing.
-use Prim.Native.Nat.{ℕ, _≤_, _<_}
+use Prim.Native.Nat.{_≤_}
 use mathlib.Core.Path.{_≡_, refl, sym, _∙_}
 use mathlib.Core.Bool.{Bool, true, false, _&&_, Bool·beq}
-use native.Mathlib.Omega.{arith}
 use lib.Dec.{eqb, leb}
-use borrow.Author.Tests.{eq-eqb, ne-eqb}
+use borrow.Author.Tests.{eq-eqb}
 use Rattle.record.specs.Words.{yes}
 use Rattle.record.specs.Sizes.{windowLeast, windowMost, timeLeast, timeMost, vlanMost}
 use Rattle.stream.specs.History.{empty, isEmpty}

@@ -1,15 +1,18 @@
+-- The laws that other crates may cite: of tests, of a history, of lawful records, of the difference, of the decision.
 pub mod Logic
-pub mod Bits
 pub mod Past
-pub mod Digits
-pub mod Moves
 pub mod Law
-pub mod Flags
 pub mod Told
-pub mod Reading
-pub mod Sorts
+pub mod Modulo
 pub mod Keeps
 pub mod Changes
 pub mod Steps
-pub mod Ticks
 pub mod Wrap
+-- What the proofs of the functions rest on.
+mod Bits
+mod Digits
+mod Moves
+mod Flags
+mod Reading
+mod Sorts
+mod Ticks

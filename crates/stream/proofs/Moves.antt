@@ -1,15 +1,14 @@
 -- d places up at once: the history is shifted and cut once, and lost are the zeros among the d places that leave. It is
 -- what d single places give. Assumes nothing.
-use mathlib.Core.Path.{_≡_, refl, ap, ap₂, _∙_, sym}
-use mathlib.Core.Bool.{Bool, true, false, not}
+use mathlib.Core.Path.{_≡_, refl, ap, _∙_, sym}
+use mathlib.Core.Bool.{not}
 use Prim.Native.Nat.{ℕ, zero, suc, _+_, _-_, _*_, _/_, _%_, _^_, _<_, _≤_}
-use native.Mathlib.Nat.{mod-lt, mod-mod, mul-one, mul-comm, mul-assoc, mul-right-comm, add-comm, add-mul, div-add-mod', add-mul-mod-self-right, pow-suc}
+use native.Mathlib.Nat.{mod-lt, mod-mod, mul-assoc, mul-right-comm, add-comm, add-mul, div-add-mod', add-mul-mod-self-right}
 use native.Mathlib.Omega.{arith}
 use lib.Dec.{eqb, lit<}
 use lib.Count.{ones, ones-cat, ones-le}
 use lib.Pow.{pow-pos, field, shr-shr, shl-shr}
 use lib.Arith.{mod-mul}
-use Rattle.record.specs.Words.{if_then_else_}
 use Rattle.stream.specs.History.{bitOf, bit, one, push, pushes, leaving}
 
 mod-times : (x c m : ℕ) → (x % m * c) % m ≡ (x * c) % m

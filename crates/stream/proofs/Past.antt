@@ -1,6 +1,6 @@
 -- The laws of a history. Assumes nothing.
 use Prim.Native.Nat.{ℕ, zero, suc, _+_, _-_, _*_, _%_, _^_, _≤_, _<_}
-use mathlib.Core.Path.{_≡_, refl, ap, sym, _∙_}
+use mathlib.Core.Path.{_≡_, refl, ap, _∙_}
 use mathlib.Core.Bool.{Bool, true, false, _||_}
 use native.Mathlib.Nat.{add-zero, mod-lt}
 use native.Mathlib.Omega.{arith}

@@ -5,15 +5,13 @@ use Prim.Native.Nat.{ℕ, zero, suc, _+_, _-_, _%_, _<_, _≤_, _^_}
 use native.Mathlib.Omega.{arith}
 use lib.IntN.{ℤ, pos, negsuc, negℤ, _-ℤ_, natAbs, +ℤ-idl}
 use lib.Signed.{mag, leZ, ltZ, nonNeg}
-use lib.Dec.{T, eqb, leb, ltb}
-use borrow.Author.Tests.{lt-ltb, le-ltb, eq-eqb, ne-eqb, leb-false, leb-true, ltb-true}
+use lib.Dec.{T, eqb, ltb}
+use borrow.Author.Tests.{lt-ltb, le-ltb, ne-eqb, ltb-true, eqb-false}
 use mir.Syntax.{w16, w32}
 use mir.Val.{SFits, Fits, toZ, ofZ}
 use mir.Facts.{toZ-pos, toZ-ofZ}
 use Rattle.record.specs.Words.{if_then_else_}
-use Rattle.stream.specs.History.{History, bit}
-use Rattle.stream.specs.Decisions.{Signed, ahead, behind, signed, difference, asInt, Case, far, again, late, next, moved, vectorCase, matchCase}
-use Rattle.stream.proofs.Told.{Forward}
+use Rattle.stream.specs.Decisions.{Signed, ahead, behind, signed, difference, asInt}
 
 -- 1. The reading. A number of 16 bits, in 32:
 pub wide : (w : ℕ) → w < 2 ^ 16 → toZ w32 w ≡ pos w
@@ -22,12 +20,12 @@ wide w h = toZ-pos w32 (omega arith)
 below : (w : ℕ) → w < 2 ^ 16 → pos w -ℤ pos 65536 ≡ negsuc (65535 - w)
 below w h = simp (lt-ltb w 65536 h) (ap negsuc (omega arith))
 
-signed-low : (w : ℕ) → w < 32768 → asInt (signed w) ≡ pos w
+pub signed-low : (w : ℕ) → w < 32768 → asInt (signed w) ≡ pos w
 unfolding signed
 signed-low zero h = refl
 signed-low (suc w) h = rw (ne-eqb (suc w) 0 (omega arith), lt-ltb (suc w) 32768 h)
 
-signed-high : (w : ℕ) → 32768 ≤ w → w < 2 ^ 16 → asInt (signed w) ≡ negsuc (65535 - w)
+pub signed-high : (w : ℕ) → 32768 ≤ w → w < 2 ^ 16 → asInt (signed w) ≡ negsuc (65535 - w)
 unfolding signed
 signed-high w l h =
     let n : 65536 - w ≡ suc (65535 - w) = omega arith in
@@ -50,6 +48,24 @@ unfolding difference
 wraps r number anchor hr ha e =
     let same : r ≡ (number + 65536 - anchor) % 65536 = omega arith in
     ap (λ (w : ℕ). asInt (signed w)) same
+
+-- What is ahead is ahead by one or more.
+abbrev pub Forward : Signed → Type 0
+Forward (ahead d) = 0 < d
+Forward (behind k) = Unit {0}
+
+forward-signed : (w : ℕ) → Forward (signed w)
+unfolding signed
+forward-signed w = go (eqb w 0) (ltb w 32768) refl
+  where
+    go : (a b : Bool) → eqb w 0 ≡ a → Forward (if a then behind 0 else if b then ahead w else behind (65536 - w))
+    go true b e = tt
+    go false true e = let o : w ≡ 0 → ⊥ = eqb-false w 0 e in omega arith
+    go false false e = tt
+
+pub forward : (number anchor : ℕ) → Forward (difference number anchor)
+unfolding difference
+forward number anchor = forward-signed _
 
 -- 2. The code's tests on a signed local, as tests on its number.
 module _ (w : ℕ) (d : ℤ) (hw : w < 2 ^ 16) (hd : SFits w32 d) where

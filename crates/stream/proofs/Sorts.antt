@@ -1,20 +1,18 @@
 -- The code's tests on the integer d pick the case of the definitions. Assumes nothing.
-use mathlib.Core.Path.{_≡_, refl, ap, _∙_, sym}
-use mathlib.Core.Bool.{Bool, true, false}
+use mathlib.Core.Path.{_≡_, refl}
+use mathlib.Core.Bool.{true, false}
 use Prim.Native.Nat.{ℕ, zero, suc, _<_, _≤_}
 use native.Mathlib.Omega.{arith}
 use lib.IntN.{ℤ, pos, negsuc, negℤ, natAbs}
 use lib.Signed.{leZ}
-use lib.Dec.{eqb, leb, ltb}
-use borrow.Author.Tests.{lt-ltb, le-ltb, eq-eqb, ne-eqb, leb-false, leb-true, eqb-true}
+use lib.Dec.{eqb}
+use borrow.Author.Tests.{lt-ltb, le-ltb, ne-eqb, leb-false, leb-true, eqb-true}
 use Rattle.record.specs.Words.{if_then_else_, yes}
 use Rattle.record.specs.Sizes.{vectorRule}
 use Rattle.stream.specs.History.{History, bit}
 use Rattle.stream.specs.Record.{Stream}
-use Rattle.stream.specs.Decisions.{Signed, ahead, behind, asInt, difference, Case, first, far, again, late, next, moved, vectorCase, matchCase, caseOf, stateAfter, losses, outOfOrder}
-use Rattle.stream.specs.Steps.{Duplicate, HandedUp, lateMarks, weighedAs}
-use Rattle.stream.proofs.Told.{Forward}
-use Rattle.stream.proofs.Reading.{isℤ}
+use Rattle.stream.specs.Decisions.{Signed, ahead, behind, asInt, difference, first, far, again, late, next, moved, vectorCase, matchCase, caseOf}
+use Rattle.stream.proofs.Reading.{Forward, isℤ}
 
 -- By take-any and the rule.
 module _ (s : Stream) (n : ℕ) where
@@ -31,13 +29,6 @@ module _ (s : Stream) (n : ℕ) where
       → caseOf s n ≡ matchCase (difference n (s .state .anchor))
   unfolding caseOf
   case-match a r = rw (a, r)
-
-  -- what the first step answers for a number behind the anchor
-  pub weighed-behind : (b : Bool) (k : ℕ)
-      → weighedAs s n (if b then again else late k) ≡ (if b then Duplicate else HandedUp (lateMarks s k))
-  unfolding weighedAs stateAfter losses outOfOrder
-  weighed-behind true k = refl
-  weighed-behind false k = refl
 
 -- Vector.
 module _ (w : ℕ) (h : History) where

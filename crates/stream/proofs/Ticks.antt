@@ -1,15 +1,14 @@
 -- A tick, case by case as the code goes. Assumes nothing.
-use Prim.Native.Nat.{ℕ, _-_}
-use mathlib.Core.Path.{_≡_, refl, ap, sym, _∙_}
-use mathlib.Core.Bool.{Bool, true, false, _&&_, not}
+use Prim.Native.Nat.{_-_}
+use mathlib.Core.Path.{_≡_, refl}
+use mathlib.Core.Bool.{Bool, true, false, _&&_}
 use native.Mathlib.Omega.{arith}
-use lib.Dec.{eqb}
 use borrow.Author.Tests.{eq-eqb, ne-eqb}
 use Rattle.record.specs.Words.{yes}
-use Rattle.stream.specs.Record.{State, Stream, lawful, damaged}
+use Rattle.stream.specs.Record.{Stream, lawful, damaged}
 use Rattle.stream.specs.Decisions.{with, reset, expires, aged, ticked}
-use Rattle.stream.specs.Steps.{Ticked, tickOf}
-use Rattle.stream.proofs.Law.{Law, law}
+use Rattle.stream.specs.Laws.{TickLeaves, TickNoneLeft}
+use Rattle.stream.specs.Steps.{tickOf}
 
 and-false : (b : Bool) → (b && false) ≡ false
 and-false true = refl
@@ -18,6 +17,17 @@ and-false false = refl
 and-true : (b : Bool) → (b && true) ≡ b
 and-true true = refl
 and-true false = refl
+
+pub tick-leaves : TickLeaves
+unfolding ticked expires
+tick-leaves s l = rw l
+
+pub tick-none-left : TickNoneLeft
+unfolding ticked expires
+tick-none-left s l e =
+    let z : s .state .remaining - 1 ≡ s .state .remaining = omega arith in
+    rw (l, ne-eqb (s .state .remaining) 1 (λ o. omega arith))
+    (λ i. with s (record { history = s .state .history; anchor = s .state .anchor; remaining = z i; any = s .state .any }) (s .counts))
 
 module _ (s : Stream) where
   -- damaged or free
@@ -38,9 +48,6 @@ module _ (s : Stream) where
     tick-less e = rw (l, ne-eqb (s .state .remaining) 1 e, and-false (yes (s .used)))
 
     pub tick-none : s .state .remaining ≡ 0 → tickOf s ≡ record { stream = s; reset = false; damaged = false }
+    unfolding tickOf expires damaged
     tick-none e =
-        let z : s .state .remaining - 1 ≡ s .state .remaining = omega arith in
-        let t : aged (s .state) ≡ s .state =
-        λ i. record { history = s .state .history; anchor = s .state .anchor; remaining = z i; any = s .state .any } in
-        tick-less (λ o. omega arith)
-        ∙ ap (λ (u : State). record { stream = with s u (s .counts); reset = false; damaged = false }) t
+        rw (tick-none-left s l e, l, ne-eqb (s .state .remaining) 1 (λ o. omega arith), and-false (yes (s .used)))

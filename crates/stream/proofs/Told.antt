@@ -1,15 +1,15 @@
 -- What the case of an arrival tells of the record. Assumes nothing.
-use Prim.Native.Nat.{ℕ, _-_, _%_, _<_}
+use Prim.Native.Nat.{ℕ, _<_}
 use mathlib.Core.Path.{_≡_, refl}
 use mathlib.Core.Bool.{Bool, true, false}
-use native.Mathlib.Omega.{arith}
 use lib.Dec.{eqb, ltb}
-use borrow.Author.Tests.{ltb-true, eqb-false}
+use borrow.Author.Tests.{ltb-true}
 use Rattle.record.specs.Words.{if_then_else_, yes}
 use Rattle.record.specs.Sizes.{vectorRule}
 use Rattle.stream.specs.History.{bit}
 use Rattle.stream.specs.Record.{Stream}
-use Rattle.stream.specs.Decisions.{Signed, ahead, behind, signed, difference, Case, first, far, again, late, next, moved, vectorCase, matchCase, caseOf}
+use Rattle.stream.specs.Decisions.{Signed, ahead, behind, Case, first, far, again, late, next, moved, vectorCase, matchCase, caseOf}
+use Rattle.stream.proofs.Reading.{Forward, forward}
 
 abbrev pub Fact : Stream → Case → Type 0
 Fact s first = Unit {0}
@@ -25,24 +25,6 @@ pub record Told (s : Stream) (c : Case) : Type 0 where
 told : {s : Stream} (b : Bool) {x y : Case} → (b ≡ true → Told s x) → (b ≡ false → Told s y) → Told s (if b then x else y)
 told true f g = f refl
 told false f g = g refl
-
--- What is ahead is ahead by one or more.
-abbrev pub Forward : Signed → Type 0
-Forward (ahead d) = 0 < d
-Forward (behind k) = Unit {0}
-
-forward-signed : (w : ℕ) → Forward (signed w)
-unfolding signed
-forward-signed w = go (eqb w 0) (ltb w 32768) refl
-  where
-    go : (a b : Bool) → eqb w 0 ≡ a → Forward (if a then behind 0 else if b then ahead w else behind (65536 - w))
-    go true b e = tt
-    go false true e = let o : w ≡ 0 → ⊥ = eqb-false w 0 e in omega arith
-    go false false e = tt
-
-pub forward : (number anchor : ℕ) → Forward (difference number anchor)
-unfolding difference
-forward number anchor = forward-signed _
 
 vector-told : (s : Stream) (d : Signed) → yes (s .state .any) ≡ false → eqb (s .rule) vectorRule ≡ true → Forward d
     → Told s (vectorCase (s .window) (s .state .history) d)

@@ -1,7 +1,7 @@
 -- Document 01, "The stream record": the history, whose bit k stands for the number anchor - k. This file alone knows how
 -- a history is held; every other file goes through these names. Assumes nothing.
 use Prim.Native.Nat.{ℕ, zero, suc, _+_, _-_, _*_, _/_, _%_, _^_}
-use mathlib.Core.Bool.{Bool, true, false, not}
+use mathlib.Core.Bool.{Bool, not}
 use lib.Dec.{eqb, ltb}
 use Rattle.record.specs.Words.{if_then_else_}
 

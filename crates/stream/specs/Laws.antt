@@ -2,15 +2,17 @@
 use Prim.Native.Nat.{ℕ, _<_}
 use mathlib.Core.Path.{_≡_}
 use mathlib.Core.Bool.{Bool, true, false, _&&_}
-use mathlib.Core.Option.{Option, some}
+use mathlib.Core.Option.{some}
 use lib.Dec.{eqb}
 use lib.IntN.{ℤ, pos, negℤ, _+ℤ_, _-ℤ_, _*ℤ_}
 use lib.Signed.{leZ}
 use Rattle.record.specs.Words.{if_then_else_, yes}
-use Rattle.record.specs.Sizes.{vectorRule}
-use Rattle.stream.specs.Record.{State, Counts, Stream, settled, lawful, opened}
-use Rattle.stream.specs.Decisions.{Signed, behind, difference, asInt, Verdict, up, duplicate, rogue, isUp, rise, counted, with, verdict, decided, reset, ticked}
-use Rattle.stream.specs.Steps.{Weighed, Damaged, weighed, verdictIn, recordAfter}
+use Rattle.record.specs.Sizes.{vectorRule, matchRule}
+use Rattle.stream.specs.History.{empty, single}
+use Rattle.stream.specs.Record.{Counts, Stream, settled, lawful, opened}
+use Rattle.stream.specs.Decisions.{behind, difference, asInt, up, duplicate, rogue, isUp, rise, with, verdict, decided, reset, ticked}
+use Rattle.stream.specs.Steps.{Damaged, weighed, said, recordAfter}
+use Rattle.stream.specs.WrapRun.{four, held}
 
 -- "The difference is taken modulo 65536 and read as signed, from -32768 to 32767": it is in that range, it is congruent to
 -- number - anchor, and no other integer is both.
@@ -100,10 +102,17 @@ AnchorStays =
     → difference number (s .state .anchor) ≡ behind k
     → decided s number network .state .anchor ≡ s .state .anchor
 
+-- A tick leaves damaged records "and the free ones untouched"; and so it does a lawful one that has no tick left.
+abbrev pub TickLeaves : Type 0
+TickLeaves = (s : Stream) → lawful s ≡ false → ticked s ≡ s
+
+abbrev pub TickNoneLeft : Type 0
+TickNoneLeft = (s : Stream) → lawful s ≡ true → s .state .remaining ≡ 0 → ticked s ≡ s
+
 -- The two steps that the code takes are the decision: for a lawful record the first tells its verdict, and the second gives
 -- its record; for every other record there is no verdict, and the record stays.
 abbrev pub StepsTellVerdict : Type 0
-StepsTellVerdict = (s : Stream) (number : ℕ) → lawful s ≡ true → verdictIn (weighed s number) ≡ some (verdict s number)
+StepsTellVerdict = (s : Stream) (number : ℕ) → lawful s ≡ true → said (weighed s number) ≡ some (verdict s number)
 
 abbrev pub StepsDecide : Type 0
 StepsDecide =
@@ -116,6 +125,16 @@ StepsDamaged = (s : Stream) (number : ℕ) → lawful s ≡ false → weighed s 
 abbrev pub StepsLeave : Type 0
 StepsLeave =
     (s : Stream) (number network : ℕ) → lawful s ≡ false → recordAfter s network (weighed s number) ≡ s
+
+-- The premises above are met: by fresh records and others of each rule, by a duplicate, a rogue and a late number, and by a
+-- record that is not lawful.
+abbrev pub PremisesMet : Type 0
+PremisesMet =
+    (lawful (four vectorRule) ≡ true) × (lawful (four matchRule) ≡ true)
+    × (lawful (held vectorRule 9 single 3) ≡ true) × (lawful (held matchRule 9 empty 3) ≡ true)
+    × (verdict (held vectorRule 9 single 3) 9 ≡ duplicate) × (verdict (held vectorRule 9 single 3) 13 ≡ rogue)
+    × (verdict (held vectorRule 9 single 3) 8 ≡ up) × (difference 8 9 ≡ behind 1)
+    × (lawful (held matchRule 9 single 3) ≡ false)
 
 -- Two outcomes that meet a contract coincide: a contract of this crate is an equation of the outcome.
 abbrev pub Coincide : Type 1

@@ -1,6 +1,6 @@
 -- Document 01, "The stream record": the fresh state, and when a record is lawful or damaged. Assumes nothing.
 use Prim.Native.Nat.{ℕ}
-use mathlib.Core.Bool.{Bool, true, false, _&&_, _||_, not, Bool·beq}
+use mathlib.Core.Bool.{Bool, _&&_, _||_, not, Bool·beq}
 use lib.Dec.{eqb, leb}
 pub use Rattle.record.specs.declared.State.{State}
 pub use Rattle.record.specs.declared.Counts.{Counts}

@@ -1,10 +1,9 @@
 -- Document 01, "Decisions": the decision in the two steps that the code takes, and the answer of a tick. The first step
 -- says what an arrival is to a record and reads no counter; the second gives the record after it. Assumes nothing.
 use Prim.Native.Nat.{ℕ}
-use mathlib.Core.Bool.{Bool, true, false}
+use mathlib.Core.Bool.{false}
 use mathlib.Core.Option.{Option, none, some}
 use Rattle.record.specs.Words.{if_then_else_}
-use Rattle.stream.specs.History.{setBit}
 use Rattle.stream.specs.Record.{Stream, lawful, damaged}
 use Rattle.stream.specs.Decisions.{Case, caseOf, Verdict, up, duplicate, rogue, verdictOf, handedUp, stateAfter, outOfOrder, losses, tally, with, expires, ticked}
 pub use Rattle.stream.specs.declared.Marks.{Marks}
@@ -21,29 +20,25 @@ marksOf s number c = record {
   disorder = outOfOrder c;
 }
 
--- What a late number leaves, k behind the anchor.
-abbrev pub lateMarks : Stream → (k : ℕ) → Marks
-lateMarks s k = record { history = setBit k (s .state .history); lost = 0; anchor = s .state .anchor; disorder = true }
+-- A verdict as the first step answers it.
+abbrev pub answer : Verdict → Marks → Weighed
+answer up m = HandedUp m
+answer duplicate m = Duplicate
+answer rogue m = Rogue
 
--- The paper's verdict as the first step answers it.
-abbrev pub said : Verdict → Marks → Weighed
-said up m = HandedUp m
-said duplicate m = Duplicate
-said rogue m = Rogue
-
--- The first step. A record that is not lawful, be it damaged or free, has no verdict.
+-- The first step, for a case; and for a record: one that is not lawful, be it damaged or free, has no verdict.
 unfoldable pub weighedAs : Stream → (number : ℕ) → Case → Weighed
-weighedAs s number c = said (verdictOf c) (marksOf s number c)
-
--- What each of its answers says in the paper's words.
-abbrev pub verdictIn : Weighed → Option Verdict
-verdictIn Damaged = none
-verdictIn (HandedUp m) = some up
-verdictIn Duplicate = some duplicate
-verdictIn Rogue = some rogue
+weighedAs s number c = answer (verdictOf c) (marksOf s number c)
 
 unfoldable pub weighed : Stream → (number : ℕ) → Weighed
 weighed s number = if lawful s then weighedAs s number (caseOf s number) else Damaged
+
+-- What each of its answers says in the paper's words: the verdict, or that there is none.
+abbrev pub said : Weighed → Option Verdict
+said Damaged = none
+said (HandedUp m) = some up
+said Duplicate = some duplicate
+said Rogue = some rogue
 
 -- The second step. Without a verdict the record stays as it is.
 unfoldable pub recordAfter : Stream → (network : ℕ) → Weighed → Stream

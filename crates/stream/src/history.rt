@@ -4,6 +4,9 @@ ghost use Prim.Native.Nat.{_<_, _≤_};
 ghost use Rattle.record.specs.Sizes.{windowMost};
 ghost use Rattle.stream.specs.History.{isEmpty, bit, within, setBit, pushes, leaving, advance};
 
+// Bits in the word that holds it.
+const WORD: u16 = 64;
+
 pub const EMPTY: u64 = 0;
 
 // Only bit 0.
@@ -60,9 +63,9 @@ fn places_up(h: u64, w: u16, d: u16) -> Moved
     requires { ⌜ (1 ≤ d) × ((d < w) × (w ≤ windowMost)) ⌝ }
     ensures { λ r. ⌜ (r .history ≡ pushes w d h) × (r .lost ≡ leaving w d h) ⌝ }
 {
-    let up = 64 - w;
+    let up = WORD - w;
     let a = h << up;
-    let ones = u64::count_ones(a >> (64 - d));
+    let ones = u64::count_ones(a >> (WORD - d));
     let zeros = (d as u32) - ones;
     Moved {
         history: (a << d) >> up,

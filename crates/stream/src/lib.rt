@@ -1,21 +1,23 @@
 // One stream record, by value: when it is lawful, how an arrival is decided, how it ages (document 01, "The stream record"
-// and "Decisions"). No function here has a condition on its caller: every bit pattern of a record is answered for.
+// and "Decisions"). No public function has a condition on its caller: every bit pattern of a record is answered for.
+mod cases;
+mod effects;
 mod history;
+mod number;
 
 use record::Counts;
 use record::State;
 use record::Stream;
 ghost use mathlib.Core.Path.{_≡_};
 ghost use mathlib.Core.Bool.{true, false, _&&_, _||_};
-ghost use Prim.Native.Nat.{_<_, _≤_};
+ghost use Prim.Native.Nat.{_≤_};
 ghost use lib.Dec.{eqb};
-ghost use lib.IntN.{natAbs};
 ghost use Rattle.record.specs.Words.{if_then_else_, yes};
 ghost use Rattle.record.specs.Sizes.{windowLeast, windowMost, vectorRule, matchRule};
-ghost use Rattle.stream.specs.History.{bit, within, isEmpty, setBit};
+ghost use Rattle.stream.specs.History.{bit, within, isEmpty};
 ghost use Rattle.stream.specs.Record.{fresh, isFresh, settled, lawful, opened, closed};
-ghost use Rattle.stream.specs.Decisions.{asInt, signed, difference, caseOf, next, counted, reset};
-ghost use Rattle.stream.specs.Steps.{lateMarks, weighedAs, weighed, recordAfter, tickOf};
+ghost use Rattle.stream.specs.Decisions.{reset};
+ghost use Rattle.stream.specs.Steps.{weighed, recordAfter, tickOf};
 
 // The anchor of the fresh state.
 const FRESH_ANCHOR: u16 = 65535;
@@ -168,115 +170,6 @@ pub fn lawful(s: Stream) -> bool
     is_marked(s.rule, s.window, t.history)
 }
 
-// The signed reading of a difference modulo 65536.
-fn signed(w: u16) -> i32
-    ensures { λ r. ⌜ r ≡ asInt (signed w) ⌝ }
-{
-    if w < 32768 {
-        w as i32
-    } else {
-        (w as i32) - 65536
-    }
-}
-
-// number - anchor, taken modulo 65536 and read as signed.
-pub fn difference(number: u16, anchor: u16) -> i32
-    ensures { λ r. ⌜ r ≡ asInt (difference number anchor) ⌝ }
-{
-    signed(std::num::wrapping_sub_u16(number, anchor))
-}
-
-// How far a difference inside the window is from 0.
-fn size(d: i32) -> u16
-    requires { ⌜ natAbs d < 65536 ⌝ }
-    ensures { λ r. ⌜ r ≡ natAbs d ⌝ }
-{
-    if d < 0 { (0 - d) as u16 } else { d as u16 }
-}
-
-// Vector, k behind the anchor. The anchor stays.
-fn behind(s: Stream, k: u16) -> Weighed
-    requires { ⌜ k < windowMost ⌝ }
-    ensures { λ r. ⌜ r ≡ (if bit k (s .state .history) then Weighed.Duplicate else Weighed.HandedUp (lateMarks s k)) ⌝ }
-{
-    let h = s.state.history;
-    if history::has_bit(h, k) {
-        return Weighed::Duplicate;
-    }
-    Weighed::HandedUp(Marks {
-        history: history::set_bit(h, k),
-        lost: 0,
-        anchor: s.state.anchor,
-        disorder: true,
-    })
-}
-
-// Vector, d ahead of the anchor.
-fn ahead(s: Stream, number: u16, d: u16) -> Weighed
-    requires { ⌜ (1 ≤ d) × ((d < s .window) × (s .window ≤ windowMost)) ⌝ }
-    ensures { λ r. ⌜ r ≡ weighedAs s number (next d) ⌝ }
-{
-    let m = history::advanced(s.state.history, s.window, d);
-    Weighed::HandedUp(Marks {
-        history: m.history,
-        lost: m.lost,
-        anchor: number,
-        disorder: d != 1,
-    })
-}
-
-fn by_vector(s: Stream, number: u16) -> Weighed
-    requires { ⌜ (windowLeast ≤ s .window) × ((s .window ≤ windowMost) × (s .rule ≡ vectorRule)) ⌝ }
-    ensures { λ r. ⌜ r ≡ weighedAs s number (caseOf s number) ⌝ }
-{
-    if s.state.any != 0 {
-        return Weighed::HandedUp(Marks {
-            history: history::SINGLE,
-            lost: 0,
-            anchor: number,
-            disorder: false,
-        });
-    }
-    let d = difference(number, s.state.anchor);
-    let w = s.window as i32;
-    if d >= w {
-        return Weighed::Rogue;
-    }
-    if d <= 0 - w {
-        return Weighed::Rogue;
-    }
-    let k = size(d);
-    if d <= 0 {
-        return behind(s, k);
-    }
-    ahead(s, number, k)
-}
-
-// Match: the history stays zero, and there is no rogue.
-fn by_match(s: Stream, number: u16) -> Weighed
-    requires { ⌜ eqb (s .rule) vectorRule ≡ false ⌝ }
-    ensures { λ r. ⌜ r ≡ weighedAs s number (caseOf s number) ⌝ }
-{
-    if s.state.any != 0 {
-        return Weighed::HandedUp(Marks {
-            history: history::EMPTY,
-            lost: 0,
-            anchor: number,
-            disorder: false,
-        });
-    }
-    let d = difference(number, s.state.anchor);
-    if d == 0 {
-        return Weighed::Duplicate;
-    }
-    Weighed::HandedUp(Marks {
-        history: s.state.history,
-        lost: 0,
-        anchor: number,
-        disorder: d != 1,
-    })
-}
-
 // The first step of the decision: what an arrival is to the record. It makes no record and reads no counter.
 pub fn weigh(s: Stream, number: u16) -> Weighed
     ensures { λ r. ⌜ r ≡ weighed s number ⌝ }
@@ -285,64 +178,9 @@ pub fn weigh(s: Stream, number: u16) -> Weighed
         return Weighed::Damaged;
     }
     if s.rule == Stream::VECTOR_RULE {
-        return by_vector(s, number);
+        return cases::by_vector(s, number);
     }
-    by_match(s, number)
-}
-
-// A counter, risen by 1 where the test holds.
-fn counted(test: bool, count: u64) -> u64
-    ensures { λ r. ⌜ r ≡ counted test count ⌝ }
-{
-    if test {
-        return std::num::wrapping_add_u64(count, 1);
-    }
-    count
-}
-
-fn handed_up(s: Stream, network: u8, m: Marks) -> Stream
-    ensures { λ r. ⌜ r ≡ recordAfter s network (Weighed.HandedUp m) ⌝ }
-{
-    let mut c = s.counts;
-    c.arrivals0 = counted(network == 0, s.counts.arrivals0);
-    c.arrivals1 = counted(network != 0, s.counts.arrivals1);
-    c.passed = counted(true, s.counts.passed);
-    c.disorder = counted(m.disorder, s.counts.disorder);
-    c.lost = std::num::wrapping_add_u64(s.counts.lost, m.lost);
-    let state = State {
-        history: m.history,
-        anchor: m.anchor,
-        remaining: s.time,
-        any: 0,
-    };
-    let mut t = s;
-    t.state = state;
-    t.counts = c;
-    t
-}
-
-fn duplicate(s: Stream, network: u8) -> Stream
-    ensures { λ r. ⌜ r ≡ recordAfter s network Weighed.Duplicate ⌝ }
-{
-    let mut c = s.counts;
-    c.arrivals0 = counted(network == 0, s.counts.arrivals0);
-    c.arrivals1 = counted(network != 0, s.counts.arrivals1);
-    c.discarded = counted(true, s.counts.discarded);
-    let mut t = s;
-    t.counts = c;
-    t
-}
-
-fn rogue(s: Stream, network: u8) -> Stream
-    ensures { λ r. ⌜ r ≡ recordAfter s network Weighed.Rogue ⌝ }
-{
-    let mut c = s.counts;
-    c.arrivals0 = counted(network == 0, s.counts.arrivals0);
-    c.arrivals1 = counted(network != 0, s.counts.arrivals1);
-    c.rogue = counted(true, s.counts.rogue);
-    let mut t = s;
-    t.counts = c;
-    t
+    cases::by_match(s, number)
 }
 
 // The second step of the decision: the record after what the first step found.
@@ -351,9 +189,9 @@ pub fn next(s: Stream, network: u8, w: Weighed) -> Stream
 {
     match w {
         Weighed::Damaged => s,
-        Weighed::HandedUp(m) => handed_up(s, network, m),
-        Weighed::Duplicate => duplicate(s, network),
-        Weighed::Rogue => rogue(s, network),
+        Weighed::HandedUp(m) => effects::handed_up(s, network, m),
+        Weighed::Duplicate => effects::duplicate(s, network),
+        Weighed::Rogue => effects::rogue(s, network),
     }
 }
 

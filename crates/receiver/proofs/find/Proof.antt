@@ -48,11 +48,12 @@ use Rattle.record.specs.declared.Stream.{Stream}
 use Rattle.calls.specs.Table.{blank, hasKey, found, orElse, foundHere}
 use Rattle.calls.specs.declared.Found.{Found}
 use Rattle.calls.proofs.Search.{found-nil, found-snoc, found-front}
-use Rattle.receiver.proofs.Rows.{R, val, size, ty, shrTy, fits-at, typed, has, looks-at, shuts-at, enters-shr}
 use Rattle.receiver.proofs.Calling.{calls-value}
-use Rattle.receiver.proofs.Pieces.{after}
+use Rattle.receiver.proofs.Fields.{at-ok, nothing-ok}
 use Rattle.receiver.proofs.Lists.{from-0, one-more, less}
-use Rattle.receiver.proofs.Values.{at-ok, found-has, found-ok, found-ty, found-typed, found-val, nothing-ok}
+use Rattle.receiver.proofs.Pieces.{after}
+use Rattle.receiver.proofs.Rows.{R, val, ty, size, shrTy, fits-at, typed, has, looks-at, shuts-at, enters-shr}
+use Rattle.receiver.proofs.Values.{found-ty, found-val, found-ok, found-typed, found-has}
 use Rattle.calls.proofs.has_key as fn-has-key
 use Rattle.calls.proofs.has_key.Symbol as fn-has-key-def
 use Rattle.calls.proofs.has_key.Symbol.{name as #calls·has-key}
@@ -181,7 +182,7 @@ module _ {M : Type 1} (𝓤 : URA M) (H : Heap 𝓤) (A : Atoms 𝓤) (W : Given
           assigns ! (of-opd ! (load ! (from ! (hop ! (look-cell ! 7 refl) (stop !))) (look-raw ! 0 refl))) (from ! (stop !)) (init ! 5 refl (typed 𝓤 H A W (getD ys i blank) g)) $
           shuts-at ! tt q′ ys i blank b o l $
           -- [the token; the fractured borrow; the locals]
-          calls-value ! fm fn-has-key.ended (fn-has-key.clauses 𝓤 H A mem run) (known .has-key′) ((tt, tt, tt, ((getD ys i blank), (dest, (vlan, tt))), (val (getD ys i blank) ∷ [], (vint w64 dest ∷ [], (vint w16 vlan ∷ [], tt)))), tt) (qed W [] ∵ nothing ! $ owned ! u16 (Is u16) (uint-makes 𝓤 H A W w16) vlan _ (refl, g-vlan) $ fjoin ! $ owned ! u64 (Is u64) (uint-makes 𝓤 H A W w64) dest _ (refl, g-dest) $ fjoin ! $ has ! (getD ys i blank) g $ fjoin ! $ nothing ! $ join ! $ frame ! $ done !) vbool (λ r vs p. bool-tells r vs p) (λ (r : Bool). r ≡ hasKey dest vlan (getD ys i blank)) (λ r ws. id⊢ 𝓤 _) (and-then ! (load ! (from ! (stop !)) (look-cell ! 3 refl)) (and-then ! (load ! (from ! (stop !)) (look-cell ! 19 refl)) (and-then ! (load ! (from ! (stop !)) (look-cell ! 17 refl)) (no-more !)))) (λ r g-r said.
+          calls-value {𝓤 = 𝓤} {H = H} {A = A} ! fm fn-has-key.ended (fn-has-key.clauses 𝓤 H A mem run) (known .has-key′) ((tt, tt, tt, ((getD ys i blank), (dest, (vlan, tt))), (val (getD ys i blank) ∷ [], (vint w64 dest ∷ [], (vint w16 vlan ∷ [], tt)))), tt) (qed W [] ∵ nothing ! $ owned ! u16 (Is u16) (uint-makes 𝓤 H A W w16) vlan _ (refl, g-vlan) $ fjoin ! $ owned ! u64 (Is u64) (uint-makes 𝓤 H A W w64) dest _ (refl, g-dest) $ fjoin ! $ has ! (getD ys i blank) g $ fjoin ! $ nothing ! $ join ! $ frame ! $ done !) vbool (λ r vs p. bool-tells r vs p) (λ (r : Bool). r ≡ hasKey dest vlan (getD ys i blank)) (λ r ws. id⊢ 𝓤 _) (and-then ! (load ! (from ! (stop !)) (look-cell ! 3 refl)) (and-then ! (load ! (from ! (stop !)) (look-cell ! 19 refl)) (and-then ! (load ! (from ! (stop !)) (look-cell ! 17 refl)) (no-more !)))) (λ r g-r said.
           land ! (from ! (stop !)) (init ! 6 refl (tt, tt)) $
           first ! $ branches ! (load ! (from ! (stop !)) (look-cell ! 6 refl))
           (λ yes′. assigns ! (agg ! (and-then ! (lit ! tt) (and-then ! (load ! (from ! (stop !)) (look-cell ! 14 refl)) (no-more !)))) (from ! (stop !)) (init ! 12 refl (found-typed 𝓤 H A W (Found.At i) (at-ok i gi))) $

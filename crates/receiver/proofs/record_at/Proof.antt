@@ -37,9 +37,9 @@ use denote.Triple.Walked.{says, Stays, stay-dropped, walkOf, goes-dropped, ends-
 use denote.Exit.{yes}
 use Rattle.record.specs.declared.Stream.{Stream}
 use Rattle.calls.specs.Table.{blank}
-use Rattle.receiver.proofs.Rows.{R, val, size, ty, shrTy, Ok, fits-at, typed, tells, has, looks-at, shuts-at, enters-shr}
 use Rattle.receiver.proofs.Calling.{calls-value}
 use Rattle.receiver.proofs.Lists.{getD-past}
+use Rattle.receiver.proofs.Rows.{R, val, ty, size, shrTy, Ok, fits-at, typed, tells, has, looks-at, shuts-at, enters-shr}
 use Rattle.calls.proofs.blank as fn-blank
 use Rattle.calls.proofs.blank.Symbol as fn-blank-def
 use Rattle.calls.proofs.blank.Symbol.{name as #calls·blank}
@@ -110,7 +110,7 @@ module _ {M : Type 1} (𝓤 : URA M) (H : Heap 𝓤) (A : Atoms 𝓤) (W : Given
         returns-within ! Post′ refl (look-cell ! 16 refl) $ forget ! 16 refl $ forget ! 14 refl $ forget ! 12 refl $ forget ! 10 refl $ forget ! 8 refl $ forget ! 6 refl $ forget ! 4 refl $ forget ! 2 refl $
         move ! (16 ∷ 17 ∷ []) $ free1 ! $ move ! (14 ∷ 15 ∷ []) $ free1 ! $ move ! (12 ∷ 13 ∷ []) $ free1 ! $ move ! (10 ∷ 11 ∷ []) $ free1 ! $ move ! (8 ∷ 9 ∷ []) $ free1 ! $ move ! (6 ∷ 7 ∷ []) $ free1 ! $ move ! (4 ∷ 5 ∷ []) $ free1 ! $ move ! (2 ∷ 3 ∷ []) $ free1 ! $ free0 ! $ keep ! (0 ∷ []) $ by ! (exits (getD ys i blank) g refl)))
         (λ big. skips ! $ exec ! C Λ (En l₀ l₁ l₂ l₃ l₄ l₅ l₆ l₇) mir′.t-4 (atRet (En l₀ l₁ l₂ l₃ l₄ l₅ l₆ l₇) Post′) $
-        calls-value ! fm fn-blank.ended (fn-blank.clauses 𝓤 H A mem run) (known .blank′) ((tt, tt, tt, tt, tt), tt) (qed W [] ∵ nothing ! $ nothing ! $ join ! $ frame ! $ done !) val (λ r vs p. tells r vs p) (λ (r : Stream). r ≡ blank) (λ r ws. id⊢ 𝓤 _) (no-more !) (λ r g-r said.
+        calls-value {𝓤 = 𝓤} {H = H} {A = A} ! fm fn-blank.ended (fn-blank.clauses 𝓤 H A mem run) (known .blank′) ((tt, tt, tt, tt, tt), tt) (qed W [] ∵ nothing ! $ nothing ! $ join ! $ frame ! $ done !) val (λ r vs p. tells r vs p) (λ (r : Stream). r ≡ blank) (λ r ws. id⊢ 𝓤 _) (no-more !) (λ r g-r said.
         land ! (from ! (stop !)) (init ! 16 refl (typed 𝓤 H A W r g-r)) $
         returns ! (look-cell ! 16 refl) $ forget ! 16 refl $ forget ! 14 refl $ forget ! 12 refl $ forget ! 10 refl $ forget ! 8 refl $
         move ! (16 ∷ 17 ∷ []) $ free1 ! $ move ! (14 ∷ 15 ∷ []) $ free1 ! $ move ! (12 ∷ 13 ∷ []) $ free1 ! $ move ! (10 ∷ 11 ∷ []) $ free1 ! $ move ! (8 ∷ 9 ∷ []) $ free1 ! $ move ! (6 ∷ 7 ∷ []) $ free1 ! $ move ! (4 ∷ 5 ∷ []) $ free1 ! $ move ! (2 ∷ 3 ∷ []) $ free1 ! $ free0 ! $ keep ! (1 ∷ []) $ by ! (exits r g-r (said ∙ sym (getD-past ys i blank (nltb→le i n big))))))))))))))

@@ -38,7 +38,8 @@ use denote.Exit.{yes}
 use lib.Seq.{set-out}
 use Rattle.record.specs.declared.Stream.{Stream}
 use Rattle.calls.specs.Table.{blank}
-use Rattle.receiver.proofs.Rows.{R, val, size, ty, mutTy, Ok, fits-at, typed, spells, tells, opens-at, closes-at, enters-mut, owns-mut}
+use Rattle.receiver.proofs.Handing.{owns-slice}
+use Rattle.receiver.proofs.Rows.{R, val, ty, size, mutTy, Ok, fits-at, typed, spells, tells, opens-at, closes-at, enters-mut}
 use Rattle.receiver.proofs.store.Key.{name as #receiver·store}
 use Rattle.receiver.proofs.store as fn
 use Rattle.receiver.proofs.store.Statement as stated
@@ -68,7 +69,7 @@ module _ {M : Type 1} (𝓤 : URA M) (H : Heap 𝓤) (A : Atoms 𝓤) (W : Given
   exits gn zs len said =
       qed W (‵ (fobs γ (codedHoleys R .code (heres R zs))) ∷ ‵ (fbor κ (Held R (length zs) b o γ)) ∷ ‵ (flft κ q) ∷ []) ∵
       suffices ! _ (ends-at 𝓤 H A fn.ended stayed (fn.clauses 𝓤 H A mem run) W (((κ, tt), (q, tt), tt, x, mv), tt) (vunit) tt (zs, (tt, (tt, tt))) (len, (tt, (tt, tt)))) $ says ! said $
-      nothing ! $ move ! (3 ∷ 0 ∷ []) $ join ! $ frame ! $ owns-mut ! (named 0) ys zs b o len gn $ nothing ! $ nothing ! $ fjoin ! $ nothing ! $ fjoin ! $ move ! (1 ∷ 0 ∷ []) $ fjoin ! $ frame ! $ feqI ! (List Val) (vunit ∷ []) (vunit ∷ []) refl $ done !
+      nothing ! $ move ! (3 ∷ 0 ∷ []) $ join ! $ frame ! $ owns-slice ! R (named 0) ys zs b o len gn $ nothing ! $ nothing ! $ fjoin ! $ nothing ! $ fjoin ! $ move ! (1 ∷ 0 ∷ []) $ fjoin ! $ frame ! $ feqI ! (List Val) (vunit ∷ []) (vunit ∷ []) refl $ done !
 
   module _ (𝓣 : Tables 𝓤 H) (fm : FmC 𝓤 H (W .laws) (𝓣 .C)) (g-ys : Room R (length ys)) (g-i : i < 2 ^ 64) (g-e : Ok e) where
     abbrev C : Calls 𝓤 H

@@ -46,11 +46,11 @@ use Rattle.record.specs.declared.Stream.{Stream}
 use Rattle.calls.specs.Table.{blank, surveyed, unseen, looked}
 use Rattle.calls.specs.declared.Survey.{Survey}
 use Rattle.calls.proofs.Search.{surveyed-nil, surveyed-snoc}
-use Rattle.receiver.proofs.Rows.{R, val, size, ty, shrTy, fits-at, typed, has, looks-at, shuts-at, enters-shr}
 use Rattle.receiver.proofs.Calling.{calls-value}
-use Rattle.receiver.proofs.Pieces.{after}
 use Rattle.receiver.proofs.Lists.{from-0, one-more, less}
-use Rattle.receiver.proofs.Values.{survey-has, survey-ok, survey-tells, survey-ty, survey-typed, survey-val}
+use Rattle.receiver.proofs.Pieces.{after}
+use Rattle.receiver.proofs.Rows.{R, val, ty, size, shrTy, fits-at, typed, has, looks-at, shuts-at, enters-shr}
+use Rattle.receiver.proofs.Values.{survey-ty, survey-val, survey-tells, survey-ok, survey-typed, survey-has}
 use Rattle.calls.proofs.unseen as fn-unseen
 use Rattle.calls.proofs.unseen.Symbol as fn-unseen-def
 use Rattle.calls.proofs.unseen.Symbol.{name as #calls·unseen}
@@ -159,7 +159,7 @@ module _ {M : Type 1} (𝓤 : URA M) (H : Heap 𝓤) (A : Atoms 𝓤) (W : Given
           assigns ! (of-opd ! (load ! (from ! (hop ! (look-cell ! 7 refl) (stop !))) (look-raw ! 0 refl))) (from ! (stop !)) (init ! 5 refl (typed 𝓤 H A W (getD ys i blank) g)) $
           shuts-at ! tt q′ ys i blank b o l $
           -- [the token; the fractured borrow; the locals]
-          calls-value ! fm fn-look.ended (fn-look.clauses 𝓤 H A mem run) (known .look′) ((tt, tt, tt, (a, ((getD ys i blank), (i, (dest, (vlan, tt))))), (survey-val a ∷ [], (val (getD ys i blank) ∷ [], (vint w64 i ∷ [], (vint w64 dest ∷ [], (vint w16 vlan ∷ [], tt)))))), tt) (qed W [] ∵ nothing ! $ owned ! u16 (Is u16) (uint-makes 𝓤 H A W w16) vlan _ (refl, g-vlan) $ fjoin ! $ owned ! u64 (Is u64) (uint-makes 𝓤 H A W w64) dest _ (refl, g-dest) $ fjoin ! $ owned ! usize (Is usize) (uint-makes 𝓤 H A W w64) i _ (refl, gi) $ fjoin ! $ has ! (getD ys i blank) g $ fjoin ! $ survey-has ! a (t .2 .1 .0) $ fjoin ! $ nothing ! $ join ! $ frame ! $ done !) survey-val (λ r vs p. survey-tells r vs p) (λ (r : Survey). r ≡ looked dest vlan a (getD ys i blank) i) (λ r ws. id⊢ 𝓤 _) (and-then ! (load ! (from ! (stop !)) (look-cell ! 13 refl)) (and-then ! (load ! (from ! (stop !)) (look-cell ! 3 refl)) (and-then ! (load ! (from ! (stop !)) (look-cell ! 11 refl)) (and-then ! (load ! (from ! (stop !)) (look-cell ! 17 refl)) (and-then ! (load ! (from ! (stop !)) (look-cell ! 15 refl)) (no-more !)))))) (λ r g-r said.
+          calls-value {𝓤 = 𝓤} {H = H} {A = A} ! fm fn-look.ended (fn-look.clauses 𝓤 H A mem run) (known .look′) ((tt, tt, tt, (a, ((getD ys i blank), (i, (dest, (vlan, tt))))), (survey-val a ∷ [], (val (getD ys i blank) ∷ [], (vint w64 i ∷ [], (vint w64 dest ∷ [], (vint w16 vlan ∷ [], tt)))))), tt) (qed W [] ∵ nothing ! $ owned ! u16 (Is u16) (uint-makes 𝓤 H A W w16) vlan _ (refl, g-vlan) $ fjoin ! $ owned ! u64 (Is u64) (uint-makes 𝓤 H A W w64) dest _ (refl, g-dest) $ fjoin ! $ owned ! usize (Is usize) (uint-makes 𝓤 H A W w64) i _ (refl, gi) $ fjoin ! $ has ! (getD ys i blank) g $ fjoin ! $ survey-has ! a (t .2 .1 .0) $ fjoin ! $ nothing ! $ join ! $ frame ! $ done !) survey-val (λ r vs p. survey-tells r vs p) (λ (r : Survey). r ≡ looked dest vlan a (getD ys i blank) i) (λ r ws. id⊢ 𝓤 _) (and-then ! (load ! (from ! (stop !)) (look-cell ! 13 refl)) (and-then ! (load ! (from ! (stop !)) (look-cell ! 3 refl)) (and-then ! (load ! (from ! (stop !)) (look-cell ! 11 refl)) (and-then ! (load ! (from ! (stop !)) (look-cell ! 17 refl)) (and-then ! (load ! (from ! (stop !)) (look-cell ! 15 refl)) (no-more !)))))) (λ r g-r said.
           land ! (from ! (stop !)) (store-cell ! 12 refl (survey-typed 𝓤 H A W r g-r)) $
           assigns-last ! (bin ! (load ! (from ! (stop !)) (look-cell ! 10 refl)) (lit ! tt) (record { fits = next })) (from ! (stop !)) (store-cell ! 10 refl (tt, record { fits = next })) $
           forget ! 8 refl $ forget ! 6 refl $ forget ! 4 refl $ forget ! 2 refl $ rewrite ! 10 (λ (k : ℕ). ‵ (fat fullShare (tyInt w64) l₅ 0 (vint w64 k))) (one-more i) refl $ move ! (1 ∷ 0 ∷ []) $
@@ -179,7 +179,7 @@ module _ {M : Type 1} (𝓤 : URA M) (H : Heap 𝓤) (A : Atoms 𝓤) (W : Given
         alloc1 ! (λ l₀. alloc1 ! (λ l₁. alloc1 ! (λ l₂. alloc1 ! (λ l₃. alloc1 ! (λ l₄. alloc1 ! (λ l₅. alloc1 ! (λ l₆. alloc1 ! (λ l₇. alloc1 ! (λ l₈. alloc1 ! (λ l₉. alloc0 ! $ params1 ! $
         pass1 ! (init ! 16 refl (tt, (tt, (record { fits = g-ys .0 }, tt)))) $ pass1 ! (init ! 14 refl (tt, record { fits = g-dest })) $ pass1 ! (init ! 12 refl (tt, record { fits = g-vlan })) $ pass0 ! $
         move ! (21 ∷ 20 ∷ []) $ enters-shr ! (x .0) $
-        calls-value ! fm fn-unseen.ended (fn-unseen.clauses 𝓤 H A mem run) (known .unseen′) ((tt, tt, tt, tt, tt), tt) (qed W [] ∵ nothing ! $ nothing ! $ join ! $ frame ! $ done !) survey-val (λ r vs p. survey-tells r vs p) (λ (r : Survey). r ≡ unseen) (λ r ws. id⊢ 𝓤 _) (no-more !) (λ r g-r said.
+        calls-value {𝓤 = 𝓤} {H = H} {A = A} ! fm fn-unseen.ended (fn-unseen.clauses 𝓤 H A mem run) (known .unseen′) ((tt, tt, tt, tt, tt), tt) (qed W [] ∵ nothing ! $ nothing ! $ join ! $ frame ! $ done !) survey-val (λ r vs p. survey-tells r vs p) (λ (r : Survey). r ≡ unseen) (λ r ws. id⊢ 𝓤 _) (no-more !) (λ r g-r said.
         land ! (from ! (stop !)) (init ! 12 refl (survey-typed 𝓤 H A W r g-r)) $
         assigns ! (of-opd ! (lit ! tt)) (from ! (stop !)) (init ! 10 refl (tt, record { fits = lit< tt })) $
         runs-on l₀ l₁ l₂ l₃ l₄ l₅ l₆ l₇ l₈ l₉ (start r g-r said))))))))))))

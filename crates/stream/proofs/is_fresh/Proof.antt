@@ -1,3 +1,4 @@
+-- `stream::is_fresh` meets its contract. Assumes nothing.
 use mathlib.Core.Path.{_≡_}
 use mathlib.Core.Bool.{true}
 use lib.Dec.{eqb}
@@ -8,25 +9,18 @@ use Rattle.stream.proofs.Flags.{flags, last}
 use borrow.Author.Needs.{needs}
 use Rattle.stream.proofs.is_fresh.Statement.{statement}
 use Rattle.stream.proofs.is_fresh.Tie as tie
-use Rattle.stream.proofs.is_fresh.Reads as reads
-use Rattle.stream.proofs.is_fresh.Lts as lts
-use Rattle.stream.proofs.history.is_empty.Reads as is-empty-reads
 
--- src/lib.rt:127:9
 returns : tie.Need-returns
 unfolding isFresh
 returns c = search flags depth 8
 
--- src/lib.rt:130:9
 returns-2 : tie.Need-returns-2
 unfolding isFresh
 returns-2 c = search flags depth 8
 
--- src/lib.rt:132:5
 is-empty-requires : tie.Need-is-empty-requires
 is-empty-requires c κs = search needs
 
--- src/lib.rt:122:1
 returns-3 : tie.Need-returns-3
 unfolding isFresh
 returns-3 c =

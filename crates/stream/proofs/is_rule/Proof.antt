@@ -1,14 +1,11 @@
+-- `stream::is_rule` meets its contract. Assumes nothing.
 use Rattle.stream.proofs.Flags.{flags}
 use Rattle.stream.proofs.is_rule.Statement.{statement}
 use Rattle.stream.proofs.is_rule.Tie as tie
-use Rattle.stream.proofs.is_rule.Reads as reads
-use Rattle.stream.proofs.is_rule.Lts as lts
 
--- src/lib.rt:97:9
 returns : tie.Need-returns
 returns c = search flags
 
--- src/lib.rt:93:1
 returns-2 : tie.Need-returns-2
 returns-2 c = search flags
 

@@ -1,56 +1,43 @@
-use mathlib.Core.Path.{_≡_, _∙_, sym}
+-- `stream::lawful` meets its contract. Assumes nothing.
+use mathlib.Core.Path.{_∙_, sym}
 use Rattle.stream.specs.Record.{shaped, lawful}
 use Rattle.stream.proofs.Flags.{flags}
 use Rattle.stream.proofs.Law.{sizes, taking-any}
 use borrow.Author.Needs.{needs}
 use Rattle.stream.proofs.lawful.Statement.{statement}
 use Rattle.stream.proofs.lawful.Tie as tie
-use Rattle.stream.proofs.lawful.Reads as reads
-use Rattle.stream.proofs.lawful.Lts as lts
-use Rattle.stream.proofs.is_fresh.Reads as is-fresh-reads
-use Rattle.stream.proofs.is_marked.Reads as is-marked-reads
-use Rattle.stream.proofs.settled.Reads as settled-reads
 
--- src/lib.rt:153:9
 returns : tie.Need-returns
 unfolding lawful
 returns c = search flags depth 8
 
--- src/lib.rt:155:9
 settled-requires : tie.Need-settled-requires
 settled-requires c κs = search needs
 
--- src/lib.rt:156:9
 returns-2 : tie.Need-returns-2
 unfolding lawful
 returns-2 c = search flags depth 8
 
--- src/lib.rt:160:9
 returns-3 : tie.Need-returns-3
 unfolding lawful
 returns-3 c = search flags depth 8
 
--- src/lib.rt:163:9
 is-fresh-requires : tie.Need-is-fresh-requires
 is-fresh-requires c κs = search flags
 
--- src/lib.rt:163:9
 returns-4 : tie.Need-returns-4
 returns-4 c = c .is-fresh .ensures ∙ sym (taking-any (c .before .before .before .before .before .before .before .before .before .before .before .args .s) (search flags) (search flags) (search flags) (search flags))
 
--- src/lib.rt:166:9
 returns-5 : tie.Need-returns-5
 unfolding lawful
 returns-5 c = search flags depth 8
 
--- src/lib.rt:168:5
 is-marked-requires : tie.Need-is-marked-requires
 is-marked-requires c κs =
     let s = c .before .before .before .before .before .before .before .before .before .before .before .before .args .s in
     let f = sizes {s = s} (sym (search flags)) in
     (f .least, f .most)
 
--- src/lib.rt:149:1
 returns-6 : tie.Need-returns-6
 unfolding lawful shaped
 returns-6 c = search flags depth 8

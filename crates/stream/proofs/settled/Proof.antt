@@ -1,3 +1,4 @@
+-- `stream::settled` meets its contract. Assumes nothing.
 use Prim.Native.Nat.{_≤_}
 use Rattle.record.specs.Sizes.{timeMost}
 use Rattle.stream.specs.Record.{settled}
@@ -5,35 +6,26 @@ use Rattle.stream.proofs.Flags.{flags}
 use borrow.Author.Needs.{needs}
 use Rattle.stream.proofs.settled.Statement.{statement}
 use Rattle.stream.proofs.settled.Tie as tie
-use Rattle.stream.proofs.settled.Reads as reads
-use Rattle.stream.proofs.settled.Lts as lts
-use Rattle.stream.proofs.is_rule.Reads as is-rule-reads
 
--- src/lib.rt:106:9
 is-rule-requires : tie.Need-is-rule-requires
 is-rule-requires c κs = search needs
 
--- src/lib.rt:107:9
 returns : tie.Need-returns
 unfolding settled
 returns c = search flags depth 8
 
--- src/lib.rt:110:9
 returns-2 : tie.Need-returns-2
 unfolding settled
 returns-2 c = search flags depth 8
 
--- src/lib.rt:113:9
 returns-3 : tie.Need-returns-3
 unfolding settled
 returns-3 c = search flags depth 8
 
--- src/lib.rt:116:9
 returns-4 : tie.Need-returns-4
 unfolding settled
 returns-4 c = search flags depth 8
 
--- src/lib.rt:103:1
 returns-5 : tie.Need-returns-5
 unfolding settled
 returns-5 c =

@@ -1,3 +1,4 @@
+-- `stream::weigh` meets its contract. Assumes nothing.
 use mathlib.Core.Path.{sym}
 use Rattle.stream.specs.Steps.{weighed}
 use Rattle.stream.proofs.Flags.{flags}
@@ -5,38 +6,27 @@ use Rattle.stream.proofs.Law.{law, size}
 use borrow.Author.Needs.{needs}
 use Rattle.stream.proofs.weigh.Statement.{statement}
 use Rattle.stream.proofs.weigh.Tie as tie
-use Rattle.stream.proofs.weigh.Reads as reads
-use Rattle.stream.proofs.weigh.Lts as lts
-use Rattle.stream.proofs.by_match.Reads as by-match-reads
-use Rattle.stream.proofs.by_vector.Reads as by-vector-reads
-use Rattle.stream.proofs.lawful.Reads as lawful-reads
 
--- src/lib.rt:294:9
 lawful-requires : tie.Need-lawful-requires
 lawful-requires c κs = search needs
 
--- src/lib.rt:295:9
 returns : tie.Need-returns
 unfolding weighed
 returns c = search flags
 
--- src/lib.rt:298:9
 by-vector-requires : tie.Need-by-vector-requires
 by-vector-requires c κs =
     let s = c .before .before .before .before .args .s in
     let f = size {s = s} (law (sym (search flags))) in
     (f .least, (f .most, c .if2 .taken))
 
--- src/lib.rt:298:9
 returns-2 : tie.Need-returns-2
 unfolding weighed
 returns-2 c = rw (c .by-vector .ensures) (search flags)
 
--- src/lib.rt:300:5
 by-match-requires : tie.Need-by-match-requires
 by-match-requires c κs = sym (search flags)
 
--- src/lib.rt:291:1
 returns-3 : tie.Need-returns-3
 unfolding weighed
 returns-3 c = rw (c .by-match .ensures) (search flags)

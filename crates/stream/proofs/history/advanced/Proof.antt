@@ -1,23 +1,16 @@
+-- `stream::history::advanced` meets its contract. Assumes nothing.
 use mathlib.Core.Path.{_∙_, ap}
 use Rattle.stream.specs.History.{setBit, advance}
 use borrow.Author.Needs.{needs}
 use Rattle.stream.proofs.history.advanced.Statement.{statement}
 use Rattle.stream.proofs.history.advanced.Tie as tie
-use Rattle.stream.proofs.history.advanced.Reads as reads
-use Rattle.stream.proofs.history.advanced.Lts as lts
-use Rattle.stream.proofs.history.one_up.Reads as one-up-reads
-use Rattle.stream.proofs.history.places_up.Reads as places-up-reads
-use Rattle.stream.proofs.history.set_bit.Reads as set-bit-reads
 
--- src/history.rt:79:13
 one-up-requires : tie.Need-one-up-requires
 one-up-requires c κs = search needs
 
--- src/history.rt:81:22
 set-bit-requires : tie.Need-set-bit-requires
 set-bit-requires c κs = search needs
 
--- src/history.rt:80:9
 returns : tie.Need-returns
 unfolding advance
 returns c =
@@ -25,15 +18,12 @@ returns c =
     let d = c .before .before .if1 .taken in
     rw d (c .set-bit .ensures ∙ ap (setBit 0) (m .0), m .1)
 
--- src/history.rt:85:9
 places-up-requires : tie.Need-places-up-requires
 places-up-requires c κs = search needs
 
--- src/history.rt:87:18
 set-bit-requires-2 : tie.Need-set-bit-requires-2
 set-bit-requires-2 c κs = search needs
 
--- src/history.rt:74:1
 returns-2 : tie.Need-returns-2
 unfolding advance
 returns-2 c =

@@ -1,16 +1,13 @@
+-- `stream::history::has_bit` meets its contract. Assumes nothing.
 use mathlib.Core.Path.{refl}
 use Rattle.stream.specs.History.{bitOf, bit}
 use borrow.Author.Needs.{needs}
 use Rattle.stream.proofs.history.has_bit.Statement.{statement}
 use Rattle.stream.proofs.history.has_bit.Tie as tie
-use Rattle.stream.proofs.history.has_bit.Reads as reads
-use Rattle.stream.proofs.history.has_bit.Lts as lts
 
--- src/history.rt:22:6
 shr-result : tie.Need-shr-result
 shr-result c = search needs
 
--- src/history.rt:18:1
 returns : tie.Need-returns
 unfolding bit bitOf
 returns c = refl

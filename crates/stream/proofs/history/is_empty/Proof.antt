@@ -1,11 +1,9 @@
+-- `stream::history::is_empty` meets its contract. Assumes nothing.
 use mathlib.Core.Path.{refl}
 use Rattle.stream.specs.History.{isEmpty}
 use Rattle.stream.proofs.history.is_empty.Statement.{statement}
 use Rattle.stream.proofs.history.is_empty.Tie as tie
-use Rattle.stream.proofs.history.is_empty.Reads as reads
-use Rattle.stream.proofs.history.is_empty.Lts as lts
 
--- src/history.rt:12:1
 returns : tie.Need-returns
 unfolding isEmpty
 returns c = refl

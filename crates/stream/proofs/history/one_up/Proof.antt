@@ -1,3 +1,4 @@
+-- `stream::history::one_up` meets its contract. Assumes nothing.
 use mathlib.Core.Path.{_≡_, sym}
 use Prim.Native.Nat.{_-_, _*_, _^_, _%_}
 use native.Mathlib.Omega.{arith}
@@ -8,22 +9,16 @@ use Rattle.stream.proofs.Moves.{leaving-one}
 use borrow.Author.Needs.{needs}
 use Rattle.stream.proofs.history.one_up.Statement.{statement}
 use Rattle.stream.proofs.history.one_up.Tie as tie
-use Rattle.stream.proofs.history.one_up.Reads as reads
-use Rattle.stream.proofs.history.one_up.Lts as lts
 
--- src/history.rt:51:15
 sub-top : tie.Need-sub-top
 sub-top c = search needs
 
--- src/history.rt:53:28
 cast-t4 : tie.Need-cast-t4
 cast-t4 c = search needs
 
--- src/history.rt:53:23
 shl-t5 : tie.Need-shl-t5
 shl-t5 c = search needs
 
--- src/history.rt:53:18
 -- `1 << top` is 2 ^ (w - 1)
 shl : (c : tie.Start) → (1 * 2 ^ (c .args .w - 1)) % 2 ^ 64 ≡ 2 ^ (c .args .w - 1)
 shl c = one-shl (c .args .w - 1) (omega arith)
@@ -31,23 +26,18 @@ shl c = one-shl (c .args .w - 1) (omega arith)
 rem-t6 : tie.Need-rem-t6
 rem-t6 c = rw (shl c) (pow-pos (c .args .w - 1))
 
--- src/history.rt:53:18
 mul-t7 : tie.Need-mul-t7
 mul-t7 c = record { fits = rw (shl c) (doubled-fits (c .args .w) (c .args .h) (c .pre .1) (c .pre .0)) }
 
--- src/history.rt:54:25
 cast-t8 : tie.Need-cast-t8
 cast-t8 c = search needs
 
--- src/history.rt:54:20
 shr-t9 : tie.Need-shr-t9
 shr-t9 c = search needs
 
--- src/history.rt:54:15
 sub-t11 : tie.Need-sub-t11
 sub-t11 c = search needs
 
--- src/history.rt:47:1
 returns : tie.Need-returns
 unfolding pushes
 returns c =

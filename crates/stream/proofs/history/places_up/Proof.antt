@@ -1,3 +1,4 @@
+-- `stream::history::places_up` meets its contract. Assumes nothing.
 use mathlib.Core.Path.{_∙_, sym, ap}
 use Prim.Native.Nat.{ℕ, _-_}
 use native.Mathlib.Omega.{arith}
@@ -6,56 +7,42 @@ use Rattle.stream.proofs.Moves.{top-field, top-shift, set-le, pushes-at
 use borrow.Author.Needs.{needs}
 use Rattle.stream.proofs.history.places_up.Statement.{statement}
 use Rattle.stream.proofs.history.places_up.Tie as tie
-use Rattle.stream.proofs.history.places_up.Reads as reads
-use Rattle.stream.proofs.history.places_up.Lts as lts
 
--- src/history.rt:63:14
 sub-up : tie.Need-sub-up
 sub-up c = search needs
 
--- src/history.rt:64:18
 cast-a : tie.Need-cast-a
 cast-a c = search needs
 
--- src/history.rt:64:13
 shl-a : tie.Need-shl-a
 shl-a c = search needs
 
--- src/history.rt:65:38
 sub-ones : tie.Need-sub-ones
 sub-ones c = search needs
 
--- src/history.rt:65:38
 cast-ones : tie.Need-cast-ones
 cast-ones c = search needs
 
--- src/history.rt:65:32
 shr-ones : tie.Need-shr-ones
 shr-ones c = search needs
 
--- src/history.rt:66:17
 sub-zeros : tie.Need-sub-zeros
 sub-zeros c =
     let a = c .args in
     rw (top-field (a .h) (a .w) (a .d) (omega arith) (omega arith)) (set-le (a .w) (a .d) (a .h))
 
--- src/history.rt:68:19
 shl-t10 : tie.Need-shl-t10
 shl-t10 c = search needs
 
--- src/history.rt:68:30
 cast-t12 : tie.Need-cast-t12
 cast-t12 c = search needs
 
--- src/history.rt:68:18
 shr-t13 : tie.Need-shr-t13
 shr-t13 c = search needs
 
--- src/history.rt:69:15
 cast-t14 : tie.Need-cast-t14
 cast-t14 c = search needs
 
--- src/history.rt:59:1
 returns : tie.Need-returns
 returns c =
     let a = c .args in

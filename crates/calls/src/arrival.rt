@@ -1,0 +1,135 @@
+// An arrival: what it asks of the table, what it is to its record, and how it ends.
+use super::Answer;
+use super::Asked;
+use super::Judged;
+use super::Verdict;
+use frame::Read;
+use record::Stream;
+use stream::Weighed;
+ghost use mathlib.Core.Path.{_≡_};
+ghost use Prim.Native.Nat.{_-_};
+ghost use lib.ListN.{length};
+ghost use Rattle.refusal.specs.Checks.Said.{refused};
+ghost use Rattle.refusal.specs.Numbers.{UNKNOWN};
+ghost use Rattle.calls.specs.Said.{saidArrival};
+ghost use Rattle.calls.specs.Steps.{saidAsked, asked, refusalIn, hasRoom, judged, recordOf, finished, bytesOf};
+
+// Arrival: 1 and 2, then 3, 4 and 5 as the frame's reader gives them.
+pub fn ask(slots: usize, network: u8, frame: &[u8]) -> Asked
+    ensures { λ r. ⌜ saidAsked r ≡ asked slots network (now (frame .entry)) ⌝ }
+{
+    if slots > Stream::SLOTS_MOST {
+        return Asked::Refused(refusal::TABLE);
+    }
+    if network > 1 {
+        return Asked::Refused(refusal::NETWORK);
+    }
+    let got = frame::read_tag(frame);
+    let Read::Tagged(h, number) = got else {
+        return Asked::Refused(frame::refusal_of(got));
+    };
+    Asked::For(h, number)
+}
+
+// The answer where that refuses, for the else of a `let .. else`; 0 for a frame that is not refused.
+pub fn refused(q: Asked) -> Answer
+    ensures { λ r. ⌜ saidArrival r ≡ refused (refusalIn q) ⌝ }
+{
+    match q {
+        Asked::Refused(n) => Answer::Refused(n),
+        Asked::For(_, _) => Answer::Refused(0),
+    }
+}
+
+// Arrival: 6.
+pub fn unknown() -> Answer
+    ensures { λ r. ⌜ saidArrival r ≡ refused UNKNOWN ⌝ }
+{
+    Answer::Refused(refusal::UNKNOWN)
+}
+
+// Does the output hold the frame without a tag?
+pub fn fits(frame: &[u8], out: &[u8]) -> bool
+    ensures { λ r. ⌜ r ≡ hasRoom (now (frame .entry)) (now (out .entry)) ⌝ }
+{
+    bare_length(frame) <= out.len()
+}
+
+// The length of a frame without its tag; 0 for one that is too short to hold a tag.
+fn bare_length(frame: &[u8]) -> usize
+    ensures { λ r. ⌜ r ≡ length (now (frame .entry)) - 6 ⌝ }
+{
+    if frame.len() < 6 {
+        return 0;
+    }
+    frame.len() - 6
+}
+
+// Arrival: 7 and 8, then what it is to its record. Nothing is marked yet.
+pub fn judge(s: Stream, number: u16, room: bool) -> Judged
+    ensures { λ r. ⌜ r ≡ judged s number room ⌝ }
+{
+    let w = stream::weigh(s, number);
+    if let Weighed::Damaged = w {
+        return Judged::Refused(refusal::DAMAGED);
+    }
+    if !room {
+        return Judged::Refused(refusal::ROOM);
+    }
+    Judged::Weighed(w)
+}
+
+// The record after it. A refused arrival leaves it as it is.
+pub fn record_after(s: Stream, network: u8, j: Judged) -> Stream
+    ensures { λ r. ⌜ r ≡ recordOf s network j ⌝ }
+{
+    match j {
+        Judged::Refused(_) => s,
+        Judged::Weighed(w) => stream::next(s, network, w),
+    }
+}
+
+// The answer; and where the frame is handed up, the frame without its tag at the start of the output.
+pub fn finish(
+    j: Judged,
+    slot: usize,
+    at: usize,
+    number: u16,
+    frame: &[u8],
+    out: &mut [u8],
+) -> Answer
+    ensures { λ r. ⌜ saidArrival r ≡ finished j slot number (now (frame .entry)) ⌝ }
+    ensures { λ _. ⌜ now (out .exit) ≡ bytesOf j at (now (frame .entry)) (now (out .entry)) ⌝ }
+{
+    match j {
+        Judged::Refused(n) => Answer::Refused(n),
+        Judged::Weighed(w) => tell(w, slot, at, number, frame, out),
+    }
+}
+
+fn tell(w: Weighed, slot: usize, at: usize, number: u16, frame: &[u8], out: &mut [u8]) -> Answer
+    ensures { λ r. ⌜ saidArrival r ≡ finished (Judged.Weighed w) slot number (now (frame .entry)) ⌝ }
+    ensures { λ _. ⌜ now (out .exit) ≡ bytesOf (Judged.Weighed w) at (now (frame .entry)) (now (out .entry)) ⌝ }
+{
+    match w {
+        Weighed::Damaged => Answer::Refused(refusal::DAMAGED),
+        Weighed::HandedUp(_) => {
+            frame::write_without(frame, at, out);
+            Answer::Arrival {
+                slot,
+                number,
+                verdict: Verdict::HandedUp(bare_length(frame)),
+            }
+        }
+        Weighed::Duplicate => Answer::Arrival {
+            slot,
+            number,
+            verdict: Verdict::Duplicate,
+        },
+        Weighed::Rogue => Answer::Arrival {
+            slot,
+            number,
+            verdict: Verdict::Rogue,
+        },
+    }
+}

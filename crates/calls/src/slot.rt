@@ -1,0 +1,116 @@
+// Open, close and reset: what they answer, and what they store in which slot.
+use super::Change;
+use super::Done;
+use super::Found;
+use super::Opened;
+use super::Placing;
+use super::Survey;
+use record::Stream;
+ghost use mathlib.Core.Path.{_≡_};
+ghost use mathlib.Core.Bool.{_&&_};
+ghost use lib.Dec.{ltb};
+ghost use Rattle.record.specs.Words.{yes};
+ghost use Rattle.stream.specs.Record.{opened};
+ghost use Rattle.calls.specs.Steps.{notPlaced, placingOf, unchanged, closeChange, resetChange};
+
+// Open: 1, 9, 10, 11 from a survey of the table, else a fresh record for the lowest free slot.
+pub fn place(
+    slots: usize,
+    v: Survey,
+    dest: u64,
+    vlan: u16,
+    rule: u8,
+    window: u16,
+    time: u16,
+) -> Placing
+    ensures { λ r. ⌜ r ≡ placingOf slots v (opened dest vlan rule window time) ⌝ }
+{
+    let s = stream::opened(dest, vlan, rule, window, time);
+    if slots > Stream::SLOTS_MOST {
+        return not_placed(slots, s, refusal::TABLE);
+    }
+    if !stream::settled(s) {
+        return not_placed(slots, s, refusal::SETTING);
+    }
+    if v.taken {
+        return not_placed(slots, s, refusal::TAKEN);
+    }
+    let free = v.free;
+    match free {
+        Found::At(i) => Placing {
+            answer: Opened::At(i),
+            slot: i,
+            stream: s,
+        },
+        Found::Nothing => not_placed(slots, s, refusal::FULL),
+    }
+}
+
+fn not_placed(slots: usize, s: Stream, n: u8) -> Placing
+    ensures { λ r. ⌜ r ≡ notPlaced slots s n ⌝ }
+{
+    Placing {
+        answer: Opened::Refused(n),
+        slot: slots,
+        stream: s,
+    }
+}
+
+// Close: 1, 12, else the slot becomes free. s is the record in the slot, or any free one beyond the table.
+pub fn close(slots: usize, slot: usize, s: Stream) -> Change
+    ensures { λ r. ⌜ r ≡ closeChange slots slot s ⌝ }
+{
+    if slots > Stream::SLOTS_MOST {
+        return unchanged(slots, s, refusal::TABLE);
+    }
+    if !in_use(slots, slot, s) {
+        return unchanged(slots, s, refusal::SLOT);
+    }
+    let stream = stream::closed(s);
+    Change {
+        answer: Done::Ok,
+        slot,
+        stream,
+    }
+}
+
+// Reset: 1, 12, 7, else fresh state, resets rises.
+pub fn reset(slots: usize, slot: usize, s: Stream) -> Change
+    ensures { λ r. ⌜ r ≡ resetChange slots slot s ⌝ }
+{
+    if slots > Stream::SLOTS_MOST {
+        return unchanged(slots, s, refusal::TABLE);
+    }
+    if !in_use(slots, slot, s) {
+        return unchanged(slots, s, refusal::SLOT);
+    }
+    if !stream::settled(s) {
+        return unchanged(slots, s, refusal::DAMAGED);
+    }
+    let stream = stream::reset(s);
+    Change {
+        answer: Done::Ok,
+        slot,
+        stream,
+    }
+}
+
+// Is the slot within the table, and its record in use?
+fn in_use(slots: usize, slot: usize, s: Stream) -> bool
+    ensures { λ r. ⌜ r ≡ (ltb slot slots && yes (s .used)) ⌝ }
+{
+    if s.used == 0 {
+        return false;
+    }
+    slot < slots
+}
+
+fn unchanged(slots: usize, s: Stream, n: u8) -> Change
+    ensures { λ r. ⌜ r ≡ unchanged slots s n ⌝ }
+{
+    Change {
+        answer: Done::Refused(n),
+        slot: slots,
+        stream: s,
+    }
+}

@@ -1,0 +1,148 @@
+-- A call moves each record of the table as its slot sees it, and leaves every other as it is. Assumes nothing.
+use Prim.Native.Nat.{ℕ, _-_, _<_}
+use mathlib.Core.Path.{_≡_, refl, ap, sym, _∙_}
+use mathlib.Core.Bool.{Bool, true, false, not, false≢true}
+use mathlib.Core.List.{List, [], _∷_}
+use lib.Dec.{eqb, leb, ltb}
+use lib.ListN.{length, set}
+use lib.Seq.{getD-set-same, getD-set-other}
+use borrow.Author.Tests.{eqb-true, eqb-false, not-false}
+use Rattle.refusal.specs.Checks.{Said}
+use Rattle.refusal.specs.Checks.Said.{refused, answers}
+use Rattle.refusal.specs.Numbers.{TABLE, NETWORK, UNKNOWN, DAMAGED, ROOM, SETTING, TAKEN, FULL, SLOT}
+use Rattle.record.specs.declared.Stream.{Stream}
+use Rattle.record.specs.Words.{if_then_else_, yes}
+use Rattle.record.specs.Sizes.{slotsMost}
+use Rattle.frame.specs.Frame.{Tag, destOf, readOf, untagged}
+use Rattle.stream.specs.Record.{settled, lawful, opened}
+use Rattle.stream.specs.Decisions.{Verdict, up, duplicate, rogue, verdict, decided}
+use Rattle.stream.proofs.Logic.{not-iff}
+use Rattle.calls.specs.Table.{Table, at, search, someSlot, hasKey, isFree}
+use Rattle.calls.specs.Calls.{Call, arriving, opening, closing, resetting, ticking, Act, refuse, arrive, opens, closes, resets, ticks, arrivalAt, arrival, inUse, open-call, checked, act, after, answer, output, outOf, Result, verdictWith}
+use Rattle.calls.proofs.Kept.{length-kept}
+use Rattle.calls.proofs.Lowest.{lowest-found}
+use Rattle.calls.proofs.Sound.{at-ticked}
+use Rattle.demands.specs.Receiver.{theReceiver, run}
+use Rattle.demands.specs.Seen.{Seen, arrived, tick, ended, nothing, told, wasReset, answered, seenOf, seen, log}
+use Rattle.demands.proofs.Moves.{Moves, Trace}
+
+pub at-set : (t : Table) (i : ℕ) (u : Stream) → i < length t → at (set t i u) i ≡ u
+at-set t i u b = getD-set-same t i u _ b
+
+pub at-other : (t : Table) (i j : ℕ) (u : Stream) → eqb j i ≡ false → at (set t j u) i ≡ at t i
+at-other t i j u e = getD-set-other t j i u _ (λ q. eqb-false j i e (sym q))
+
+-- What the call c leaves of a table t where it comes to a.
+abbrev pub resultOf : Table → Call → Act → Result
+resultOf t c a = record { said = answer t a; table = after t a; output = output t (outOf c) a }
+
+pub told-with : (l : ℕ) (v : Verdict) → told (verdictWith l v) ≡ v
+told-with l up = refl
+told-with l duplicate = refl
+told-with l rogue = refl
+
+module _ (i : ℕ) (t : Table) (within : i < length t) where
+  pub record Sound (c : Call) (a : Act) : Type 0 where
+    pub moves : Moves (at t i) (seen i t c (resultOf t c a)) (at (after t a) i)
+
+  branch : {c : Call} (b : Bool) {x y : Act} → (b ≡ true → Sound c x) → (b ≡ false → Sound c y) → Sound c (if b then x else y)
+  branch true f g = f refl
+  branch false f g = g refl
+
+  -- one rule for each act
+  refuses : {c : Call} (n : ℕ) → Sound c (refuse n)
+  unfolding answer after seenOf
+  refuses n = record { moves = λ u. refl }
+
+  arrives : (network : ℕ) (f out : List ℕ) (j n w : ℕ) (bare : List ℕ) → Sound (arriving network f out) (arrive j n w bare)
+  unfolding answer after seenOf answered
+  arrives network f out j n w bare = record { moves = go (eqb j i) refl }
+    where
+      go : (v : Bool) → eqb j i ≡ v
+          → Moves (at t i) (if eqb j i then arrived n (told (verdictWith (length bare) (verdict (at t j) n))) else nothing)
+          (at (set t j (decided (at t j) n w)) i)
+      go true e =
+          let q : j ≡ i = eqb-true j i e in
+          rw e (told-with (length bare) (verdict (at t j) n) ∙ ap (λ (k : ℕ). verdict (at t k) n) q, (w, rw q (at-set t i _ within)))
+      go false e = rw e (λ u. at-other t i j _ e)
+
+  -- An open takes a slot that is free.
+  fills : (dest : List ℕ) (vlan rule window time j : ℕ) (s : Stream) → isFree (at t j) ≡ true
+      → Sound (opening dest vlan rule window time) (opens j s)
+  unfolding answer after seenOf answered isFree
+  fills dest vlan rule window time j s f = record { moves = λ u. at-other t i j s (go (eqb j i) refl u) }
+    where
+      go : (v : Bool) → eqb j i ≡ v → yes (at t i .used) ≡ true → eqb j i ≡ false
+      go true e u = absurd (false≢true (sym (rw (eqb-true j i e) at (not-iff (yes (at t j .used)) .0 f)) ∙ u))
+      go false e u = e
+
+  shuts : (j : ℕ) → Sound (closing j) (closes j)
+  unfolding answer after seenOf answered
+  shuts j = record { moves = go (eqb j i) refl }
+    where
+      go : (v : Bool) → eqb j i ≡ v → Moves (at t i) (if eqb j i then ended else nothing) (at (after t (closes j)) i)
+      go true e = rw e tt
+      go false e = rw e (λ u. at-other t i j _ e)
+
+  mends : (j : ℕ) → Sound (resetting j) (resets j)
+  unfolding answer after seenOf answered
+  mends j = record { moves = go (eqb j i) refl }
+    where
+      go : (v : Bool) → eqb j i ≡ v → Moves (at t i) (if eqb j i then ended else nothing) (at (after t (resets j)) i)
+      go true e = rw e tt
+      go false e = rw e (λ u. at-other t i j _ e)
+
+  ages : Sound ticking ticks
+  unfolding answer after seenOf answered
+  ages = record { moves = (refl, at-ticked t i) }
+
+  -- the checks, in their order
+  arrival-sound : (network : ℕ) (f out : List ℕ) (r : Said Tag) → Sound (arriving network f out) (arrival t network f out r)
+  unfolding arrival arrivalAt
+  arrival-sound network f out (refused n) = refuses n
+  arrival-sound network f out (answers g) =
+      let j : ℕ = search (hasKey (g .header .dest) (g .header .vlan)) t in
+      branch (leb (length t) j) (λ e. refuses UNKNOWN) (λ e.
+      branch (not (lawful (at t j))) (λ e. refuses DAMAGED) (λ e.
+      branch (ltb (length out) (length f - 6)) (λ e. refuses ROOM) (λ e.
+      arrives network f out j (g .number) network (untagged f))))
+
+  open-sound : (dest : List ℕ) (vlan rule window time : ℕ) (s : Stream) → Sound (opening dest vlan rule window time) (open-call t s)
+  unfolding open-call
+  open-sound dest vlan rule window time s =
+      branch (not (settled s)) (λ e. refuses SETTING) (λ e.
+      branch (someSlot (hasKey (s .dest) (s .vlan)) t) (λ e. refuses TAKEN) (λ e.
+      branch (not (someSlot isFree t)) (λ e. refuses FULL) (λ e.
+      fills dest vlan rule window time (search isFree t) s (lowest-found isFree t (not-false (someSlot isFree t) e) .1))))
+
+  checked-sound : (c : Call) → Sound c (checked t c)
+  unfolding checked
+  checked-sound (arriving network f out) =
+      branch (ltb 1 network) (λ e. refuses NETWORK) (λ e. arrival-sound network f out (readOf f))
+  checked-sound (opening dest vlan rule window time) =
+      open-sound dest vlan rule window time (opened (destOf dest) vlan rule window time)
+  checked-sound (closing j) = branch (inUse t j) (λ e. shuts j) (λ e. refuses SLOT)
+  checked-sound (resetting j) =
+      branch (not (inUse t j)) (λ e. refuses SLOT) (λ e.
+      branch (not (settled (at t j))) (λ e. refuses DAMAGED) (λ e. mends j))
+  checked-sound ticking = ages
+
+  pub act-sound : (c : Call) → Sound c (act t c)
+  unfolding act
+  act-sound c = branch (ltb slotsMost (length t)) (λ e. refuses TABLE) (λ e. checked-sound c)
+
+-- THE LIFT: what slot i sees of a run traces its record.
+pub traced : (t : Table) (i : ℕ) (cs : List Call) → i < length t
+    → Trace (at t i) (log theReceiver i t cs) (at (run theReceiver t cs) i)
+unfolding log run theReceiver
+traced t i [] b = refl
+traced t i (c ∷ cs) b = (
+  at (after t (act t c)) i,
+  act-sound i t b c .moves,
+  traced (after t (act t c)) i cs (rw (length-kept t c) b),
+)
+
+pub run-length : (t : Table) (cs : List Call) → length (run theReceiver t cs) ≡ length t
+unfolding run theReceiver
+run-length t [] = refl
+run-length t (c ∷ cs) = run-length (after t (act t c)) cs ∙ length-kept t c

@@ -1,0 +1,36 @@
+-- The theorems, one for each line of `specs/Theorems`. Assumes nothing.
+use Rattle.demands.specs.Receiver.{Receiver, MeetsContract}
+use Rattle.demands.specs.Theorems.{Demands, Theorems}
+use Rattle.demands.proofs.Alike.{the-receiver-meets, runs-coincide}
+use Rattle.demands.proofs.One.{demand-1, demand-1-tags}
+use Rattle.demands.proofs.Told.{arrivals-recovered}
+use Rattle.demands.proofs.Three.{demand-3}
+use Rattle.demands.proofs.After.{never-twice, restart-gets-through, counts-once, resets-seen}
+use Rattle.demands.proofs.Runs.{wrap-meets, bound-sharp, premises-needed}
+use Rattle.demands.proofs.Wrong.{right-otherwise, ruled-out}
+
+pub demands : {receive : Receiver} → MeetsContract receive → Demands receive
+demands m = record {
+  demand-1 = demand-1 m;
+  demand-2 = m;
+  demand-3 = demand-3 m;
+  arrivals-recovered = arrivals-recovered m;
+  never-twice = never-twice m;
+  restart-gets-through = restart-gets-through m;
+  counts-once = counts-once m;
+  resets-seen = resets-seen m;
+}
+
+pub theorems : Theorems
+theorems = record {
+  demands = λ receive m. demands m;
+  met = the-receiver-meets;
+  runs-coincide = runs-coincide;
+  tags-1 = λ tagger m. demand-1-tags m;
+  tags-2 = λ tagger m. m;
+  ruled-out = ruled-out;
+  right-otherwise = right-otherwise;
+  wrap-meets = wrap-meets;
+  bound-sharp = bound-sharp;
+  premises-needed = premises-needed;
+}

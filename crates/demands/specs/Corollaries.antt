@@ -1,0 +1,65 @@
+-- What follows from demand 3 for a program that acts on what is handed up. Assumes nothing.
+use Prim.Native.Nat.{ℕ, zero, suc}
+use mathlib.Core.Path.{_≡_}
+use mathlib.Core.Bool.{Bool, true, _&&_, not}
+use mathlib.Core.List.{List, [], _∷_}
+use lib.IntN.{ℤ, pos, _+ℤ_}
+use Rattle.refusal.specs.Checks.{Said}
+use Rattle.refusal.specs.Checks.Said.{answers}
+use Rattle.record.specs.Words.{if_then_else_}
+use Rattle.stream.specs.Decisions.{Verdict, up, isUp}
+use Rattle.calls.specs.Table.{Table}
+use Rattle.calls.specs.Calls.{Call, arrived}
+use Rattle.calls.specs.Calls as calls
+use Rattle.demands.specs.Receiver.{Receiver, run}
+use Rattle.demands.specs.Seen.{told, log, verdicts}
+use Rattle.demands.specs.Unlimited.{elem, highest}
+use Rattle.demands.specs.Demand3.{Silent, Premises}
+
+-- The indices of the arrivals that were handed up.
+unfoldable pub handedOf : List Verdict → (indices : List ℕ) → List ℕ
+handedOf [] xs = []
+handedOf (v ∷ vs) [] = []
+handedOf (v ∷ vs) (x ∷ xs) = if isUp v then x ∷ handedOf vs xs else handedOf vs xs
+
+abbrev pub handed : Receiver → Table → (slot : ℕ) → (gap later : List Call) → (indices : List ℕ) → List ℕ
+handed receive t i gap later indices = handedOf (verdicts (log receive i (run receive t gap) later)) indices
+
+-- No index stands twice in a list.
+unfoldable pub distinct : List ℕ → Bool
+distinct [] = true
+distinct (x ∷ xs) = not (elem x xs) && distinct xs
+
+-- No index is handed up twice.
+abbrev pub NeverTwice : Receiver → Type 0
+NeverTwice receive =
+    (t : Table) (i : ℕ) (gap later : List Call) (indices : List ℕ)
+    → Premises receive t i gap later indices
+    → distinct (handed receive t i gap later indices) ≡ true
+
+-- After a sender restart and R silent ticks the first new frame is handed up: R is the stream's reset time, the frame's
+-- number may be any, and the stream may be of either rule.
+abbrev pub RestartGetsThrough : Receiver → Type 0
+RestartGetsThrough receive =
+    (t : Table) (i : ℕ) (gap : List Call) (c : Call) (number : ℕ) (v : calls.Verdict)
+    → Silent receive t i gap
+    → receive (run receive t gap) c .said ≡ answers (arrived i number v)
+    → told v ≡ up
+
+-- Increments: what a program adds up over the frames that it is handed, by any function from indices to integers, ..
+unfoldable pub sumOf : (ℕ → ℤ) → List ℕ → ℤ
+sumOf f [] = pos 0
+sumOf f (x ∷ xs) = f x +ℤ sumOf f xs
+
+-- .. and the sum over the indices below n that stand in a list, each of them once.
+unfoldable pub sumOnce : (ℕ → ℤ) → (n : ℕ) → List ℕ → ℤ
+sumOnce f zero xs = pos 0
+sumOnce f (suc n) xs = (if elem n xs then f n else pos 0) +ℤ sumOnce f n xs
+
+-- The sum counts each index that was handed up once, and no other.
+abbrev pub CountsOnce : Receiver → Type 0
+CountsOnce receive =
+    (t : Table) (i : ℕ) (gap later : List Call) (indices : List ℕ) (f : ℕ → ℤ)
+    → Premises receive t i gap later indices
+    → sumOf f (handed receive t i gap later indices)
+    ≡ sumOnce f (suc (highest (handed receive t i gap later indices))) (handed receive t i gap later indices)

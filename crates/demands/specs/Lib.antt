@@ -1,0 +1,10 @@
+pub mod Receiver
+pub mod Demand1
+pub mod Demand2
+pub mod Wrong
+pub mod Seen
+pub mod Unlimited
+pub mod Demand3
+pub mod Corollaries
+pub mod Examples
+pub mod Theorems

@@ -1,0 +1,38 @@
+-- What this crate proves, as one list: the three demands of every receiver that meets document 01's contract, what follows
+-- from them, and what shows that they are not empty. `proofs/Theorems` has the proof of each line. Assumes nothing.
+use Rattle.demands.specs.Receiver.{Receiver, MeetsContract, theReceiver, RunsCoincide, Tagger, MeetsTags}
+use Rattle.demands.specs.Demand1.{Demand1, Demand1Tags}
+use Rattle.demands.specs.Demand2.{Demand2, Demand2Tags, ArrivalsRecovered}
+use Rattle.demands.specs.Seen.{ResetsSeen}
+use Rattle.demands.specs.Demand3.{Demand3}
+use Rattle.demands.specs.Corollaries.{NeverTwice, RestartGetsThrough, CountsOnce}
+use Rattle.demands.specs.Wrong.{RightOtherwise, RuledOut}
+use Rattle.demands.specs.Examples.{WrapMeets, BoundSharp, PremisesNeeded}
+
+-- Of a receiver.
+pub record Demands (receive : Receiver) : Type 0 where
+  pub demand-1 : Demand1 receive
+  pub demand-2 : Demand2 receive
+  pub demand-3 : Demand3 receive
+  pub arrivals-recovered : ArrivalsRecovered receive
+  pub never-twice : NeverTwice receive
+  pub restart-gets-through : RestartGetsThrough receive
+  pub counts-once : CountsOnce receive
+  pub resets-seen : ResetsSeen receive
+
+pub record Theorems : Type 0 where
+  -- Every receiver that meets the contract fulfils the demands,
+  pub demands : (receive : Receiver) → MeetsContract receive → Demands receive
+  -- there is one that meets it, and the results that the public calls ensure are its results;
+  pub met : MeetsContract theReceiver
+  pub runs-coincide : RunsCoincide
+  -- the same of the two calls that have no table.
+  pub tags-1 : (tagger : Tagger) → MeetsTags tagger → Demand1Tags tagger
+  pub tags-2 : (tagger : Tagger) → MeetsTags tagger → Demand2Tags tagger
+  -- The wrong receivers of document 01 fail, and are wrong in nothing else.
+  pub ruled-out : RuledOut
+  pub right-otherwise : RightOtherwise
+  -- Demand 3's premises can be met, by a run over the wrap; its bound is sharp; and each of its premises is needed.
+  pub wrap-meets : WrapMeets
+  pub bound-sharp : BoundSharp
+  pub premises-needed : PremisesNeeded

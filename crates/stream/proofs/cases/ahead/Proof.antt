@@ -1,0 +1,25 @@
+-- `stream::cases::ahead` meets its contract. Assumes nothing.
+use mathlib.Core.Path.{ap₂}
+use mathlib.Core.Bool.{not}
+use Prim.Native.Nat.{ℕ}
+use lib.Dec.{eqb}
+use Rattle.stream.specs.Decisions.{stateAfter, losses, outOfOrder}
+use Rattle.stream.specs.Steps.{HandedUp, weighedAs}
+use borrow.Author.Needs.{needs}
+use Rattle.stream.proofs.cases.ahead.Statement.{statement}
+use Rattle.stream.proofs.cases.ahead.Tie as tie
+
+advanced-requires : tie.Need-advanced-requires
+advanced-requires c κs = search needs
+
+returns : tie.Need-returns
+unfolding weighedAs stateAfter losses outOfOrder
+returns c =
+    let a = c .before .args in
+    ap₂
+    (λ (history lost : ℕ). HandedUp (record { history = history; lost = lost; anchor = a .number; disorder = not (eqb (a .k) 1) }))
+    (c .advanced .ensures .0)
+    (c .advanced .ensures .1)
+
+pub ahead-spec : {M : Type 1} → statement M
+ahead-spec = tie.close (tie.spec advanced-requires returns)

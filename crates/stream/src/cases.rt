@@ -1,0 +1,99 @@
+// What an arrival is to a lawful record: the conditions of the decision (document 01, "Decisions").
+use super::Marks;
+use super::Weighed;
+use super::history;
+use super::number::difference;
+use super::number::size;
+use record::Stream;
+ghost use mathlib.Core.Path.{_≡_};
+ghost use mathlib.Core.Bool.{false};
+ghost use Prim.Native.Nat.{ℕ, _<_, _≤_};
+ghost use lib.Dec.{eqb};
+ghost use Rattle.record.specs.Words.{if_then_else_};
+ghost use Rattle.record.specs.Sizes.{windowLeast, windowMost, vectorRule};
+ghost use Rattle.stream.specs.History.{bit};
+ghost use Rattle.stream.specs.Decisions.{again, late, next, caseOf};
+ghost use Rattle.stream.specs.Steps.{weighedAs};
+
+// Vector, k behind the anchor. The anchor stays, so that the number itself is not looked at.
+fn behind(s: Stream, k: u16) -> Weighed
+    requires { ⌜ k < windowMost ⌝ }
+    ensures { λ r. ⌜ ((number : ℕ) → r ≡ weighedAs s number (if bit k (s .state .history) then again else late k)) ⌝ }
+{
+    let h = s.state.history;
+    if history::has_bit(h, k) {
+        return Weighed::Duplicate;
+    }
+    Weighed::HandedUp(Marks {
+        history: history::set_bit(h, k),
+        lost: 0,
+        anchor: s.state.anchor,
+        disorder: true,
+    })
+}
+
+// Vector, k ahead of the anchor.
+fn ahead(s: Stream, number: u16, k: u16) -> Weighed
+    requires { ⌜ (1 ≤ k) × ((k < s .window) × (s .window ≤ windowMost)) ⌝ }
+    ensures { λ r. ⌜ r ≡ weighedAs s number (next k) ⌝ }
+{
+    let m = history::advanced(s.state.history, s.window, k);
+    Weighed::HandedUp(Marks {
+        history: m.history,
+        lost: m.lost,
+        anchor: number,
+        disorder: k != 1,
+    })
+}
+
+pub fn by_vector(s: Stream, number: u16) -> Weighed
+    requires { ⌜ (windowLeast ≤ s .window) × ((s .window ≤ windowMost) × (s .rule ≡ vectorRule)) ⌝ }
+    ensures { λ r. ⌜ r ≡ weighedAs s number (caseOf s number) ⌝ }
+{
+    if s.state.any != 0 {
+        return Weighed::HandedUp(Marks {
+            history: history::SINGLE,
+            lost: 0,
+            anchor: number,
+            disorder: false,
+        });
+    }
+    let d = difference(number, s.state.anchor);
+    let w = s.window as i32;
+    if d >= w {
+        return Weighed::Rogue;
+    }
+    if d <= 0 - w {
+        return Weighed::Rogue;
+    }
+    let k = size(d);
+    if d <= 0 {
+        return behind(s, k);
+    }
+    ahead(s, number, k)
+}
+
+// Match: the history stays zero, and there is no rogue.
+pub fn by_match(s: Stream, number: u16) -> Weighed
+    requires { ⌜ eqb (s .rule) vectorRule ≡ false ⌝ }
+    ensures { λ r. ⌜ r ≡ weighedAs s number (caseOf s number) ⌝ }
+{
+    if s.state.any != 0 {
+        return Weighed::HandedUp(Marks {
+            history: history::EMPTY,
+            lost: 0,
+            anchor: number,
+            disorder: false,
+        });
+    }
+    let d = difference(number, s.state.anchor);
+    if d == 0 {
+        return Weighed::Duplicate;
+    }
+    Weighed::HandedUp(Marks {
+        history: s.state.history,
+        lost: 0,
+        anchor: number,
+        disorder: d != 1,
+    })
+}

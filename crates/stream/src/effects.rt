@@ -1,0 +1,63 @@
+// The record after a verdict: the effects of the decision (document 01, "Decisions").
+use super::Marks;
+use super::Weighed;
+use record::State;
+use record::Stream;
+ghost use mathlib.Core.Path.{_≡_};
+ghost use Rattle.stream.specs.Decisions.{counted};
+ghost use Rattle.stream.specs.Steps.{recordAfter};
+
+// A counter, risen by 1 where the test holds.
+fn counted(test: bool, count: u64) -> u64
+    ensures { λ r. ⌜ r ≡ counted test count ⌝ }
+{
+    if test {
+        return std::num::wrapping_add_u64(count, 1);
+    }
+    count
+}
+
+pub fn handed_up(s: Stream, network: u8, m: Marks) -> Stream
+    ensures { λ r. ⌜ r ≡ recordAfter s network (Weighed.HandedUp m) ⌝ }
+{
+    let mut c = s.counts;
+    c.arrivals0 = counted(network == 0, s.counts.arrivals0);
+    c.arrivals1 = counted(network != 0, s.counts.arrivals1);
+    c.passed = std::num::wrapping_add_u64(s.counts.passed, 1);
+    c.disorder = counted(m.disorder, s.counts.disorder);
+    c.lost = std::num::wrapping_add_u64(s.counts.lost, m.lost);
+    let state = State {
+        history: m.history,
+        anchor: m.anchor,
+        remaining: s.time,
+        any: 0,
+    };
+    let mut t = s;
+    t.state = state;
+    t.counts = c;
+    t
+}
+
+pub fn duplicate(s: Stream, network: u8) -> Stream
+    ensures { λ r. ⌜ r ≡ recordAfter s network Weighed.Duplicate ⌝ }
+{
+    let mut c = s.counts;
+    c.arrivals0 = counted(network == 0, s.counts.arrivals0);
+    c.arrivals1 = counted(network != 0, s.counts.arrivals1);
+    c.discarded = std::num::wrapping_add_u64(s.counts.discarded, 1);
+    let mut kept = s;
+    kept.counts = c;
+    kept
+}
+
+pub fn rogue(s: Stream, network: u8) -> Stream
+    ensures { λ r. ⌜ r ≡ recordAfter s network Weighed.Rogue ⌝ }
+{
+    let mut c = s.counts;
+    c.arrivals0 = counted(network == 0, s.counts.arrivals0);
+    c.arrivals1 = counted(network != 0, s.counts.arrivals1);
+    c.rogue = std::num::wrapping_add_u64(s.counts.rogue, 1);
+    let mut same = s;
+    same.counts = c;
+    same
+}

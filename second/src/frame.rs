@@ -1,0 +1,155 @@
+//! Reading a frame's header, and putting the redundancy tag in and taking it
+//! out. Document 01: "The frame" and the last two calls of "Calls and the order
+//! of checks".
+
+use crate::{Refusal, Stream};
+
+/// Bytes of the redundancy tag.
+pub const TAG_LENGTH: usize = 6;
+/// Marks the redundancy tag.
+pub const TAG_MARK: [u8; 2] = [0xF1, 0xC1];
+/// Marks a VLAN tag.
+pub const VLAN_MARK: [u8; 2] = [0x81, 0x00];
+
+/// Where the two addresses end.
+const AFTER_ADDRESSES: usize = 12;
+/// Where the VLAN tag ends, if there is one.
+const AFTER_VLAN: usize = 16;
+
+/// What stands before the type field.
+#[derive(Clone, Copy)]
+struct Header {
+    destination: [u8; 6],
+    vlan: u16,
+    /// Where the type field is. At least two bytes stand there.
+    type_place: usize,
+}
+
+/// A frame that carries a redundancy tag.
+#[derive(Clone, Copy)]
+pub(crate) struct Tagged {
+    pub destination: [u8; 6],
+    pub vlan: u16,
+    pub number: u16,
+    tag_place: usize,
+}
+
+/// What taking a tag out answers.
+#[derive(Clone, Copy, Debug, PartialEq, Eq)]
+pub struct Taken {
+    /// The number in the tag.
+    pub number: u16,
+    /// Bytes written to the output.
+    pub length: usize,
+}
+
+/// The 14 and 18 byte rules, and what can be read once they hold.
+fn header(frame: &[u8]) -> Result<Header, Refusal> {
+    if frame.len() < AFTER_ADDRESSES + 2 {
+        return Err(Refusal::FrameShort);
+    }
+    let mut destination = [0; 6];
+    destination.copy_from_slice(&frame[..6]);
+    if frame[AFTER_ADDRESSES..AFTER_ADDRESSES + 2] != VLAN_MARK {
+        return Ok(Header {
+            destination,
+            vlan: 0,
+            type_place: AFTER_ADDRESSES,
+        });
+    }
+    if frame.len() < AFTER_VLAN + 2 {
+        return Err(Refusal::FrameShort);
+    }
+    // The four high bits are no part of the id.
+    let vlan = u16::from_be_bytes([frame[14], frame[15]]) & 0x0FFF;
+    Ok(Header {
+        destination,
+        vlan,
+        type_place: AFTER_VLAN,
+    })
+}
+
+/// Does F1C1 stand at the type field?
+fn carries_tag(frame: &[u8], header: Header) -> bool {
+    frame[header.type_place..header.type_place + 2] == TAG_MARK
+}
+
+/// Reads a frame that should carry a tag: refusals 3, 4, 5 in this order.
+pub(crate) fn read_tagged(frame: &[u8]) -> Result<Tagged, Refusal> {
+    if frame.len() > Stream::MAX_FRAME {
+        return Err(Refusal::FrameTooLong);
+    }
+    let header = header(frame)?;
+    let place = header.type_place;
+    if !carries_tag(frame, header) {
+        return Err(Refusal::NoTag);
+    }
+    // Once the mark is found, the tag and the former type field must be whole.
+    if frame.len() < place + TAG_LENGTH + 2 {
+        return Err(Refusal::FrameShort);
+    }
+    // The reserved bytes at place + 2 and place + 3 are not looked at.
+    let number = u16::from_be_bytes([frame[place + 4], frame[place + 5]]);
+    Ok(Tagged {
+        destination: header.destination,
+        vlan: header.vlan,
+        number,
+        tag_place: place,
+    })
+}
+
+/// Refusal 8 of an arrival and of taking a tag out.
+pub(crate) fn check_room(frame: &[u8], output: &[u8]) -> Result<(), Refusal> {
+    if output.len() < frame.len() - TAG_LENGTH {
+        Err(Refusal::OutputTooSmall)
+    } else {
+        Ok(())
+    }
+}
+
+/// Writes the frame without its six tag bytes. The room was checked before.
+pub(crate) fn write_without_tag(frame: &[u8], tagged: Tagged, output: &mut [u8]) -> usize {
+    let place = tagged.tag_place;
+    let length = frame.len() - TAG_LENGTH;
+    output[..place].copy_from_slice(&frame[..place]);
+    output[place..length].copy_from_slice(&frame[place + TAG_LENGTH..]);
+    length
+}
+
+/// Puts a tag with this number into the frame and writes the result to the
+/// start of the output. Answers the length written. Refusals 3, 4, 13, 8 in
+/// this order.
+pub fn write_tag(frame: &[u8], number: u16, output: &mut [u8]) -> Result<usize, Refusal> {
+    if frame.len() > Stream::MAX_UNTAGGED {
+        return Err(Refusal::FrameTooLong);
+    }
+    let header = header(frame)?;
+    if carries_tag(frame, header) {
+        return Err(Refusal::AlreadyTagged);
+    }
+    let length = frame.len() + TAG_LENGTH;
+    if output.len() < length {
+        return Err(Refusal::OutputTooSmall);
+    }
+    let place = header.type_place;
+    let number = number.to_be_bytes();
+    output[..place].copy_from_slice(&frame[..place]);
+    output[place..place + 2].copy_from_slice(&TAG_MARK);
+    // Reserved bytes are written zero.
+    output[place + 2..place + 4].copy_from_slice(&[0, 0]);
+    output[place + 4..place + TAG_LENGTH].copy_from_slice(&number);
+    output[place + TAG_LENGTH..length].copy_from_slice(&frame[place..]);
+    Ok(length)
+}
+
+/// Takes the tag out of the frame and writes the rest to the start of the
+/// output. Refusals 3, 4, 5, 8 in this order.
+pub fn take_tag(frame: &[u8], output: &mut [u8]) -> Result<Taken, Refusal> {
+    let tagged = read_tagged(frame)?;
+    check_room(frame, output)?;
+    let length = write_without_tag(frame, tagged, output);
+    Ok(Taken {
+        number: tagged.number,
+        length,
+    })
+}

@@ -1,0 +1,60 @@
+//! A receiver for frames that arrive on two networks, and a writer for the
+//! redundancy tag.
+//!
+//! This is a second implementation. It was written from document 01 ("Exact
+//! rules and what to build") alone, so that its answers can be compared with
+//! those of the first one. Section names in the comments are those of
+//! document 01.
+
+#![forbid(unsafe_code)]
+
+pub mod event_file;
+pub mod frame;
+pub mod random;
+pub mod stream;
+pub mod table;
+
+pub use frame::{take_tag, write_tag, Taken};
+pub use stream::Stream;
+pub use table::{arrival, close, open, reset, tick, Arrival, Settings, Ticked, Verdict};
+
+/// Why a call was refused. The values are the numbers of the table in
+/// "Calls and the order of checks".
+#[derive(Clone, Copy, Debug, PartialEq, Eq, Hash, PartialOrd, Ord)]
+#[repr(u8)]
+pub enum Refusal {
+    /// The table has more than 64 slots.
+    TableTooLong = 1,
+    /// The network is not 0 or 1.
+    NoSuchNetwork = 2,
+    /// The frame is too long.
+    FrameTooLong = 3,
+    /// The frame is short.
+    FrameShort = 4,
+    /// There is no F1C1 at the type field.
+    NoTag = 5,
+    /// No slot in use has the key.
+    NoStream = 6,
+    /// The record is damaged. For the reset call: its settings are out of
+    /// range.
+    Damaged = 7,
+    /// The output is too small.
+    OutputTooSmall = 8,
+    /// A setting is outside the sizes.
+    BadSetting = 9,
+    /// A slot in use has the key.
+    KeyInUse = 10,
+    /// There is no free slot.
+    NoFreeSlot = 11,
+    /// The slot is beyond the table or free.
+    NoSuchSlot = 12,
+    /// The frame already carries F1C1.
+    AlreadyTagged = 13,
+}
+
+impl Refusal {
+    /// The number that document 01 gives this refusal.
+    pub const fn number(self) -> u8 {
+        self as u8
+    }
+}

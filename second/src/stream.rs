@@ -1,0 +1,248 @@
+//! The stream record, when it is lawful, and the decision on one record.
+//! Document 01: "Sizes", "The stream record", "Decisions".
+
+/// One slot of a table.
+///
+/// The fields are open to the caller, so any value may stand in them. A record
+/// that breaks the rules is found by [`Stream::is_lawful`]; nothing here relies
+/// on a record being well formed before that was asked.
+#[derive(Clone, Copy, Debug, PartialEq, Eq)]
+pub struct Stream {
+    /// 0 is free, every other value is in use.
+    pub in_use: u8,
+    /// First half of the key.
+    pub destination: [u8; 6],
+    /// Second half of the key.
+    pub vlan: u16,
+    /// 1 vector, 2 match.
+    pub rule: u8,
+    /// The window L.
+    pub window: u8,
+    /// The reset time R, in ticks.
+    pub reset_time: u16,
+    /// The number that the differences are taken from.
+    pub anchor: u16,
+    /// Bit k stands for the number anchor - k.
+    pub history: u64,
+    /// 0 is no, every other value is yes.
+    pub take_any: u8,
+    /// Ticks left until the stream is reset.
+    pub remaining: u16,
+    /// Arrivals on network 0 and on network 1.
+    pub arrivals: [u64; 2],
+    /// Frames handed up.
+    pub passed: u64,
+    /// Duplicates.
+    pub discarded: u64,
+    /// Frames outside the window.
+    pub rogue: u64,
+    /// Frames handed up that did not follow the anchor.
+    pub out_of_order: u64,
+    /// Numbers that left the window without having come.
+    pub lost: u64,
+    /// How often the stream went back to the fresh state.
+    pub resets: u64,
+}
+
+/// What the rules make of one number. The caller of the library sees
+/// `Verdict`, which also has the length.
+#[derive(Clone, Copy, Debug, PartialEq, Eq)]
+pub(crate) enum Decision {
+    HandedUp,
+    Duplicate,
+    Rogue,
+}
+
+/// Counters wrap to zero after 2^64 - 1 ("Sizes").
+fn rise(counter: &mut u64) {
+    *counter = counter.wrapping_add(1);
+}
+
+impl Stream {
+    /// Most slots in a table.
+    pub const MAX_SLOTS: usize = 64;
+    /// Longest frame.
+    pub const MAX_FRAME: usize = 2000;
+    /// Longest frame before the tag is put in.
+    pub const MAX_UNTAGGED: usize = 1994;
+    /// Smallest window.
+    pub const MIN_WINDOW: u8 = 2;
+    /// Largest window.
+    pub const MAX_WINDOW: u8 = 64;
+    /// Smallest reset time. The largest, 65535, is the largest value of the
+    /// field.
+    pub const MIN_RESET_TIME: u16 = 1;
+    /// Largest VLAN id in a key.
+    pub const MAX_VLAN: u16 = 4094;
+    /// The vector rule.
+    pub const VECTOR: u8 = 1;
+    /// The match rule.
+    pub const MATCH: u8 = 2;
+    /// The anchor of the fresh state.
+    pub const FRESH_ANCHOR: u16 = 65535;
+
+    /// A slot that was never opened.
+    pub const FREE: Stream = Stream {
+        in_use: 0,
+        destination: [0; 6],
+        vlan: 0,
+        rule: 0,
+        window: 0,
+        reset_time: 0,
+        anchor: Stream::FRESH_ANCHOR,
+        history: 0,
+        take_any: 1,
+        remaining: 0,
+        arrivals: [0; 2],
+        passed: 0,
+        discarded: 0,
+        rogue: 0,
+        out_of_order: 0,
+        lost: 0,
+        resets: 0,
+    };
+
+    /// Is the slot in use?
+    pub fn is_in_use(&self) -> bool {
+        self.in_use != 0
+    }
+
+    /// Does the stream take any number next?
+    pub fn takes_any(&self) -> bool {
+        self.take_any != 0
+    }
+
+    /// Is this slot in use with this key?
+    pub fn has_key(&self, destination: [u8; 6], vlan: u16) -> bool {
+        self.is_in_use() && self.destination == destination && self.vlan == vlan
+    }
+
+    /// Are rule, L, R and VLAN id within the sizes?
+    pub fn settings_in_range(&self) -> bool {
+        (self.rule == Stream::VECTOR || self.rule == Stream::MATCH)
+            && self.window >= Stream::MIN_WINDOW
+            && self.window <= Stream::MAX_WINDOW
+            && self.reset_time >= Stream::MIN_RESET_TIME
+            && self.vlan <= Stream::MAX_VLAN
+    }
+
+    /// Is this record, taken as one in use, lawful? "The stream record" has
+    /// the rules in the same order.
+    pub fn is_lawful(&self) -> bool {
+        if !self.settings_in_range() || self.remaining > self.reset_time {
+            return false;
+        }
+        if (self.remaining == 0) != self.takes_any() {
+            return false;
+        }
+        if self.takes_any() {
+            // Remaining is already known to be 0 here.
+            return self.anchor == Stream::FRESH_ANCHOR && self.history == 0;
+        }
+        if self.rule == Stream::VECTOR {
+            self.history & 1 == 1 && self.history & !self.window_mask() == 0
+        } else {
+            self.history == 0
+        }
+    }
+
+    /// The lowest L bits. A shift by 64 is not allowed, so L = 64 stands
+    /// apart. Only for records with L in range.
+    fn window_mask(&self) -> u64 {
+        if self.window >= 64 {
+            u64::MAX
+        } else {
+            (1u64 << self.window) - 1
+        }
+    }
+
+    /// Back to the fresh state. Key, settings and counters stay.
+    pub(crate) fn refresh(&mut self) {
+        self.anchor = Stream::FRESH_ANCHOR;
+        self.history = 0;
+        self.take_any = 1;
+        self.remaining = 0;
+    }
+
+    /// A reset: the fresh state, and resets rises.
+    pub(crate) fn restart(&mut self) {
+        self.refresh();
+        rise(&mut self.resets);
+    }
+
+    /// The decision on one lawful record, by value. `second_network` says
+    /// which arrival counter rises.
+    pub(crate) fn decide(mut self, second_network: bool, number: u16) -> (Stream, Decision) {
+        // Every verdict counts the arrival ("Decisions").
+        rise(&mut self.arrivals[usize::from(second_network)]);
+        let decision = if self.takes_any() {
+            self.take_any = 0;
+            self.anchor = number;
+            // A match record keeps its history zero.
+            self.history = u64::from(self.rule == Stream::VECTOR);
+            Decision::HandedUp
+        } else {
+            // Modulo 65536, then read as signed. Comparing the numbers as
+            // plain numbers is one of the "Errors that look right".
+            let d = i32::from(number.wrapping_sub(self.anchor) as i16);
+            if self.rule == Stream::VECTOR {
+                self.decide_vector(d, number)
+            } else {
+                self.decide_match(d, number)
+            }
+        };
+        match decision {
+            Decision::HandedUp => {
+                rise(&mut self.passed);
+                self.remaining = self.reset_time;
+            }
+            // A discard of either kind leaves the ticks alone. Otherwise a
+            // restarted sender never gets through.
+            Decision::Duplicate => rise(&mut self.discarded),
+            Decision::Rogue => rise(&mut self.rogue),
+        }
+        (self, decision)
+    }
+
+    fn decide_vector(&mut self, d: i32, number: u16) -> Decision {
+        let window = i32::from(self.window);
+        if d >= window || d <= -window {
+            return Decision::Rogue;
+        }
+        if d <= 0 {
+            let bit = 1u64 << -d;
+            if self.history & bit != 0 {
+                return Decision::Duplicate;
+            }
+            self.history |= bit;
+            rise(&mut self.out_of_order);
+            return Decision::HandedUp;
+        }
+        if d != 1 {
+            rise(&mut self.out_of_order);
+        }
+        let top = 1u64 << (self.window - 1);
+        let mask = self.window_mask();
+        // One place at a time, so that each zero that leaves is one loss.
+        for _ in 0..d {
+            if self.history & top == 0 {
+                rise(&mut self.lost);
+            }
+            self.history = (self.history << 1) & mask;
+        }
+        self.history |= 1;
+        self.anchor = number;
+        Decision::HandedUp
+    }
+
+    fn decide_match(&mut self, d: i32, number: u16) -> Decision {
+        if d == 0 {
+            return Decision::Duplicate;
+        }
+        if d != 1 {
+            rise(&mut self.out_of_order);
+        }
+        self.anchor = number;
+        Decision::HandedUp
+    }
+}

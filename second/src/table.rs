@@ -1,0 +1,189 @@
+//! The calls on a table of streams. Document 01: "Calls and the order of
+//! checks".
+//!
+//! Each call makes all its checks before it changes anything, so a refusal
+//! leaves every byte as it was.
+
+use crate::frame;
+use crate::stream::Decision;
+use crate::{Refusal, Stream};
+
+/// What an arrival that was not refused answers.
+#[derive(Clone, Copy, Debug, PartialEq, Eq)]
+pub struct Arrival {
+    /// The slot of the stream.
+    pub slot: usize,
+    /// The number in the tag.
+    pub number: u16,
+    /// What became of the frame.
+    pub verdict: Verdict,
+}
+
+/// The three verdicts.
+#[derive(Clone, Copy, Debug, PartialEq, Eq)]
+pub enum Verdict {
+    /// The frame without its tag stands in the output, this many bytes long.
+    HandedUp {
+        /// Bytes written to the output.
+        length: usize,
+    },
+    /// The number came before. Nothing was written.
+    Duplicate,
+    /// The number is outside the window. Nothing was written.
+    Rogue,
+}
+
+/// What a tick answers.
+#[derive(Clone, Copy, Debug, PartialEq, Eq)]
+pub struct Ticked {
+    /// Streams that this tick reset.
+    pub reset: usize,
+    /// Records in use that are damaged.
+    pub damaged: usize,
+}
+
+/// Key and settings of a stream to open.
+#[derive(Clone, Copy, Debug, PartialEq, Eq)]
+pub struct Settings {
+    /// First half of the key.
+    pub destination: [u8; 6],
+    /// Second half of the key, 0 to 4094.
+    pub vlan: u16,
+    /// 1 vector, 2 match.
+    pub rule: u8,
+    /// L, 2 to 64.
+    pub window: u8,
+    /// R, 1 to 65535.
+    pub reset_time: u16,
+}
+
+/// Refusal 1, the first check of every call on a table.
+fn check_table(table: &[Stream]) -> Result<(), Refusal> {
+    if table.len() > Stream::MAX_SLOTS {
+        Err(Refusal::TableTooLong)
+    } else {
+        Ok(())
+    }
+}
+
+/// The lowest slot in use with the key, damaged or not.
+fn find(table: &[Stream], destination: [u8; 6], vlan: u16) -> Option<usize> {
+    table.iter().position(|s| s.has_key(destination, vlan))
+}
+
+/// Refusal 12: the slot must be in the table and in use.
+fn slot_in_use(table: &mut [Stream], slot: usize) -> Result<&mut Stream, Refusal> {
+    match table.get_mut(slot) {
+        Some(stream) if stream.is_in_use() => Ok(stream),
+        _ => Err(Refusal::NoSuchSlot),
+    }
+}
+
+/// A frame came in on a network. Refusals 1 to 8 in this order.
+///
+/// The room in the output is checked before the number is marked, for every
+/// verdict. Otherwise a frame could be claimed and lost, and its twin would be
+/// a duplicate.
+pub fn arrival(
+    table: &mut [Stream],
+    network: u8,
+    frame: &[u8],
+    output: &mut [u8],
+) -> Result<Arrival, Refusal> {
+    check_table(table)?;
+    if network > 1 {
+        return Err(Refusal::NoSuchNetwork);
+    }
+    let tagged = frame::read_tagged(frame)?;
+    let slot = find(table, tagged.destination, tagged.vlan).ok_or(Refusal::NoStream)?;
+    let stream = table[slot];
+    if !stream.is_lawful() {
+        return Err(Refusal::Damaged);
+    }
+    frame::check_room(frame, output)?;
+
+    let (after, decision) = stream.decide(network == 1, tagged.number);
+    table[slot] = after;
+    let verdict = match decision {
+        Decision::HandedUp => Verdict::HandedUp {
+            length: frame::write_without_tag(frame, tagged, output),
+        },
+        Decision::Duplicate => Verdict::Duplicate,
+        Decision::Rogue => Verdict::Rogue,
+    };
+    Ok(Arrival {
+        slot,
+        number: tagged.number,
+        verdict,
+    })
+}
+
+/// Opens a stream in the lowest free slot and answers that slot. Refusals 1,
+/// 9, 10, 11 in this order.
+pub fn open(table: &mut [Stream], settings: Settings) -> Result<usize, Refusal> {
+    check_table(table)?;
+    // The whole record is written, so nothing of a closed stream stays.
+    let stream = Stream {
+        in_use: 1,
+        destination: settings.destination,
+        vlan: settings.vlan,
+        rule: settings.rule,
+        window: settings.window,
+        reset_time: settings.reset_time,
+        ..Stream::FREE
+    };
+    if !stream.settings_in_range() {
+        return Err(Refusal::BadSetting);
+    }
+    if find(table, settings.destination, settings.vlan).is_some() {
+        return Err(Refusal::KeyInUse);
+    }
+    let slot = table
+        .iter()
+        .position(|s| !s.is_in_use())
+        .ok_or(Refusal::NoFreeSlot)?;
+    table[slot] = stream;
+    Ok(slot)
+}
+
+/// Frees a slot. Its other fields stay, and a damaged record can be closed.
+/// Refusals 1, 12.
+pub fn close(table: &mut [Stream], slot: usize) -> Result<(), Refusal> {
+    check_table(table)?;
+    slot_in_use(table, slot)?.in_use = 0;
+    Ok(())
+}
+
+/// Puts a stream back to the fresh state, which mends a damaged record.
+/// Refusals 1, 12, and 7 only if the settings are out of range, since a fresh
+/// state cannot mend those.
+pub fn reset(table: &mut [Stream], slot: usize) -> Result<(), Refusal> {
+    check_table(table)?;
+    let stream = slot_in_use(table, slot)?;
+    if !stream.settings_in_range() {
+        return Err(Refusal::Damaged);
+    }
+    stream.restart();
+    Ok(())
+}
+
+/// One tick for the whole table. Refusal 1.
+pub fn tick(table: &mut [Stream]) -> Result<Ticked, Refusal> {
+    check_table(table)?;
+    let mut ticked = Ticked {
+        reset: 0,
+        damaged: 0,
+    };
+    for stream in table.iter_mut().filter(|s| s.is_in_use()) {
+        if !stream.is_lawful() {
+            ticked.damaged += 1;
+        } else if stream.remaining == 1 {
+            stream.restart();
+            ticked.reset += 1;
+        } else {
+            // A fresh stream has nothing left and stays as it is.
+            stream.remaining = stream.remaining.saturating_sub(1);
+        }
+    }
+    Ok(ticked)
+}

@@ -1,0 +1,154 @@
+//! What several tests share.
+
+#![allow(dead_code)]
+
+use second::random::Random;
+use second::{arrival, Arrival, Refusal, Settings, Stream, Verdict};
+
+/// The destination most tests use.
+pub const DESTINATION: [u8; 6] = [2, 0, 0, 0, 0, 1];
+/// The source all tests use. The library never looks at it.
+pub const SOURCE: [u8; 6] = [2, 0, 0, 0, 0, 2];
+/// What stands in an output before a call.
+pub const FILL: u8 = 0xA5;
+
+/// Lawful settings with this rule, L and R.
+pub fn settings(rule: u8, window: u8, reset_time: u16) -> Settings {
+    Settings {
+        destination: DESTINATION,
+        vlan: 0,
+        rule,
+        window,
+        reset_time,
+    }
+}
+
+/// A fresh record in use.
+pub fn fresh(rule: u8, window: u8, reset_time: u16) -> Stream {
+    Stream {
+        in_use: 1,
+        destination: DESTINATION,
+        vlan: 0,
+        rule,
+        window,
+        reset_time,
+        ..Stream::FREE
+    }
+}
+
+/// A record that has seen numbers.
+pub fn running(rule: u8, window: u8, reset_time: u16, anchor: u16, history: u64) -> Stream {
+    Stream {
+        take_any: 0,
+        anchor,
+        history,
+        remaining: reset_time,
+        ..fresh(rule, window, reset_time)
+    }
+}
+
+/// A tagged frame without a VLAN tag.
+pub fn tagged(number: u16) -> Vec<u8> {
+    tagged_to(DESTINATION, None, number)
+}
+
+/// A tagged frame; `tci` is what stands behind 8100, if there is a VLAN tag.
+pub fn tagged_to(destination: [u8; 6], tci: Option<u16>, number: u16) -> Vec<u8> {
+    let mut frame = untagged_to(destination, tci);
+    frame.truncate(frame.len() - 3);
+    frame.extend([0xF1, 0xC1, 0, 0]);
+    frame.extend(number.to_be_bytes());
+    frame.extend([0x08, 0x00, 0x77]);
+    frame
+}
+
+/// The same frame before its tag is put in.
+pub fn untagged_to(destination: [u8; 6], tci: Option<u16>) -> Vec<u8> {
+    let mut frame = Vec::new();
+    frame.extend(destination);
+    frame.extend(SOURCE);
+    if let Some(tci) = tci {
+        frame.extend([0x81, 0x00]);
+        frame.extend(tci.to_be_bytes());
+    }
+    frame.extend([0x08, 0x00, 0x77]);
+    frame
+}
+
+/// One arrival on network 0 with room enough; only the verdict's kind.
+pub fn arrive(table: &mut [Stream], number: u16) -> &'static str {
+    let mut output = [0; Stream::MAX_FRAME];
+    match arrival(table, 0, &tagged(number), &mut output) {
+        Ok(a) => {
+            assert_eq!(a.number, number);
+            word(a)
+        }
+        Err(refusal) => panic!("refused with {}", refusal.number()),
+    }
+}
+
+/// The word for a verdict.
+pub fn word(arrival: Arrival) -> &'static str {
+    match arrival.verdict {
+        Verdict::HandedUp { .. } => "up",
+        Verdict::Duplicate => "duplicate",
+        Verdict::Rogue => "rogue",
+    }
+}
+
+/// The number of a refusal, or 0.
+pub fn number_of<T>(answer: Result<T, Refusal>) -> u8 {
+    match answer {
+        Ok(_) => 0,
+        Err(refusal) => refusal.number(),
+    }
+}
+
+/// A record with anything in it, often nearly lawful.
+pub fn any_stream(random: &mut Random, destinations: &[[u8; 6]], vlans: &[u16]) -> Stream {
+    let rule = random.pick(&[1, 1, 1, 2, 2, 0, 3]);
+    let window = random.pick(&[2, 3, 4, 8, 63, 64, 64, 1, 65, 0, 255]);
+    let reset_time = random.pick(&[1, 2, 3, 100, 65535, 0]);
+    let mut stream = Stream {
+        in_use: random.pick(&[0, 1, 1, 1, 2, 255]),
+        destination: random.pick(destinations),
+        vlan: random.pick(vlans),
+        arrivals: [any_counter(random), any_counter(random)],
+        passed: any_counter(random),
+        discarded: any_counter(random),
+        rogue: any_counter(random),
+        out_of_order: any_counter(random),
+        lost: any_counter(random),
+        resets: any_counter(random),
+        ..fresh(rule, window, reset_time)
+    };
+    stream.take_any = random.pick(&[1, 2, 255]);
+    if random.chance(2, 3) {
+        stream.take_any = 0;
+        stream.anchor = random.pick(&[0, 1, 2, 65534, 65535, 32767, 32768, 7]);
+        stream.remaining = reset_time.min(random.pick(&[1, 1, 2, 65535]));
+        if rule == 1 {
+            let low = match window {
+                0 => 0,
+                1..=63 => (1u64 << window) - 1,
+                _ => u64::MAX,
+            };
+            stream.history = (random.bits() & low) | 1;
+        }
+    }
+    if random.chance(1, 5) {
+        // One blow of damage, at times a harmless one.
+        match random.below(5) {
+            0 => stream.anchor = random.word(),
+            1 => stream.history ^= 1 << random.below(64),
+            2 => stream.take_any = random.pick(&[0, 1, 9]),
+            3 => stream.remaining = random.pick(&[0, 1, 2, 3, 4, 65535]),
+            _ => stream.vlan = random.pick(&[4094, 4095, 4096, 65535]),
+        }
+    }
+    stream
+}
+
+fn any_counter(random: &mut Random) -> u64 {
+    random.pick(&[0, 1, 5, u64::MAX, u64::MAX - 1])
+}

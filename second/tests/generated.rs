@@ -1,0 +1,82 @@
+//! The program `generate`: the same seed gives the same file, and the files
+//! meet every kind of line.
+
+use std::collections::HashSet;
+use std::process::Command;
+
+use second::event_file::run;
+
+fn generate(seed: u64, count: u64) -> Vec<u8> {
+    let done = Command::new(env!("CARGO_BIN_EXE_generate"))
+        .args([seed.to_string(), count.to_string()])
+        .output()
+        .unwrap();
+    assert!(done.status.success());
+    done.stdout
+}
+
+fn lines_of(file: &[u8]) -> Vec<String> {
+    let mut lines = Vec::new();
+    run(&mut &file[..], &mut lines).unwrap();
+    let lines = String::from_utf8(lines).unwrap();
+    lines.lines().map(String::from).collect()
+}
+
+#[test]
+fn the_same_seed_gives_the_same_file() {
+    for seed in [0, 1, 2, u64::MAX] {
+        assert_eq!(generate(seed, 500), generate(seed, 500));
+    }
+    assert_ne!(generate(1, 500), generate(2, 500));
+}
+
+#[test]
+fn every_kind_of_line_is_met() {
+    let mut met = HashSet::new();
+    for seed in 0..200 {
+        let lines = lines_of(&generate(seed, 400));
+        let last = lines.last().unwrap().as_str();
+        assert!(["version", "cut", "end"].contains(&last));
+        assert!(last == "version" || lines.len() == 401, "{}", lines.len());
+        met.insert(last.to_string());
+        for line in &lines[..lines.len() - 1] {
+            let words: Vec<&str> = line.split(' ').collect();
+            // The record number and the slot and number of an arrival differ
+            // too much to be listed.
+            let shape = match words[1..] {
+                [letter, "no", refusal] => format!("{letter} no {refusal}"),
+                ["A", verdict, ..] => format!("A {verdict}"),
+                ["T", reset, damaged] => {
+                    assert_eq!(damaged, "0");
+                    format!("T {}", reset.parse::<u64>().unwrap().min(2))
+                }
+                [letter, answer] => format!("{letter} {answer}"),
+                _ => words[1].to_string(),
+            };
+            met.insert(shape);
+        }
+    }
+    let mut wanted: Vec<String> = (0..8).map(|slot| format!("O {slot}")).collect();
+    for shape in [
+        "O no 9", "O no 10", "O no 11", "C ok", "C no 12", "R ok", "R no 12", "A up", "A dup",
+        "A rogue", "A no 2", "A no 3", "A no 4", "A no 5", "A no 6", "T 0", "T 1", "T 2", "bad",
+        "version", "cut", "end",
+    ] {
+        wanted.push(shape.to_string());
+    }
+    let wanted: HashSet<String> = wanted.into_iter().collect();
+    // Nothing is missing, and no line has a shape that cannot be.
+    assert_eq!(met, wanted);
+}
+
+#[test]
+fn wrong_use_is_told() {
+    for arguments in [&[][..], &["1"], &["1", "x"], &["1", "2", "3"], &["-1", "2"]] {
+        let done = Command::new(env!("CARGO_BIN_EXE_generate"))
+            .args(arguments)
+            .output()
+            .unwrap();
+        assert_eq!(done.status.code(), Some(2));
+        assert!(done.stdout.is_empty());
+    }
+}

@@ -1,0 +1,445 @@
+//! Random calls on random tables, damaged ones among them.
+//!
+//! The answer is compared with a list: each refusal number has its own
+//! condition, and the first number in the call's order whose condition holds
+//! must be the answer ("Calls and the order of checks"). A refused call must
+//! change no byte of table and output; any other call only its own slot.
+
+mod common;
+
+use std::collections::HashMap;
+
+use common::*;
+use second::random::Random;
+use second::{arrival, close, open, reset, take_tag, tick, write_tag, Settings, Stream, Verdict};
+
+const DESTINATIONS: [[u8; 6]; 3] = [DESTINATION, [2, 0, 0, 0, 0, 2], [1, 2, 3, 4, 5, 6]];
+const VLANS: [u16; 5] = [0, 0, 5, 4094, 4095];
+
+/// The first number in the order whose condition holds, else 0.
+fn first(order: &[(u8, bool)]) -> u8 {
+    order.iter().find(|c| c.1).map_or(0, |c| c.0)
+}
+
+fn at(frame: &[u8], place: usize, mark: [u8; 2]) -> bool {
+    frame.get(place..place + 2) == Some(&mark[..])
+}
+
+fn type_place(frame: &[u8]) -> usize {
+    if at(frame, 12, [0x81, 0x00]) {
+        16
+    } else {
+        12
+    }
+}
+
+fn short_for_writing(frame: &[u8]) -> bool {
+    frame.len() < 14 || (at(frame, 12, [0x81, 0x00]) && frame.len() < 18)
+}
+
+fn has_mark(frame: &[u8]) -> bool {
+    at(frame, type_place(frame), [0xF1, 0xC1])
+}
+
+fn short_for_reading(frame: &[u8]) -> bool {
+    short_for_writing(frame) || (has_mark(frame) && frame.len() < type_place(frame) + 8)
+}
+
+fn slot_of(table: &[Stream], frame: &[u8]) -> Option<usize> {
+    let destination = frame.get(..6)?;
+    let vlan = if at(frame, 12, [0x81, 0x00]) {
+        u16::from_be_bytes([*frame.get(14)?, *frame.get(15)?]) % 4096
+    } else {
+        0
+    };
+    (0..table.len()).find(|&slot| {
+        let s = &table[slot];
+        s.in_use != 0 && s.destination == destination && s.vlan == vlan
+    })
+}
+
+fn settings_bad(s: &Stream) -> bool {
+    !(1..=2).contains(&s.rule)
+        || !(2..=64).contains(&s.window)
+        || !(1..=65535).contains(&s.reset_time)
+        || !(0..=4094).contains(&s.vlan)
+}
+
+/// Lawful, said again and bit by bit.
+fn is_damaged(s: &Stream) -> bool {
+    if settings_bad(s) || s.remaining > s.reset_time {
+        return true;
+    }
+    let bits: Vec<usize> = (0..64).filter(|k| s.history >> k & 1 == 1).collect();
+    match (s.take_any != 0, s.remaining) {
+        (true, 0) => s.anchor != 65535 || !bits.is_empty(),
+        (false, 1..) if s.rule == 1 => {
+            !bits.contains(&0) || bits.iter().any(|&k| k >= usize::from(s.window))
+        }
+        (false, 1..) => !bits.is_empty(),
+        _ => true,
+    }
+}
+
+fn any_table(random: &mut Random) -> Vec<Stream> {
+    let slots = random.pick(&[0, 1, 2, 3, 5, 8, 63, 64, 65, 70]);
+    let mut table: Vec<Stream> = (0..slots)
+        .map(|_| any_stream(random, &DESTINATIONS, &VLANS))
+        .collect();
+    if random.chance(1, 3) {
+        // A full table is rare otherwise.
+        for stream in &mut table {
+            stream.in_use = 1;
+        }
+    }
+    table
+}
+
+fn any_frame(random: &mut Random) -> Vec<u8> {
+    let mut frame = Vec::new();
+    frame.extend(random.pick(&DESTINATIONS));
+    frame.extend(SOURCE);
+    let vlan = random.pick(&VLANS);
+    if vlan != 0 || random.chance(1, 4) {
+        frame.extend([0x81, 0x00]);
+        frame.extend((vlan | (random.word() & 0xF000)).to_be_bytes());
+    }
+    if random.chance(3, 4) {
+        frame.extend([0xF1, 0xC1, random.byte(), 0]);
+        frame.extend(
+            random
+                .pick(&[0u16, 1, 2, 3, 7, 8, 65533, 65534, 65535])
+                .to_be_bytes(),
+        );
+    }
+    frame.extend(random.pick(&[[0x08, 0x00], [0xF1, 0xC1], [0x81, 0x00]]));
+    frame.resize(frame.len() + random.below(6) as usize, 0x33);
+    match random.below(12) {
+        0 => frame.truncate(random.pick(&[0, 5, 13, 14, 17, 18, 19, 20, 23, 24])),
+        1 => frame.resize(random.pick(&[1994, 1995, 2000, 2001, 2010]), 0x44),
+        _ => {}
+    }
+    frame
+}
+
+fn any_output(random: &mut Random, need: usize) -> Vec<u8> {
+    let room = match random.below(4) {
+        0 => need.saturating_sub(1),
+        1 => need,
+        2 => need + 1,
+        _ => random.pick(&[0, 2000, 3000]),
+    };
+    let mut output = vec![0; room];
+    random.fill(&mut output);
+    output
+}
+
+/// Counts answers, so that a run that met too little can be told.
+#[derive(Default)]
+struct Seen(HashMap<(&'static str, u8), u64>);
+
+impl Seen {
+    fn note(&mut self, call: &'static str, answer: u8) {
+        *self.0.entry((call, answer)).or_default() += 1;
+    }
+
+    fn all_met(&self, call: &'static str, answers: &[u8]) {
+        for &answer in answers {
+            let met = self.0.get(&(call, answer)).copied().unwrap_or(0);
+            assert!(met >= 20, "{call} gave {answer} only {met} times");
+        }
+    }
+}
+
+/// All slots but one are as they were.
+fn others_same(before: &[Stream], after: &[Stream], slot: usize) -> bool {
+    before.len() == after.len()
+        && (0..before.len()).all(|other| other == slot || before[other] == after[other])
+}
+
+#[test]
+fn arrivals() {
+    let mut random = Random::new(11);
+    let mut seen = Seen::default();
+    for _ in 0..60_000 {
+        let mut table = any_table(&mut random);
+        let network = random.pick(&[0, 1, 0, 1, 0, 1, 2, 255]);
+        let frame = any_frame(&mut random);
+        let need = frame.len().saturating_sub(6);
+        let mut output = any_output(&mut random, need);
+        let (table_before, output_before) = (table.clone(), output.clone());
+
+        let slot = slot_of(&table, &frame);
+        let expected = first(&[
+            (1, table.len() > 64),
+            (2, network > 1),
+            (3, frame.len() > 2000),
+            (4, short_for_reading(&frame)),
+            (5, !has_mark(&frame)),
+            (6, slot.is_none()),
+            (7, slot.is_some_and(|slot| is_damaged(&table[slot]))),
+            (8, output.len() < need),
+        ]);
+        let answer = arrival(&mut table, network, &frame, &mut output);
+        assert_eq!(number_of(answer), expected);
+        seen.note("arrival", expected);
+        let Ok(a) = answer else {
+            assert_eq!(table, table_before);
+            assert_eq!(output, output_before);
+            continue;
+        };
+        assert_eq!(Some(a.slot), slot);
+        assert!(others_same(&table_before, &table, a.slot));
+        let (old, new) = (table_before[a.slot], table[a.slot]);
+        assert!(!is_damaged(&new));
+        // Whatever the verdict, key, settings and resets stay and exactly one
+        // arrival counter rises.
+        let mut arrivals = old.arrivals;
+        let counter = &mut arrivals[usize::from(network)];
+        *counter = counter.wrapping_add(1);
+        let same = Stream {
+            in_use: old.in_use,
+            destination: old.destination,
+            vlan: old.vlan,
+            rule: old.rule,
+            window: old.window,
+            reset_time: old.reset_time,
+            resets: old.resets,
+            arrivals,
+            ..new
+        };
+        assert_eq!(new, same);
+        match a.verdict {
+            Verdict::HandedUp { length } => {
+                assert_eq!(length, need);
+                let place = type_place(&frame);
+                let bare = [&frame[..place], &frame[place + 6..]].concat();
+                assert_eq!(output[..length], bare[..]);
+                assert_eq!(output[length..], output_before[length..]);
+                assert_eq!(new.passed, old.passed.wrapping_add(1));
+                assert_eq!(new.remaining, new.reset_time);
+                assert_eq!((new.discarded, new.rogue), (old.discarded, old.rogue));
+                seen.note("up", 0);
+            }
+            Verdict::Duplicate => {
+                assert_eq!(output, output_before);
+                let discarded = old.discarded.wrapping_add(1);
+                let expected = Stream {
+                    arrivals,
+                    discarded,
+                    ..old
+                };
+                assert_eq!(new, expected);
+                seen.note("duplicate", 0);
+            }
+            Verdict::Rogue => {
+                assert_eq!(output, output_before);
+                let rogue = old.rogue.wrapping_add(1);
+                let expected = Stream {
+                    arrivals,
+                    rogue,
+                    ..old
+                };
+                assert_eq!(new, expected);
+                seen.note("rogue", 0);
+            }
+        }
+    }
+    seen.all_met("arrival", &[0, 1, 2, 3, 4, 5, 6, 7, 8]);
+    seen.all_met("up", &[0]);
+    seen.all_met("duplicate", &[0]);
+    seen.all_met("rogue", &[0]);
+}
+
+#[test]
+fn opens() {
+    let mut random = Random::new(12);
+    let mut seen = Seen::default();
+    for _ in 0..20_000 {
+        let mut table = any_table(&mut random);
+        let before = table.clone();
+        let s = any_stream(&mut random, &DESTINATIONS, &VLANS);
+        let settings = Settings {
+            destination: random.pick(&[s.destination, [7; 6]]),
+            vlan: s.vlan,
+            rule: s.rule,
+            window: s.window,
+            reset_time: s.reset_time,
+        };
+        let wanted = Stream {
+            in_use: 1,
+            destination: settings.destination,
+            vlan: settings.vlan,
+            ..fresh(settings.rule, settings.window, settings.reset_time)
+        };
+        let taken = table
+            .iter()
+            .any(|s| s.in_use != 0 && s.destination == wanted.destination && s.vlan == wanted.vlan);
+        let free = (0..table.len()).find(|&slot| table[slot].in_use == 0);
+        let expected = first(&[
+            (1, table.len() > 64),
+            (9, settings_bad(&wanted)),
+            (10, taken),
+            (11, free.is_none()),
+        ]);
+        let answer = open(&mut table, settings);
+        assert_eq!(number_of(answer), expected);
+        seen.note("open", expected);
+        match answer {
+            Ok(slot) => {
+                assert_eq!(Some(slot), free);
+                assert_eq!(table[slot], wanted);
+                assert!(others_same(&before, &table, slot));
+            }
+            Err(_) => assert_eq!(table, before),
+        }
+    }
+    seen.all_met("open", &[0, 1, 9, 10, 11]);
+}
+
+#[test]
+fn closes_and_resets() {
+    let mut random = Random::new(13);
+    let mut seen = Seen::default();
+    for _ in 0..20_000 {
+        let mut table = any_table(&mut random);
+        let before = table.clone();
+        let slot = random.pick(&[0, 1, 2, 4, 7, 8, 62, 63, 64, 65, 255, usize::MAX]);
+        let absent = table.get(slot).is_none_or(|s| s.in_use == 0);
+
+        let expected = first(&[(1, table.len() > 64), (12, absent)]);
+        let answer = close(&mut table, slot);
+        assert_eq!(number_of(answer), expected);
+        seen.note("close", expected);
+        if answer.is_ok() {
+            let closed = Stream {
+                in_use: 0,
+                ..before[slot]
+            };
+            assert_eq!(table[slot], closed);
+            assert!(others_same(&before, &table, slot));
+        } else {
+            assert_eq!(table, before);
+        }
+
+        let mut table = before.clone();
+        let bad = !absent && settings_bad(&table[slot]);
+        let expected = first(&[(1, table.len() > 64), (12, absent), (7, bad)]);
+        let answer = reset(&mut table, slot);
+        assert_eq!(number_of(answer), expected);
+        seen.note("reset", expected);
+        if answer.is_ok() {
+            let mended = Stream {
+                anchor: 65535,
+                history: 0,
+                take_any: 1,
+                remaining: 0,
+                resets: before[slot].resets.wrapping_add(1),
+                ..before[slot]
+            };
+            assert_eq!(table[slot], mended);
+            assert!(!is_damaged(&table[slot]));
+            assert!(others_same(&before, &table, slot));
+        } else {
+            assert_eq!(table, before);
+        }
+    }
+    seen.all_met("close", &[0, 1, 12]);
+    seen.all_met("reset", &[0, 1, 7, 12]);
+}
+
+#[test]
+fn ticks() {
+    let mut random = Random::new(14);
+    let mut seen = Seen::default();
+    for _ in 0..10_000 {
+        let mut table = any_table(&mut random);
+        let before = table.clone();
+        let expected = first(&[(1, table.len() > 64)]);
+        let answer = tick(&mut table);
+        assert_eq!(number_of(answer), expected);
+        seen.note("tick", expected);
+        let Ok(ticked) = answer else {
+            assert_eq!(table, before);
+            continue;
+        };
+        let (mut resets, mut damaged) = (0, 0);
+        for (old, new) in before.iter().zip(&table) {
+            let mut wanted = *old;
+            if old.in_use != 0 && is_damaged(old) {
+                damaged += 1;
+            } else if old.in_use != 0 && old.remaining > 0 {
+                wanted.remaining -= 1;
+                if wanted.remaining == 0 {
+                    wanted.anchor = 65535;
+                    wanted.history = 0;
+                    wanted.take_any = 1;
+                    wanted.resets = old.resets.wrapping_add(1);
+                    resets += 1;
+                }
+            }
+            assert_eq!(*new, wanted);
+        }
+        assert_eq!((ticked.reset, ticked.damaged), (resets, damaged));
+    }
+    seen.all_met("tick", &[0, 1]);
+}
+
+#[test]
+fn tags() {
+    let mut random = Random::new(15);
+    let mut seen = Seen::default();
+    for _ in 0..60_000 {
+        let frame = any_frame(&mut random);
+
+        let need = frame.len() + 6;
+        let mut output = any_output(&mut random, need);
+        let before = output.clone();
+        let expected = first(&[
+            (3, frame.len() > 1994),
+            (4, short_for_writing(&frame)),
+            (13, has_mark(&frame)),
+            (8, output.len() < need),
+        ]);
+        let number = random.word();
+        let answer = write_tag(&frame, number, &mut output);
+        assert_eq!(number_of(answer), expected);
+        seen.note("write", expected);
+        if answer.is_ok() {
+            let place = type_place(&frame);
+            let [high, low] = number.to_be_bytes();
+            let tag = [0xF1, 0xC1, 0, 0, high, low];
+            let full = [&frame[..place], &tag[..], &frame[place..]].concat();
+            assert_eq!(answer, Ok(need));
+            assert_eq!(output[..need], full[..]);
+            assert_eq!(output[need..], before[need..]);
+        } else {
+            assert_eq!(output, before);
+        }
+
+        let need = frame.len().saturating_sub(6);
+        let mut output = any_output(&mut random, need);
+        let before = output.clone();
+        let expected = first(&[
+            (3, frame.len() > 2000),
+            (4, short_for_reading(&frame)),
+            (5, !has_mark(&frame)),
+            (8, output.len() < need),
+        ]);
+        let answer = take_tag(&frame, &mut output);
+        assert_eq!(number_of(answer), expected);
+        seen.note("take", expected);
+        if let Ok(taken) = answer {
+            let place = type_place(&frame);
+            let bare = [&frame[..place], &frame[place + 6..]].concat();
+            assert_eq!(taken.length, need);
+            assert_eq!(taken.number.to_be_bytes(), frame[place + 4..place + 6]);
+            assert_eq!(output[..need], bare[..]);
+            assert_eq!(output[need..], before[need..]);
+        } else {
+            assert_eq!(output, before);
+        }
+    }
+    seen.all_met("write", &[0, 3, 4, 8, 13]);
+    seen.all_met("take", &[0, 3, 4, 5, 8]);
+}
