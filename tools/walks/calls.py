@@ -79,7 +79,7 @@ class Steps(Frame):
         return (f'calls-{how} {{𝓤 = 𝓤}} {{H = H}} {{A = A}} ! fm R {ys} b o {room} {alias}.ended ({alias}.clauses 𝓤 H A mem run) (known .{dash(f)}′) (λ ν δ. {y}) (λ ν δ. {goes}) (λ ν δ. fst∗ 𝓤 _ (emp 𝓤)) '
                 f'(λ ν δ. {t.make}) (λ ν δ {r} vs p. {t.tells} {r} vs p){last} (λ ν δ {binds}. {fact}) (λ ν δ {r} ws. id⊢ 𝓤 _) (λ ν δ. {opds}) (λ ν δ {r}{more} g-{r}{" len" if mut else ""} {said}.')
 
-    # ---- calls that are handed a & at its own lifetime (read), and a &mut that is lent again with it (write)
+    # ---- calls that are handed a & at its own lifetime, and with it a &mut one, lent as a & (read) or again as a &mut (write)
     def fronts(self, now):
         muts = [k for k, p in self.refs() if 'mut' in p[1]]
         return ' ∷ '.join(self.entry(e, k, now[muts.index(k)] if k in muts else None) for e, k in self.front()) + ' ∷'
@@ -88,11 +88,14 @@ class Steps(Frame):
         _, f, _, alias, _, _ = self.callee(g)
         given, shown = self.arguments(args)
         t, by = Type(kind), {p[0]: k for k, p in self.refs()}
+        # what two `ensures` say is joined
+        shows, fact = ('two-facts 𝓤 H A _ _', fact.replace(' ∗ ', ' × ')) if ' ∗ ' in fact else ('id⊢ 𝓤 _', fact)
         out, have = [], list(self.front())
         def move(ix):
             out.append('move ! (' + ' ∷ '.join(map(str, ix)) + ' ∷ []) $')
             have[:] = [have[i] for i in ix] + [h for i, h in enumerate(have) if i not in ix]
-        lent = next((a for a in given if a[0] == '&mut'), None)
+        lent = next((a for a in given if a[0] in ('&mut', '&lent')), None)
+        mut = lent and lent[0] == '&mut'
         k = by[next(a for a in given if a[0] == '&')[1]]
         κ, q, b, o, γ = self.names(k)
         own, p = self.owner(k), self.refs()[k][1]
@@ -106,10 +109,10 @@ class Steps(Frame):
         move([have.index(e) for e in first + [e for e in self.front() if e in have and e not in first]])
         # what the callee binds: lifetimes in the order of its references
         refs = [a for a in given if a[0].startswith('&')]
-        life = [('ν ∷ []', 'fullShare') if a[0] == '&mut' else (κ, q) for a in refs]
+        life = [('ν ∷ []', 'fullShare') if a is lent else (κ, q) for a in refs]
         xs, vs = [], []
         for a in given:
-            if a[0] == '&mut':
+            if a is lent:
                 _, _, base, offset, _ = self.names(j)
                 xs.append(self.reference(j, a[2], 'δ')); vs.append(f'sliceVal ({base}, {offset}) (length {a[2]}) ∷ []')
             elif a[0] == '&':
@@ -121,9 +124,9 @@ class Steps(Frame):
         steps = [shown.strip()] if shown else []
         if lent:
             el = self.element(self.refs()[j][1])
-            items = f'‵ (flft (ν ∷ []) fullShare) ∷ ‵ (mut-own {el} {base} {offset} ν δ {lent[2]}) ∷ (‵ ({own}) ⊛ ‵ (flft {κ} {q})) ∷ []'
+            items = f'‵ (flft (ν ∷ []) fullShare) ∷ ‵ ({"mut" if mut else "shr"}-own {el} {base} {offset} ν δ {lent[2]}) ∷ (‵ ({own}) ⊛ ‵ (flft {κ} {q})) ∷ []'
             steps.append('move ! (2 ∷ []) $ split ! $')
-            ctx = ['&', 'tok&', 'tok&mut', '&mut']
+            ctx = ['&', 'tok&', 'tok' + lent[0], lent[0]]
         else:
             items, ctx = f'‵ ({own}) ∷ ‵ (flft {κ} {q}) ∷ []', ['&', 'tok&']
         steps.append('nothing ! $'); ctx.insert(0, 'acc')
@@ -138,14 +141,24 @@ class Steps(Frame):
         goes = f'qed W ({items}) ∵ {" ".join(steps)} {"" if shown else "join ! $ "}frame ! $ done !'
         opds = '(no-more !)'
         for a in reversed(given):
-            opds = f'(and-then ! {self.opd(a[-1], -2 if lent else 0)} {opds})'
+            opds = f'(and-then ! {self.opd(a[-1], -2 if mut else 1 if lent else 0)} {opds})'
         head = f'{{𝓤 = 𝓤}} {{H = H}} {{A = A}} ! fm'
         if not lent:
             have = [('tok', k)] + [e for e in self.front() if e != ('tok', k)]
             back = ' ∷ '.join(str(have.index(e)) for e in self.front())
             return (' '.join(out) + f' calls-with {head} {alias}.ended ({alias}.clauses 𝓤 H A mem run) (known .{dash(f)}′) {y} ({goes}) (‵ (flft {κ} {q})) (fst∗ 𝓤 _ (emp 𝓤)) (λ ws. ‵ ftrue) (λ ws. top 𝓤 _) '
-                    f'{paren(t.make)} (λ {r} vs p. {t.tells} {r} vs p) (λ ({r} : {t.denot}) ws. {fact}) (λ {r} ws. id⊢ 𝓤 _) {opds} (λ {r} ws g-{r} {said}. lose ! $ move ! ({back} ∷ []) $')
-        room, at = lent[3], path(given.index(lent))
+                    f'{paren(t.make)} (λ {r} vs p. {t.tells} {r} vs p) (λ ({r} : {t.denot}) ws. {fact}) (λ {r} ws. {shows}) {opds} (λ {r} ws g-{r} {said}. lose ! $ move ! ({back} ∷ []) $')
+        tokens = '‵ ftrue'
+        for l in reversed(life):
+            tokens = f'(‵ (flft ({l[0]}) {l[1]}) ⊛ {tokens})'
+        back = f'qed W ({tokens} ∷ []) ∵ ' + ('split ! $ move ! (1 ∷ []) $ split ! $ frame ! $ lose ! $ done !' if refs[0][0] == '&' else 'split ! $ frame ! $ split ! $ move ! (1 ∷ []) $ lose ! $ done !')
+        have = [('obs', j), ('bor', j), ('tok', j), ('tok', k)] + [e for e in self.front() if e[1] != j and e != ('tok', k)]
+        order = ' ∷ '.join(str(have.index(e)) for e in self.front())
+        room = lent[3]
+        if not mut:
+            return (' '.join(out) + f' calls-shr-with {head} {el} {lent[2]} {base} {offset} {room} {alias}.ended ({alias}.clauses 𝓤 H A mem run) (known .{dash(f)}′) (λ ν δ. {y}) (λ ν δ. {goes}) (‵ (flft {κ} {q})) (λ ν δ. {back}) '
+                    f'(λ ν δ. {t.make}) (λ ν δ {r} vs p. {t.tells} {r} vs p) (λ ν δ ({r} : {t.denot}). {fact}) (λ ν δ {r} ws. {shows}) (λ ν δ. {opds}) (λ ν δ {r} g-{r} {said}. move ! ({order} ∷ []) $')
+        at = path(given.index(lent))
         P = f'fsep (finally {el} δ (ws {at})) (feq ℕ (length (ws {at})) (length {lent[2]}))'
         after = 'ftrue'
         for _ in given[given.index(lent) + 1:]:
@@ -154,12 +167,6 @@ class Steps(Frame):
         for _ in given[:given.index(lent)]:
             lasts = f'fsep ftrue ({lasts})'
         lastly = f'qed W (‵ ({lasts}) ∷ []) ∵ ' + 'fsplit ! $ lose ! $ ' * given.index(lent) + 'fsplit ! $ move ! (1 ∷ []) $ lose ! $ done !'
-        tokens = '‵ ftrue'
-        for l in reversed(life):
-            tokens = f'(‵ (flft ({l[0]}) {l[1]}) ⊛ {tokens})'
-        back = f'qed W ({tokens} ∷ []) ∵ ' + ('split ! $ move ! (1 ∷ []) $ split ! $ frame ! $ lose ! $ done !' if refs[0][0] == '&' else 'split ! $ frame ! $ split ! $ move ! (1 ∷ []) $ lose ! $ done !')
-        have = [('obs', j), ('bor', j), ('tok', j), ('tok', k)] + [e for e in self.front() if e[1] != j and e != ('tok', k)]
-        order = ' ∷ '.join(str(have.index(e)) for e in self.front())
         return (' '.join(out) + f' calls-mut-with {head} {el} {lent[2]} {base} {offset} {room} {alias}.ended ({alias}.clauses 𝓤 H A mem run) (known .{dash(f)}′) (λ ν δ. {y}) (λ ν δ. {goes}) (‵ (flft {κ} {q})) (λ ν δ. {back}) '
-                f'(λ ν δ. {t.make}) (λ ν δ {r} vs p. {t.tells} {r} vs p) (λ ν δ ws. ws {at}) (λ ν δ ws. {lastly}) (λ ν δ ({r} : {t.denot}) ({us} : List {self.item(self.refs()[j][1])}). {fact}) (λ ν δ {r} ws. id⊢ 𝓤 _) (λ ν δ. {opds}) '
+                f'(λ ν δ. {t.make}) (λ ν δ {r} vs p. {t.tells} {r} vs p) (λ ν δ ws. ws {at}) (λ ν δ ws. {lastly}) (λ ν δ ({r} : {t.denot}) ({us} : List {self.item(self.refs()[j][1])}). {fact}) (λ ν δ {r} ws. {shows}) (λ ν δ. {opds}) '
                 f'(λ ν δ {r} {us} g-{r} len-{us} {said}. move ! ({order} ∷ []) $')

@@ -15,7 +15,9 @@ class Frame:
     def callee(self, g):
         other, f = g.split('::')
         base = f'Rattle.{other}.proofs.{f}' if other == self.crate else f'Rattle.{other}.proofs.{f}'
-        return other, f, base, 'fn-' + dash(f), f'#{other}·{dash(f)}', ''.join(w.capitalize() for w in f.split('_'))
+        con = ''.join(w.capitalize() for w in f.split('_'))
+        if '{' + con + '}' in self.text: con += '′'   # a type has the name
+        return other, f, base, 'fn-' + dash(f), f'#{other}·{dash(f)}', con
 
     def callee_uses(self):
         r = []

@@ -73,6 +73,12 @@ def named(t):
         ref = '&mut ' if how == 'mut' else '&'
         if 'Stream' in of and k == '0': return ('shrTy' if how == 'imm' else 'mutTy'), ref + '[Stream]'
         return f'sliceTy (tyRef (named {k}) {how} (pointee (u8 .written)))', ref + '[u8]'
+    m = re.fullmatch(r'(\(tyStruct "&\[\]" \(tcons )?\(tyRef erased (imm|mut) \(Stream\)\)(.*)', t)
+    if m:
+        lent = f'tyRef erased {m[2]} (pointee (R .written))'
+        return (f'sliceTy ({lent})' if m[1] else lent), '?'
+    m = re.fullmatch(r'\(tyArray \(tyInt 8\) \(lenLit 6\)\)', t)
+    if m: return 'six-ty', 'Six'
     m = re.fullmatch(r'\(tyInt (\d+)\)', t)
     if m: return 'tyInt w' + m[1], {'64': 'u64'}.get(m[1], 'u' + m[1])
     if t == '(Stream)': return 'ty', 'Stream'
@@ -93,7 +99,7 @@ for f in items(top[1]):
     calls = dict.fromkeys(re.findall(r'\(fnRef "([\w:]+)"\)', flat(it[5])))
     for t in types[1:1 + int(it[3])]: print('%param ?', named(t)[1])
     print('%result', named(types[0])[1])
-    if calls: print('%calls', ' '.join(calls))
+    if calls: print('%calls', ' '.join(re.sub(r'::\w+(?=::)', '', c) for c in calls))   # as the crate exports it
     print('%locals', len(types))
     by = {}
     for i, t in enumerate(types): by.setdefault(named(t)[0], []).append(str(i))

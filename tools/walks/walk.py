@@ -6,6 +6,8 @@
 
 A walk is a proof in antt with these short forms. docs/WALKS.md says how one is written.
 
+A walk that is another one with other words has one line, `%like F: word=other ..`.
+
 Of the function:
   %about TEXT               the file's first comment
   %param NAME TYPE          a parameter, in order: &[Stream], &mut [Stream], &[u8], &mut [u8], a number, bool, Stream, or a type of Values.antt.
@@ -39,8 +41,9 @@ Calls leave a bracket open. r is the result, g-r that it fits, `said` the FACT o
   : call CRATE::G | .. | .. -> TYPE r said. FACT                by value
   : lend CRATE::G 8 LIST FACT | .. -> TYPE r said. FACT         lent the table as a &[Stream], _8, while the caller keeps it; it is LIST, and FACT is that its length fits
   : lend mut CRATE::G 8 LIST FACT | .. -> TYPE r zs said. FACT  as a &mut [Stream]; zs is the list that it leaves, `len` that it is as long
-  : read CRATE::G | & NAME OPERAND | .. -> TYPE r said. FACT    handed a & parameter
+  : read CRATE::G | & NAME OPERAND | .. -> TYPE r said. FACT    handed a & parameter; and with `| &lent NAME LIST FACT OPERAND` lent a &mut one as a &
   : write CRATE::G | & NAME OPERAND | &mut NAME LIST FACT OPERAND | .. -> TYPE r vs said. FACT      and lent a &mut one; vs is what it leaves, len-vs that it is as long
+                            (of a callee with two `ensures` that is handed references FACT is `(FACT) ∗ (FACT)`)
   : lands := 7 ; EVIDENCE                   where the result goes
 """
 import os, re, sys
@@ -192,12 +195,24 @@ class Walk(Steps):
         return '\n'.join(head) + '\n\n' + body
 
 
+def source(here, f):
+    """The walk's text; of a walk that is like another one, that one's with its words changed."""
+    text = open(f'{here}/{f}.walk').read()
+    m = re.fullmatch(r'%like (\w+): (.*)\s*', text)
+    if m:
+        text = open(f'{here}/{m[1]}.walk').read()
+        for pair in m[2].split():
+            old, new = pair.split('=')
+            text = re.sub(rf'(?<![\w:-]){old}(?![\w-])', new, text)
+    return text
+
+
 def main():
     crate, want = sys.argv[1], sys.argv[2:]
     here = f'tools/walks/{crate}'
     check = want == ['--check']
     for f in sorted(x[:-5] for x in os.listdir(here) if x.endswith('.walk')) if check else want:
-        text = Walk(crate, f, open(f'{here}/{f}.walk').read()).expanded()
+        text = Walk(crate, f, source(here, f)).expanded()
         path = f'crates/{crate}/proofs/{f}/Proof.antt'
         if check:
             squeezed = lambda t: ''.join(t.split()).replace(',)', ')')

@@ -1,26 +1,24 @@
 -- What follows from demand 3. Assumes nothing.
 use Prim.Native.Nat.{ℕ, suc}
-use mathlib.Core.Path.{_≡_, refl, ap, sym, _∙_}
+use mathlib.Core.Path.{_≡_, refl, sym, _∙_}
 use mathlib.Core.Bool.{Bool, true, false}
-use mathlib.Core.List.{List, []}
+use mathlib.Core.List.{[]}
 use native.Mathlib.Omega.{arith}
 use lib.Dec.{ltb}
 use lib.ListN.{length}
-use Rattle.refusal.specs.Checks.{Said}
 use Rattle.refusal.specs.Checks.Said.{refused, answers}
 use Rattle.refusal.specs.Numbers.{TABLE}
 use Rattle.record.specs.declared.Stream.{Stream}
 use Rattle.record.specs.Words.{if_then_else_, yes}
 use Rattle.record.specs.Sizes.{slotsMost}
-use Rattle.stream.specs.Decisions.{Verdict, up, caseOf, verdict}
+use Rattle.stream.specs.Decisions.{up, caseOf, verdict}
 use Rattle.calls.specs.Table.{Table, at}
-use Rattle.calls.specs.Calls.{Call, ticking, Act, refuse, ticks, checked, act, after, answer, Answer, swept}
+use Rattle.calls.specs.Calls.{ticking, refuse, ticks, checked, act, after, answer, swept}
 use Rattle.calls.proofs.Sound.{at-ticked}
 use Rattle.demands.specs.Receiver.{Receiver, MeetsContract, theReceiver, run}
-use Rattle.demands.specs.Seen.{told, wasReset, ResetsSeen}
+use Rattle.demands.specs.Seen.{ResetsSeen}
 use Rattle.demands.specs.Unlimited.{highest}
-use Rattle.demands.specs.Demand3.{Silent, Premises}
-use Rattle.demands.specs.Corollaries.{handedOf, handed, NeverTwice, RestartGetsThrough, CountsOnce}
+use Rattle.demands.specs.Corollaries.{handed, NeverTwice, RestartGetsThrough, CountsOnce}
 use Rattle.demands.proofs.Alike.{carried, the-receiver-meets}
 use Rattle.demands.proofs.Once.{once}
 use Rattle.demands.proofs.Sums.{sums}

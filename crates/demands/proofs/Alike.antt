@@ -1,9 +1,7 @@
 -- A receiver that meets the contract is the definitions' receiver: what holds of the one holds of the other.
 -- Assumes nothing.
-use mathlib.Core.Path.{_≡_, refl, ap, ap₂, sym, subst, _∙_}
-use mathlib.Core.List.{List, [], _∷_}
-use Rattle.calls.specs.Table.{Table}
-use Rattle.calls.specs.Calls.{Call, Result, Meets}
+use mathlib.Core.Path.{_≡_, refl, sym, subst}
+use mathlib.Core.List.{[], _∷_}
 use Rattle.calls.proofs.Kept.{coincide}
 use Rattle.demands.specs.Receiver.{Receiver, MeetsContract, theReceiver, results, Ensured, RunsCoincide}
 

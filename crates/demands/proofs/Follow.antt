@@ -1,23 +1,22 @@
 -- From take-any on, a record follows the receiver with unlimited memory. Assumes nothing.
 use Prim.Native.Nat.{ℕ, _≤_}
 use mathlib.Core.Path.{_≡_, refl, ap, sym, _∙_}
-use mathlib.Core.Bool.{Bool, true, false, _&&_, not, false≢true}
+use mathlib.Core.Bool.{Bool, true, false, false≢true}
 use mathlib.Core.List.{List, [], _∷_, map, nil≢cons, cons≢nil, head-eq-of-cons-eq, tail-eq-of-cons-eq}
-use lib.Dec.{eqb}
 use borrow.Author.Tests.{ne-eqb}
 use native.Mathlib.Omega.{arith}
 use Rattle.record.specs.declared.Stream.{Stream}
 use Rattle.record.specs.Words.{yes}
 use Rattle.record.specs.Sizes.{windowLeast, windowMost, vectorRule}
 use Rattle.stream.specs.Record.{State, lawful}
-use Rattle.stream.specs.Decisions.{verdict, caseOf, stateAfter, decided, aged, reset, expires, ticked}
+use Rattle.stream.specs.Decisions.{verdict, decided, aged, reset, expires, ticked}
 use Rattle.stream.proofs.Logic.{tests}
-use Rattle.stream.proofs.Law.{Law, law}
+use Rattle.stream.proofs.Law.{law}
 use Rattle.demands.specs.Seen.{Seen, arrived, tick, ended, nothing, wasReset, lasting, every, numbers, verdicts}
-use Rattle.demands.specs.Unlimited.{judged, remembered, near, unlimited, allNear}
+use Rattle.demands.specs.Unlimited.{judged, remembered, unlimited, allNear}
 use Rattle.demands.specs.Demand3.{numberOf}
-use Rattle.demands.proofs.Moves.{Moves, Trace}
-use Rattle.demands.proofs.Linked.{Sim, Linked, Step, on-arrival}
+use Rattle.demands.proofs.Moves.{Trace}
+use Rattle.demands.proofs.Linked.{Sim, on-arrival}
 
 -- A record with the settings of a vector stream, side by side with the indices handed up.
 pub record Kept (l : ℕ) (s : Stream) (hs : List ℕ) : Type 0 where

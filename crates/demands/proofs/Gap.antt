@@ -1,34 +1,18 @@
 -- R ticks without a hand-up end in the fresh state. Assumes nothing.
-use Prim.Native.Nat.{ℕ, zero, suc, _-_, _≤_, zero-le}
+use Prim.Native.Nat.{_≤_}
 use mathlib.Core.Path.{_≡_, refl, ap, sym, _∙_}
-use mathlib.Core.Bool.{Bool, true, false, _&&_, not, false≢true}
+use mathlib.Core.Bool.{true, false≢true}
 use mathlib.Core.List.{List, [], _∷_}
 use native.Mathlib.Omega.{arith}
-use lib.Dec.{eqb}
 use Rattle.record.specs.declared.Stream.{Stream}
 use Rattle.record.specs.Words.{yes}
-use Rattle.stream.specs.Record.{State, isFresh, lawful}
-use Rattle.stream.specs.Decisions.{isUp, verdictOf, stateAfter, countsAfter, caseOf, verdict, decided, reset, expires, ticked}
+use Rattle.stream.specs.Decisions.{isUp, stateAfter, caseOf, verdict, decided}
 use Rattle.stream.proofs.Logic.{tests}
-use Rattle.stream.proofs.Law.{Law, law, unlaw, spent, fresh-parts}
+use Rattle.stream.proofs.Law.{Law, spent, fresh-parts}
 use Rattle.stream.proofs.Changes.{kept}
-use Rattle.stream.proofs.Keeps.{law-with, law-ticked}
+use Rattle.stream.proofs.Keeps.{law-with, after-tick}
 use Rattle.demands.specs.Seen.{Seen, arrived, tick, ended, nothing, calm, every, ticks}
-use Rattle.demands.proofs.Moves.{Moves, Trace}
-
--- What a tick leaves of a lawful record: its settings, and one tick less.
-record Aged (s u : Stream) : Type 0 where
-  rule : u .rule ≡ s .rule
-  window : u .window ≡ s .window
-  less : u .state .remaining ≤ s .state .remaining - 1
-
-after-tick : {s : Stream} → Law s → Aged s (ticked s)
-unfolding ticked expires reset
-after-tick {s} l = go (eqb (s .state .remaining) 1) refl
-  where
-    go : (b : Bool) → eqb (s .state .remaining) 1 ≡ b → Aged s (ticked s)
-    go true e = rw (unlaw l, e) (record { rule = refl; window = refl; less = zero-le })
-    go false e = rw (unlaw l, e) (record { rule = refl; window = refl; less = omega arith })
+use Rattle.demands.proofs.Moves.{Trace}
 
 -- Where the gap ends.
 pub record Over (s u : Stream) : Type 0 where
@@ -52,6 +36,6 @@ gap s (arrived n v ∷ es) u l (m, (e, (w, p)), r) q h =
     (gap m es u (rw p (law-with (stateAfter s n (caseOf s n)) _ l k)) r (a .1) (rw (p, k) h))
 gap s (tick b ∷ es) u l (m, (e, p), r) q h =
     let a = after-tick l in
-    onward s m (rw p (a .rule)) (rw p (a .window)) (gap m es u (rw p (law-ticked l)) r q (rw p (omega (arith, a .less))))
+    onward s m (rw p (a .rule)) (rw p (a .window)) (gap m es u (rw p (a .law)) r q (rw p (omega (arith, a .less))))
 gap s (ended ∷ es) u l m q h = absurd (false≢true q)
 gap s (nothing ∷ es) u l m q h = gap s es u l (rw (m .1 (l .used)) at (m .2)) q h

@@ -1,18 +1,21 @@
-pub mod Computing
-pub mod Runs
-pub mod Wrong
+-- The theorems, and the laws of runs that other crates may cite.
+pub mod Theorems
 pub mod Alike
 pub mod One
-pub mod Moves
-pub mod Slot
-pub mod Gap
-pub mod Wrap
-pub mod Handed
-pub mod Linked
-pub mod Follow
-pub mod Three
 pub mod Told
+pub mod Three
+pub mod After
+pub mod Parts
 pub mod Once
 pub mod Sums
-pub mod After
-pub mod Theorems
+pub mod Runs
+pub mod Wrong
+-- What they rest on.
+mod Computing
+mod Moves
+mod Slot
+mod Gap
+mod Wrap
+mod Handed
+mod Linked
+mod Follow

@@ -1,18 +1,17 @@
 -- A record and the receiver with unlimited memory, side by side: one arrival. Assumes nothing.
-use Prim.Native.Nat.{ℕ, zero, suc, _+_, _-_, _%_, _≤_, _<_, max}
+use Prim.Native.Nat.{ℕ, zero, suc, _+_, _-_, _%_, _≤_, _<_}
 use mathlib.Core.Path.{_≡_, refl, ap, sym, _∙_}
-use mathlib.Core.Bool.{Bool, true, false, _||_, false≢true}
+use mathlib.Core.Bool.{Bool, true, false, _||_}
 use mathlib.Core.List.{List, [], _∷_}
 use native.Mathlib.Omega.{arith}
 use native.Mathlib.Decide.{decLt}
 use lib.Dec.{eqb, ltb}
 use borrow.Author.Tests.{lt-ltb, le-ltb, eqb-true, eqb-false, eq-eqb, ne-eqb, leb-true}
-use Rattle.record.specs.Words.{if_then_else_}
 use Rattle.record.specs.Words.{yes as holds}
 use Rattle.record.specs.Sizes.{vectorRule, windowMost}
 use Rattle.stream.specs.History.{bit, single, advance}
 use Rattle.stream.specs.Record.{State, Stream}
-use Rattle.stream.specs.Decisions.{Verdict, up, duplicate, rogue, Case, first, far, again, late, next, Signed, ahead, behind, difference, vectorCase, caseOf, verdictOf, isUp, stateAfter}
+use Rattle.stream.specs.Decisions.{far, again, late, next, difference, vectorCase, caseOf, verdictOf, stateAfter}
 use Rattle.demands.specs.Unlimited.{elem, highest, apart, judged, remembered, near}
 use Rattle.stream.proofs.Past.{set-bit, advance-zero, advance-low, advance-high, single-bit}
 use Rattle.demands.proofs.Wrap.{forward, backward, far-forward, far-backward}

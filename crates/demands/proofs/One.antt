@@ -1,8 +1,7 @@
 -- Demand 1. Assumes nothing.
 use Prim.Native.Nat.{ℕ}
-use mathlib.Core.Path.{_≡_, subst}
 use mathlib.Core.List.{List, [], _∷_}
-use Rattle.frame.specs.TagCalls.{Outcome, Bare, takeTag, writeTag}
+use Rattle.frame.specs.TagCalls.{takeTag, writeTag}
 use Rattle.frame.specs.Refusals.{takeChecks, writeChecks}
 use Rattle.frame.proofs.Refusals.{take-refused-exactly, write-refused-exactly}
 use Rattle.frame.proofs.Others.{take-refused-keeps, write-refused-keeps}

@@ -23,7 +23,7 @@ use Rattle.calls.proofs.Kept.{length-kept}
 use Rattle.calls.proofs.Lowest.{lowest-found}
 use Rattle.calls.proofs.Sound.{at-ticked}
 use Rattle.demands.specs.Receiver.{theReceiver, run}
-use Rattle.demands.specs.Seen.{Seen, arrived, tick, ended, nothing, told, wasReset, answered, seenOf, seen, log}
+use Rattle.demands.specs.Seen.{arrived, ended, nothing, told, answered, seenOf, seen, log}
 use Rattle.demands.proofs.Moves.{Moves, Trace}
 
 pub at-set : (t : Table) (i : ℕ) (u : Stream) → i < length t → at (set t i u) i ≡ u

@@ -1,6 +1,6 @@
 -- Demand 3. Assumes nothing.
 use Prim.Native.Nat.{ℕ, zero, suc, _<_}
-use mathlib.Core.Path.{_≡_, sym, _∙_}
+use mathlib.Core.Path.{_≡_, _∙_}
 use mathlib.Core.Bool.{true, false≢true}
 use mathlib.Core.List.{List, [], _∷_}
 use native.Mathlib.Omega.{arith}
@@ -12,7 +12,7 @@ use Rattle.calls.specs.Table.{Table, at}
 use Rattle.calls.specs.Calls.{Call}
 use Rattle.demands.specs.Receiver.{Receiver, MeetsContract, theReceiver, run}
 use Rattle.demands.specs.Seen.{log}
-use Rattle.demands.specs.Demand3.{Silent, Premises, Demand3}
+use Rattle.demands.specs.Demand3.{Silent, Demand3}
 use Rattle.demands.proofs.Alike.{carried}
 use Rattle.demands.proofs.Slot.{traced, run-length}
 use Rattle.demands.proofs.Gap.{Over, gap}

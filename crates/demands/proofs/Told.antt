@@ -5,21 +5,21 @@ use mathlib.Core.Bool.{Bool, true, false, not}
 use mathlib.Core.List.{List}
 use native.Mathlib.Omega.{arith}
 use lib.Dec.{leb, ltb}
-use lib.ListN.{length, set}
+use lib.ListN.{length}
 use Rattle.refusal.specs.Checks.{Said}
 use Rattle.refusal.specs.Checks.Said.{refused, answers}
 use Rattle.refusal.specs.Numbers.{TABLE, NETWORK, LONG, SHORT, UNTAGGED, UNKNOWN, DAMAGED, ROOM}
 use Rattle.refusal.proofs.Checks.{passed}
 use Rattle.record.specs.Words.{if_then_else_}
 use Rattle.record.specs.Sizes.{slotsMost, frameMost}
-use Rattle.frame.specs.Frame.{Tag, numberOf, headShort, isTagged, tagShort, headerOf, readOf, untagged}
+use Rattle.frame.specs.Frame.{Tag, numberOf, headShort, isTagged, tagShort, headerOf, readOf}
 use Rattle.stream.specs.Record.{lawful}
-use Rattle.stream.specs.Decisions.{verdict, decided}
+use Rattle.stream.specs.Decisions.{verdict}
 use Rattle.calls.specs.Table.{Table, at, search, hasKey}
-use Rattle.calls.specs.Calls.{Call, arriving, Act, refuse, arrive, opens, closes, resets, ticks, arrivalAt, arrival, checked, act, after, answer, output, outOf, Verdict, arrived, verdictWith}
+use Rattle.calls.specs.Calls.{arriving, Act, refuse, arrive, opens, closes, resets, ticks, arrivalAt, arrival, checked, act, after, answer, Verdict, arrived, verdictWith}
 use Rattle.demands.specs.Receiver.{Receiver, MeetsContract, theReceiver}
 use Rattle.demands.specs.Seen.{told}
-use Rattle.demands.specs.Demand2.{Recovered, ArrivalsRecovered}
+use Rattle.demands.specs.Demand2.{ArrivalsRecovered}
 use Rattle.demands.proofs.Alike.{carried}
 use Rattle.demands.proofs.Slot.{told-with}
 

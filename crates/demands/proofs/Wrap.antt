@@ -1,13 +1,11 @@
 -- The signed difference of two numbers, from the indices that they stand for. Assumes nothing.
 use Prim.Native.Nat.{ℕ, zero, suc, _+_, _-_, _%_, _≤_, _<_}
-use mathlib.Core.Path.{_≡_, refl, ap, sym, _∙_}
-use mathlib.Core.Bool.{Bool, true, false}
+use mathlib.Core.Path.{_≡_}
 use native.Mathlib.Omega.{arith}
 use native.Mathlib.Decide.{decLt}
-use lib.Dec.{eqb, ltb}
-use borrow.Author.Tests.{lt-ltb, le-ltb, eq-eqb, ne-eqb}
+use borrow.Author.Tests.{lt-ltb, le-ltb, ne-eqb}
 use Rattle.stream.specs.History.{History}
-use Rattle.stream.specs.Decisions.{Case, far, Signed, ahead, behind, signed, difference, vectorCase}
+use Rattle.stream.specs.Decisions.{far, ahead, behind, signed, difference, vectorCase}
 
 -- d places ahead of the index h
 pub forward : (h d : ℕ) → 0 < d → d < 32768 → difference ((h + d) % 65536) (h % 65536) ≡ ahead d

@@ -4,18 +4,15 @@ use mathlib.Core.Path.{_≡_, refl, ap}
 use mathlib.Core.List.{List, [], _∷_}
 use native.Mathlib.Omega.{arith}
 use lib.Dec.{lit≤}
-use Rattle.refusal.specs.Checks.{Said}
 use Rattle.refusal.specs.Checks.Said.{refused, answers}
-use Rattle.record.specs.declared.Stream.{Stream}
 use Rattle.record.specs.Sizes.{vectorRule}
 use Rattle.stream.specs.Record.{fresh}
 use Rattle.stream.specs.Decisions.{Verdict, up, duplicate, rogue, verdict, decided}
 use Rattle.calls.specs.Table.{Table, at}
-use Rattle.calls.specs.Calls.{Act, refuse, arrive, opens, closes, resets, ticks, act, after, answer, output, outOf, Result, Answer, arrived, handedUp, Call, ticking}
+use Rattle.calls.specs.Calls.{Act, refuse, arrive, opens, closes, resets, ticks, act, after, answer, output, outOf, Result, arrived, handedUp, ticking}
 use Rattle.calls.specs.Calls as calls
-use Rattle.demands.specs.Receiver.{Receiver}
 use Rattle.demands.specs.Demand2.{Demand2}
-use Rattle.demands.specs.Demand3.{Demand3, Premises}
+use Rattle.demands.specs.Demand3.{Demand3}
 use Rattle.demands.specs.Wrong.{byAct, deciding, refusesEverything, findsDuplicates, marksNothing, handsUpAll, inventsCounters, duplicateRenews, rogueRenews, RightOtherwise, RuledOut}
 use Rattle.demands.specs.Examples.{from, stream, alone, silence}
 use Rattle.demands.proofs.Computing.{computing}

@@ -7,9 +7,9 @@ use Prim.Native.Nat.{ℕ}
 use mathlib.Core.Path.{_≡_}
 use mathlib.Core.Logic.{_↔_}
 use mathlib.Core.List.{List}
-use Rattle.refusal.specs.Checks.{Said, Check, First}
+use Rattle.refusal.specs.Checks.{Check, First}
 use Rattle.refusal.specs.Checks.Said.{refused}
-use Rattle.frame.specs.TagCalls.{Outcome, Bare}
+use Rattle.frame.specs.TagCalls.{Outcome}
 use Rattle.frame.specs.Refusals.{takeChecks, writeChecks}
 use Rattle.calls.specs.Table.{Table}
 use Rattle.calls.specs.Calls.{Call, outOf}

@@ -5,7 +5,6 @@ use Prim.Native.Nat.{ℕ}
 use mathlib.Core.Path.{_≡_}
 use mathlib.Core.List.{List}
 use lib.ListN.{set}
-use Rattle.refusal.specs.Checks.{Said}
 use Rattle.refusal.specs.Checks.Said.{answers}
 use Rattle.frame.specs.Frame.{numberOf}
 use Rattle.stream.specs.Decisions.{verdict, decided}

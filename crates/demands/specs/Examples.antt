@@ -8,12 +8,12 @@ use Rattle.record.specs.declared.Counts.{Counts}
 use Rattle.record.specs.declared.Stream.{Stream}
 use Rattle.record.specs.Sizes.{vectorRule, matchRule}
 use Rattle.frame.specs.Frame.{destOf}
-use Rattle.stream.specs.Record.{State, fresh, opened}
+use Rattle.stream.specs.Record.{State, opened}
 use Rattle.stream.specs.Decisions.{Verdict, up, duplicate, rogue, with}
 use Rattle.calls.specs.Table.{Table, blank, at}
 use Rattle.calls.specs.Calls.{Call, arriving, opening, closing, resetting, ticking}
 use Rattle.demands.specs.Receiver.{theReceiver, run}
-use Rattle.demands.specs.Seen.{Seen, arrived, tick, ended, nothing, log, numbers, verdicts, lasting, every}
+use Rattle.demands.specs.Seen.{Seen, arrived, tick, nothing, log, numbers, verdicts, lasting, every}
 use Rattle.demands.specs.Unlimited.{apart, unlimited, allNear}
 use Rattle.demands.specs.Demand3.{numberOf, Silent, Premises}
 

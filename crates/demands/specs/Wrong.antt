@@ -1,7 +1,7 @@
 -- Document 01, "What the contracts have to say" and "Errors that look right": the wrong receivers that the demands rule
 -- out, each as a function of the same type. Assumes nothing.
 use Prim.Native.Nat.{ℕ}
-use mathlib.Core.Bool.{Bool, true, false}
+use mathlib.Core.Bool.{false}
 use mathlib.Core.List.{List}
 use lib.ListN.{length, set}
 use Rattle.refusal.specs.Checks.Said.{refused, answers}
@@ -10,9 +10,9 @@ use Rattle.record.specs.declared.Stream.{Stream}
 use Rattle.record.specs.Words.{if_then_else_, yes}
 use Rattle.stream.specs.Decisions.{Verdict, up, duplicate, isDuplicate, isRogue, handedUp, with, tally, verdict, decided}
 use Rattle.calls.specs.Table.{Table, at}
-use Rattle.calls.specs.Calls.{Call, Act, refuse, arrive, opens, closes, resets, ticks, act, after, answer, output, outOf, Result, verdictWith, writtenFor}
+use Rattle.calls.specs.Calls.{Act, refuse, arrive, opens, closes, resets, ticks, act, after, answer, output, outOf, Result, verdictWith, writtenFor}
 use Rattle.calls.specs.Calls as calls
-use Rattle.demands.specs.Receiver.{Receiver, MeetsContract, theReceiver}
+use Rattle.demands.specs.Receiver.{Receiver, MeetsContract}
 use Rattle.demands.specs.Demand2.{Demand2}
 use Rattle.demands.specs.Demand3.{Demand3}
 
@@ -67,8 +67,8 @@ unfoldable pub rogueRenews : Receiver
 rogueRenews = deciding verdict (λ s n network.
     if isRogue (verdict s n) then renewed (decided s n network) else decided s n network)
 
--- With the definitions' own decision the same function is the definitions' receiver: so each of them is wrong in nothing
--- but what its line says.
+-- With the definitions' own decision `deciding` meets the contract: so each receiver that is made by it is wrong in
+-- nothing but the decision that its line gives.
 abbrev pub RightOtherwise : Type 0
 RightOtherwise = MeetsContract (deciding verdict decided)
 

@@ -9,8 +9,26 @@ use Rattle.calls.proofs.Found.Laws as Found-laws
 use Rattle.calls.specs.declared.Turn.{Turn}
 use Rattle.calls.proofs.Turn as Turn-type
 use Rattle.calls.proofs.Turn.Laws as Turn-laws
+use Rattle.calls.specs.declared.Change.{Change}
+use Rattle.calls.proofs.Change as Change-type
+use Rattle.calls.proofs.Change.Laws as Change-laws
+use Rattle.calls.specs.declared.Placing.{Placing}
+use Rattle.calls.proofs.Placing as Placing-type
+use Rattle.calls.proofs.Placing.Laws as Placing-laws
+use Rattle.calls.specs.declared.Sums.{Sums}
+use Rattle.calls.proofs.Sums as Sums-type
+use Rattle.calls.proofs.Sums.Laws as Sums-laws
+use Rattle.calls.specs.declared.Swept.{Swept}
+use Rattle.calls.proofs.Swept as Swept-type
+use Rattle.calls.proofs.Swept.Laws as Swept-laws
+use Rattle.frame.specs.declared.Header.{Header}
+use Rattle.frame.proofs.Header as Header-type
+use Rattle.frame.proofs.Header.Laws as Header-laws
+use Rattle.calls.specs.declared.Asked.{Asked}
+use Rattle.calls.proofs.Asked as Asked-type
+use Rattle.calls.proofs.Asked.Laws as Asked-laws
 use Rattle.receiver.proofs.Rows.{Ok}
-use Rattle.receiver.proofs.Values.{found-ok, sums-ok, turn-ok}
+use Rattle.receiver.proofs.Values.{found-ok, sums-ok, turn-ok, done-ok, change-ok, swept-ok, opened-ok, placing-ok, header-ok, asked-ok}
 
 pub at-ok : (i : ℕ) → i < 2 ^ 64 → found-ok (Found.At i)
 at-ok i g = Enum-laws.owes Found-type.the-type Found-laws.the-laws (Found.At i) ((refl, g), tt)
@@ -26,3 +44,49 @@ turn-stream v g = Struct-laws.owed Turn-type.the-type Turn-laws.the-laws v _ g .
 
 pub turn-sums : (v : Turn) → turn-ok v → sums-ok (v .sums)
 turn-sums v g = Struct-laws.owed Turn-type.the-type Turn-laws.the-laws v _ g .1 .0
+
+-- ---- what a close or a reset answers and stores; what an open does
+
+pub change-answer : (v : Change) → change-ok v → done-ok (v .answer)
+change-answer v g = Struct-laws.owed Change-type.the-type Change-laws.the-laws v _ g .0
+
+pub change-slot : (v : Change) → change-ok v → v .slot < 2 ^ 64
+change-slot v g = Struct-laws.owed Change-type.the-type Change-laws.the-laws v _ g .1 .0 .1
+
+pub change-stream : (v : Change) → change-ok v → Ok (v .stream)
+change-stream v g = Struct-laws.owed Change-type.the-type Change-laws.the-laws v _ g .1 .1 .0
+
+pub placing-answer : (v : Placing) → placing-ok v → opened-ok (v .answer)
+placing-answer v g = Struct-laws.owed Placing-type.the-type Placing-laws.the-laws v _ g .0
+
+pub placing-slot : (v : Placing) → placing-ok v → v .slot < 2 ^ 64
+placing-slot v g = Struct-laws.owed Placing-type.the-type Placing-laws.the-laws v _ g .1 .0 .1
+
+pub placing-stream : (v : Placing) → placing-ok v → Ok (v .stream)
+placing-stream v g = Struct-laws.owed Placing-type.the-type Placing-laws.the-laws v _ g .1 .1 .0
+
+-- ---- the answers of a tick
+
+pub refused-ok : (n : ℕ) → n < 2 ^ 8 → swept-ok (Swept.Refused n)
+refused-ok n g = Enum-laws.owes Swept-type.the-type Swept-laws.the-laws (Swept.Refused n) ((refl, g), tt)
+
+pub counted-ok : (c : Sums) → sums-ok c → swept-ok (Swept.Counted (c .resets) (c .damaged))
+counted-ok c g =
+    let f = Struct-laws.owed Sums-type.the-type Sums-laws.the-laws c _ g in
+    Enum-laws.owes Swept-type.the-type Swept-laws.the-laws (Swept.Counted (c .resets) (c .damaged)) ((refl, f .0 .1), ((refl, f .1 .0 .1), tt))
+
+-- what an arrival asks: its header and number
+pub asked-header : (h : Header) (number : ℕ) → asked-ok (Asked.For h number) → header-ok h
+asked-header h number g = Enum-laws.owed Asked-type.the-type Asked-laws.the-laws (Asked.For h number) _ g .0
+
+pub asked-number : (h : Header) (number : ℕ) → asked-ok (Asked.For h number) → number < 2 ^ 16
+asked-number h number g = Enum-laws.owed Asked-type.the-type Asked-laws.the-laws (Asked.For h number) _ g .1 .0 .1
+
+pub header-dest : (h : Header) → header-ok h → h .dest < 2 ^ 64
+header-dest h g = Struct-laws.owed Header-type.the-type Header-laws.the-laws h _ g .0 .1
+
+pub header-vlan : (h : Header) → header-ok h → h .vlan < 2 ^ 16
+header-vlan h g = Struct-laws.owed Header-type.the-type Header-laws.the-laws h _ g .1 .0 .1
+
+pub header-at : (h : Header) → header-ok h → h .at < 2 ^ 64
+header-at h g = Struct-laws.owed Header-type.the-type Header-laws.the-laws h _ g .1 .1 .0 .1

@@ -1,11 +1,23 @@
 // The table that the caller lends: a slice of stream records. Each function here is a thin walk over it; what is decided
 // of one record is decided by value in the crates below.
+pub use calls::Answer;
+use calls::Asked;
+pub use calls::Done;
 use calls::Found;
+use calls::Judged;
+pub use calls::Opened;
 use calls::Sums;
 use calls::Survey;
+pub use calls::Swept;
+pub use calls::Verdict;
 use record::Stream;
 ghost use mathlib.Core.Path.{_≡_};
-ghost use lib.ListN.{set};
+ghost use mathlib.Core.List.{[]};
+ghost use Prim.Native.Nat.{_<_};
+ghost use lib.ListN.{length, set};
+ghost use Rattle.calls.specs.Calls.{arriving, opening, closing, resetting, ticking, Meets};
+ghost use Rattle.calls.specs.Said.{saidArrival, saidOpened, saidDone, saidSwept};
+ghost use Rattle.calls.specs.Steps.{judged, recordOf};
 ghost use Rattle.calls.specs.Table.{at, found, hasKey, surveyed};
 ghost use Rattle.calls.specs.Ticks.{sums, tickedAll};
 
@@ -70,4 +82,78 @@ fn sweep(t: &mut [Stream]) -> Sums
         i = i + 1;
     }
     sums
+}
+
+// One record settled: what the arrival is to it, and the record after it. The record is read again on purpose: so no
+// counter is carried over the first step.
+fn settle(t: &mut [Stream], i: usize, network: u8, number: u16, room: bool) -> Judged
+    requires { ⌜ i < length (now t) ⌝ }
+    ensures { λ r. ⌜ (r ≡ judged (at (now (t .entry)) i) number room) × (now (t .exit) ≡ set (now (t .entry)) i (recordOf (at (now (t .entry)) i) network r)) ⌝ }
+{
+    let j = calls::judge(t[i], number, room);
+    t[i] = calls::record_after(t[i], network, j);
+    j
+}
+
+// ---- the calls
+// What a call comes to is `Meets`, for every table and every input. Open, close and reset copy a record out of the table,
+// decide by value, and store: a refused call stores beyond the table, which is nothing.
+
+// Arrival: 1 to 8. 1 to 5 are answered before the table is searched, and the room is known before anything is marked.
+pub fn arrival(t: &mut [Stream], network: u8, frame: &[u8], out: &mut [u8]) -> Answer
+    ensures { λ r. ⌜ Meets (now (t .entry)) (arriving network (now (frame .entry)) (now (out .entry))) (record { said = saidArrival r; table = now (t .exit); output = now (out .exit) }) ⌝ }
+{
+    let q = calls::ask(t.len(), network, frame);
+    let Asked::For(h, number) = q else {
+        return calls::refused(q);
+    };
+    let f = find(t, h.dest, h.vlan);
+    let Found::At(i) = f else {
+        return calls::unknown();
+    };
+    let room = calls::fits(frame, out);
+    let j = settle(t, i, network, number, room);
+    calls::finish(j, i, h.at, number, frame, out)
+}
+
+// Open: 1, 9, 10, 11. It fills the lowest free slot, closed ones included, with a fresh record, counters zero.
+pub fn open(t: &mut [Stream], dest: [u8; 6], vlan: u16, rule: u8, window: u16, time: u16) -> Opened
+    ensures { λ r. ⌜ Meets (now (t .entry)) (opening dest vlan rule window time) (record { said = saidOpened r; table = now (t .exit); output = [] }) ⌝ }
+{
+    let key = frame::destination(dest);
+    let v = survey(t, key, vlan);
+    let p = calls::place(t.len(), v, key, vlan, rule, window, time);
+    store(t, p.slot, p.stream);
+    p.answer
+}
+
+// Close: 1, 12. The slot becomes free; its other fields stay. A damaged record can be closed.
+pub fn close(t: &mut [Stream], slot: usize) -> Done
+    ensures { λ r. ⌜ Meets (now (t .entry)) (closing slot) (record { said = saidDone r; table = now (t .exit); output = [] }) ⌝ }
+{
+    let s = record_at(t, slot);
+    let c = calls::close(t.len(), slot, s);
+    store(t, c.slot, c.stream);
+    c.answer
+}
+
+// Reset: 1, 12, then 7 only if the settings are out of range. Otherwise fresh state, resets rises.
+pub fn reset(t: &mut [Stream], slot: usize) -> Done
+    ensures { λ r. ⌜ Meets (now (t .entry)) (resetting slot) (record { said = saidDone r; table = now (t .exit); output = [] }) ⌝ }
+{
+    let s = record_at(t, slot);
+    let c = calls::reset(t.len(), slot, s);
+    store(t, c.slot, c.stream);
+    c.answer
+}
+
+// Tick: 1. Every lawful record that has ticks left has one less, and is reset where that gives 0.
+pub fn tick(t: &mut [Stream]) -> Swept
+    ensures { λ r. ⌜ Meets (now (t .entry)) ticking (record { said = saidSwept r; table = now (t .exit); output = [] }) ⌝ }
+{
+    if t.len() > Stream::SLOTS_MOST {
+        return Swept::Refused(refusal::TABLE);
+    }
+    let c = sweep(t);
+    Swept::Counted(c.resets, c.damaged)
 }
