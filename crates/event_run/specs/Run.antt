@@ -1,0 +1,56 @@
+-- Document 01, "Event file and the program `events`": a run over an event file that is read in pieces. What it has printed
+-- and what it will print stay the lines of the file. Assumes nothing.
+use Prim.Native.Nat.{ℕ, _+_, _-_, _%_, _^_, _≤_}
+use mathlib.Core.Path.{_≡_}
+use mathlib.Core.Bool.{_&&_}
+use mathlib.Core.List.{List, _++_}
+use lib.ListN.{length, take, drop}
+use lib.Dec.{ltb, leb}
+use Rattle.record.specs.Words.{if_then_else_}
+use Rattle.record.specs.Sizes.{frameMost}
+use Rattle.calls.specs.Table.{Table}
+use Rattle.event_file.specs.Records.{recordsOf, readAt, asked}
+use Rattle.event_file.specs.Lines.{lineOf, saidTold}
+use Rattle.event_file.specs.Buffers.{Writes, lineMost}
+use Rattle.event_file.specs.Files.{entryFor, tableAfter, linesFrom}
+use Rattle.event_file.specs.declared.reader.Read.{Read}
+use Rattle.event_file.specs.declared.reader.Read.the-variants.{More}
+use Rattle.event_file.specs.declared.line.Told.{Told}
+use Rattle.event_run.specs.declared.Place.{Place}
+
+-- The lines that wait, and then all that is printed of the rest of the input, from this table and place on.
+unfoldable pub due : Table → Place → (lines rest : List ℕ) → List ℕ
+due t p lines rest = take (p .used) lines ++ linesFrom t (p .number) (recordsOf rest)
+
+-- The largest number that a record can have.
+abbrev pub lastNumber : ℕ
+lastNumber = 2 ^ 64 - 1
+
+-- The next record that can be answered: it is whole, there is room for its line, and there is a number for the one after
+-- it. (Nobody meets the last of these: a file of 2^64 records takes centuries.)
+unfoldable pub nextOf : Place → (input : List ℕ) (room : ℕ) → Read
+nextOf p input room =
+    if leb (p .used + lineMost) room && ltb (p .number) lastNumber then readAt input (p .at)
+    else More
+
+-- What the answer of a record leaves: the table after it, and what is told of it.
+pub record Handled (t : Table) (b out : List ℕ) (after : Table) (told : Told) : Type 0 where
+  pub table : after ≡ tableAfter t (asked out b)
+  pub entry : saidTold told ≡ entryFor t (asked out b)
+
+-- What is noted of a record: its line behind those that wait, and the next record's number and place.
+pub record Noted (p : Place) (end : ℕ) (told : Told) (old new : List ℕ) (r : Place) : Type 0 where
+  pub line : Writes lineMost (lineOf (p .number) (saidTold told)) (p .used) old new (r .used)
+  pub number : r .number ≡ (p .number + 1) % 2 ^ 64
+  pub place : r .at ≡ end
+
+-- Whatever comes after the input, what is due stays as it was; and the places stay within the buffers.
+pub record Kept (t : Table) (p : Place) (input old : List ℕ) (u : Table) (r : Place) (new : List ℕ) : Type 0 where
+  pub same : (rest : List ℕ) → due u r new (drop (r .at) input ++ rest) ≡ due t p old (drop (p .at) input ++ rest)
+  pub within : p .at ≤ length input → r .at ≤ length input
+  pub room : p .used ≤ length old → r .used ≤ length new
+
+-- All records that can be answered are: what is due stays, and no such record is left.
+pub record Drained (t : Table) (p : Place) (input old out : List ℕ) (u : Table) (r : Place) (new : List ℕ) : Type 0 where
+  pub kept : length out ≡ frameMost → Kept t p input old u r new
+  pub none : nextOf r input (length new) ≡ More

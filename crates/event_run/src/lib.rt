@@ -1,0 +1,92 @@
+// An event file, read in pieces, and the lines that answer it (document 01, "Event file and the program `events`").
+use event_file::line::Told;
+use event_file::reader::Read;
+ghost use mathlib.Core.Path.{_≡_};
+ghost use Prim.Native.Nat.{_+_, _-_, _≤_, _<_};
+ghost use lib.ListN.{length, take, drop};
+ghost use Rattle.event_run.specs.Run.{nextOf, Noted};
+
+// Where a run is: the next record's number and its place in the input, and how many bytes of lines wait.
+pub struct Place {
+    pub number: u64,
+    pub at: usize,
+    pub used: usize,
+}
+
+// The next record that can be answered, with so much room for lines: it is whole, there is room for its line, and there is
+// a number for the one after it.
+fn seek(p: Place, input: &[u8], room: usize) -> Read
+    ensures { λ r. ⌜ r ≡ nextOf p (now (input .entry)) room ⌝ }
+{
+    if room < event_file::line::LINE {
+        return Read::More;
+    }
+    if room - event_file::line::LINE < p.used {
+        return Read::More;
+    }
+    if p.number == u64::MAX {
+        return Read::More;
+    }
+    event_file::reader::next(input, p.at)
+}
+
+// The line of a record that ends at a place, behind those that wait, and where the run is then.
+fn note(p: Place, end: usize, told: Told, lines: &mut [u8]) -> Place
+    ensures { λ r. ⌜ Noted p end told (now (lines .entry)) (now (lines .exit)) r ⌝ }
+{
+    let used = event_file::line::say(p.number, told, lines, p.used);
+    Place {
+        number: std::num::wrapping_add_u64(p.number, 1),
+        at: end,
+        used,
+    }
+}
+
+// Moves the bytes from a place up to another to the front, and answers how many.
+fn shift(input: &mut [u8], at: usize, to: usize) -> usize
+    requires { ⌜ (at ≤ to) × (to ≤ length (now input)) ⌝ }
+    ensures { λ r. ⌜ (r ≡ to - at) × (take r (now (input .exit)) ≡ take r (drop at (now (input .entry)))) ⌝ }
+{
+    let n = to - at;
+    let mut i = 0;
+    while i < n {
+        input[i] = input[at + i];
+        i += 1;
+    }
+    n
+}
+
+// Writes the first bytes of the lines. Answers whether they went out.
+fn flush(onto: i32, lines: &[u8], used: usize) -> bool
+    requires { ⌜ used ≤ length (now lines) ⌝ }
+{
+    io::write_all(onto, &lines[..used])
+}
+
+// What one read brought: the place up to which the buffer is read now, and the read's answer.
+struct Piece {
+    to: usize,
+    got: isize,
+}
+
+// Reads a piece behind the bytes that are left. There is room for one, so that no byte read means the end of the input.
+fn fill(from: i32, input: &mut [u8], left: usize) -> Piece
+    requires { ⌜ left < length (now input) ⌝ }
+    ensures { λ r. ⌜ (left ≤ r .to) × (r .to ≤ length (now (input .exit))) ⌝ }
+{
+    let got = libc::read(from, &mut input[left..]);
+    let n = io::count(got, &input[left..]);
+    Piece { to: left + n, got }
+}
+
+// The last lines. After a read that failed, no `end` or `cut` is due.
+fn close(onto: i32, ended: bool, left: usize, lines: &mut [u8], used: usize)
+    requires { ⌜ used ≤ length (now lines) ⌝ }
+{
+    if ended {
+        let all = event_file::line::say_last(left, lines, used);
+        flush(onto, lines, all);
+    } else {
+        flush(onto, lines, used);
+    }
+}
