@@ -8,9 +8,10 @@ use mathlib.Core.List.{List}
 use lib.ListN.{length, length-append, length-take, length-drop}
 use lib.Dec.{ltb, eqb}
 use borrow.Author.Tests.{lt-ltb, le-ltb, le-leb, lt-leb, ne-eqb, ltb-false}
+use Rattle.refusal.specs.Checks.{Said}
 use Rattle.refusal.specs.Checks.Said.{refused, answers}
 use Rattle.refusal.specs.Numbers.{LONG, SHORT, ROOM, TAGGED}
-use Rattle.refusal.proofs.Checks.{passed}
+use Rattle.refusal.proofs.Checks.{passed, same-value}
 use Rattle.record.specs.Sizes.{frameMost, untaggedMost}
 use Rattle.frame.specs.Bytes.{overlay}
 use Rattle.frame.specs.Frame.{typeAt, hasVlan, isTagged, headShort, readOf, cutAt, tagAt, tagged, writeOf}
@@ -200,3 +201,16 @@ wrote-is f n e =
     let b = passed (headShort f) SHORT (a .1) in
     let c = passed (isTagged f) TAGGED (b .1) in
     record { few = ltb-false _ _ (a .0); room = head-room f (b .0); plain = c .0; same = cc (c .1) }
+
+-- what write a tag answers fits into the output
+pub written-fits : (f : List ℕ) (n : ℕ) (out : List ℕ) {l : ℕ} → writeTag f n out .said ≡ answers l → l ≤ length out
+unfolding writeTag writeInto
+written-fits f n out {l} e = go (writeOf f n) e
+  where
+    pick : (g : List ℕ) (b : Bool) → ltb (length out) (length g) ≡ b → picks b (length g) out (overlay g out) .said ≡ answers l → l ≤ length out
+    pick g true h w = absurd (let z : _≡_ {A = ℕ} 0 1 = cc in omega arith)
+    pick g false h w = omega (arith, same-value w, ltb-false (length out) (length g) h)
+
+    go : (x : Said (List ℕ)) → writeInto out x .said ≡ answers l → l ≤ length out
+    go (refused k) w = absurd (let z : _≡_ {A = ℕ} 0 1 = cc in omega arith)
+    go (answers g) w = pick g (ltb (length out) (length g)) refl w
