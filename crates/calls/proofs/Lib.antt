@@ -7,11 +7,12 @@ pub mod Visits
 pub mod Acts
 pub mod Arrivals
 pub mod Slots
--- Of the calls: their refusals, what they keep, no damage, taking a tag out alike, the worked example.
+-- Of the calls: their refusals, what they keep, no damage, taking a tag out alike, the two halves, the worked example.
 pub mod Exactly
 pub mod Kept
 pub mod Sound
 pub mod Alike
+pub mod Halves
 pub mod Worked
 -- What the proofs of the functions rest on.
 mod Bools

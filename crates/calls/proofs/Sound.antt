@@ -19,14 +19,15 @@ use Rattle.stream.specs.Decisions.{expires, ticked}
 use Rattle.stream.proofs.Keeps.{reset-lawful, opened-lawful, ticked-lawful, decided-lawful}
 use Rattle.calls.specs.Table.{Table, blank, at, someSlot, isFree}
 use Rattle.calls.specs.Calls.{Call, arriving, opening, closing, resetting, ticking, Act, refuse, arrive, opens, closes, resets, ticks, arrivalAt, arrival, inUse, open-call, checked, act, after}
-use Rattle.calls.specs.Laws.{NoneDamaged, OpenLawful, ResetLawful}
+use Rattle.calls.specs.Laws.{NoneDamaged, OpenLawful, OpenTakesFree, ResetLawful}
 use Rattle.calls.proofs.Places.{some-place}
+use Rattle.calls.proofs.Lowest.{lowest-found}
 
 -- what is known of each
 abbrev pub Fact : Table → Act → Type 0
 Fact t (refuse n) = Unit {0}
 Fact t (arrive i number network bare) = (i < length t) × (lawful (at t i) ≡ true)
-Fact t (opens i s) = (i < length t) × (lawful s ≡ true)
+Fact t (opens i s) = (i < length t) × (lawful s ≡ true) × (isFree (at t i) ≡ true)
 Fact t (closes i) = i < length t
 Fact t (resets i) = (i < length t) × (yes (at t i .used) ≡ true) × (settled (at t i) ≡ true)
 Fact t ticks = Unit {0}
@@ -63,7 +64,7 @@ module _ (t : Table) where
   checked-known (arriving network f out) = known (ltb 1 network) (λ e. nothing) (λ e. arrival-known network f out (readOf f))
   checked-known (opening dest vlan rule window time) =
       known (not (settled _)) (λ e. nothing) (λ e. known (someSlot _ t) (λ k. nothing) (λ k. known (not (someSlot isFree t)) (λ f. nothing)
-      (λ f. record { fact = (some-place isFree t (not-false _ f), opened-lawful (destOf dest) vlan rule window time (not-false _ e)) })))
+      (λ f. record { fact = (some-place isFree t (not-false _ f), opened-lawful (destOf dest) vlan rule window time (not-false _ e), lowest-found isFree t (not-false _ f) .1) })))
   checked-known (closing i) = known (inUse t i) (λ e. record { fact = used-known i e .0 }) (λ e. nothing)
   checked-known (resetting i) =
       known (not (inUse t i)) (λ e. nothing) (λ e. known (not (settled (at t i))) (λ s. nothing)
@@ -129,6 +130,9 @@ none-damaged t c s j = after-sound t s (act t c) (act-known t c) j
 pub open-lawful : OpenLawful
 unfolding after
 open-lawful t c i s e = let k = rw e at (act-known t c) in rw e (ap lawful (getD-set-same t i s blank (k .fact .0)) ∙ k .fact .1)
+
+pub open-takes-free : OpenTakesFree
+open-takes-free t c i s e = let k = rw e at (act-known t c) in (k .fact .0, k .fact .2)
 
 pub mended : ResetLawful
 unfolding after

@@ -11,12 +11,14 @@ use Rattle.refusal.specs.Checks.Said.{refused, answers}
 use Rattle.refusal.specs.Numbers.{LONG, SHORT, UNTAGGED}
 use Rattle.record.specs.declared.Stream.{Stream}
 use Rattle.record.specs.Sizes.{slotsMost}
-use Rattle.frame.specs.Frame.{destOf, vlanOf}
+use Rattle.record.specs.Words.{yes}
+use Rattle.frame.specs.Bytes.{overlay}
+use Rattle.frame.specs.Frame.{destOf, vlanOf, writeOf}
 use Rattle.frame.specs.TagCalls.{takeTag}
 use Rattle.stream.specs.Record.{lawful, damaged}
 use Rattle.stream.specs.Decisions.{up}
-use Rattle.calls.specs.Table.{Table, at, search, someSlot, hasKey}
-use Rattle.calls.specs.Calls.{Call, arriving, Act, refuse, arrive, opens, closes, resets, ticks, act, after, answer, output, outOf, writtenFor, Result, Meets}
+use Rattle.calls.specs.Table.{Table, at, search, someSlot, hasKey, isFree}
+use Rattle.calls.specs.Calls.{Call, arriving, Act, refuse, arrive, opens, closes, resets, ticks, act, after, answer, output, outOf, writtenFor, handedUp, arrived, Result, Meets}
 use Rattle.calls.specs.Said.{saidArrival, saidOpened, saidDone, saidSwept}
 use Rattle.calls.specs.declared.Answer.{Answer}
 use Rattle.calls.specs.declared.Opened.{Opened}
@@ -76,6 +78,10 @@ NoneDamaged =
 abbrev pub OpenLawful : Type 0
 OpenLawful = (t : Table) (c : Call) (i : ℕ) (s : Stream) → act t c ≡ opens i s → lawful (at (after t (act t c)) i) ≡ true
 
+-- An open never takes a slot in use.
+abbrev pub OpenTakesFree : Type 0
+OpenTakesFree = (t : Table) (c : Call) (i : ℕ) (s : Stream) → act t c ≡ opens i s → (i < length t) × (isFree (at t i) ≡ true)
+
 abbrev pub ResetLawful : Type 0
 ResetLawful = (t : Table) (c : Call) (i : ℕ) → act t c ≡ resets i → lawful (at (after t (act t c)) i) ≡ true
 
@@ -102,3 +108,14 @@ TakeWritesAlike =
     (t : Table) (network : ℕ) (f out : List ℕ) (i number : ℕ) (bare : List ℕ)
     → act t (arriving network f out) ≡ arrive i number network bare
     → takeTag f out ≡ record { said = answers (record { number = number; length = length bare }); bytes = writtenFor up bare out }
+
+-- The two halves fit: a frame that went through the writer, and then through an arrival of a stream that takes any number,
+-- is handed up as it was before.
+abbrev pub HalvesFit : Type 0
+HalvesFit =
+    (t : Table) (network : ℕ) (f : List ℕ) (number : ℕ) (g out : List ℕ) (i : ℕ)
+    → length t ≤ slotsMost → network ≤ 1 → number < 65536 → writeOf f number ≡ answers g
+    → someSlot (hasKey (destOf f) (vlanOf f)) t ≡ true → i ≡ search (hasKey (destOf f) (vlanOf f)) t
+    → lawful (at t i) ≡ true → yes (at t i .state .any) ≡ true → length f ≤ length out
+    → (answer t (act t (arriving network g out)) ≡ answers (arrived i number (handedUp (length f))))
+    × (output t out (act t (arriving network g out)) ≡ overlay f out)
