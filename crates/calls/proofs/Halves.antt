@@ -1,15 +1,14 @@
 -- What the writer makes, an arrival hands up. Assumes nothing.
-use Prim.Native.Nat.{ℕ, _+_, _-_, _≤_, _<_}
+use Prim.Native.Nat.{_+_, _-_, _≤_, _<_}
 use mathlib.Core.Path.{_≡_, refl, sym, ap, _∙_}
-use mathlib.Core.List.{List}
 use native.Mathlib.Omega.{arith}
 use lib.ListN.{length}
 use borrow.Author.Tests.{le-ltb, lt-leb}
-use Rattle.frame.specs.Frame.{typeAt, untagged}
+use Rattle.frame.specs.Frame.{typeAt}
 use Rattle.frame.proofs.Writes.{wrote-is, tag-length}
 use Rattle.frame.proofs.PutThenTake.{put-then-take}
 use Rattle.stream.specs.Decisions.{caseOf, verdict}
-use Rattle.calls.specs.Calls.{arriving, arrive, arrivalAt, arrival, checked, act, answer, output}
+use Rattle.calls.specs.Calls.{arrivalAt, arrival, checked, act, answer, output}
 use Rattle.calls.specs.Laws.{HalvesFit}
 use Rattle.calls.proofs.Places.{some-place}
 

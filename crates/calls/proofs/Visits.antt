@@ -1,9 +1,9 @@
 -- A tick of a whole table, record by record. Assumes nothing.
---     risen, visits                the code's steps are the definitions'
+--     visits                       the code's steps are the definitions'
 --     sums-nil, sums-snoc          the sums of a table with one record more, behind: one visit more, as long as they fit
 --     ticked-nil, ticked-snoc, ticked-length   the table after it, likewise; it is as long
 use mathlib.Core.Path.{_≡_, refl, sym, _∙_, ap}
-use Prim.Native.Nat.{ℕ, suc, _+_, _%_, _^_, _<_, _≤_}
+use Prim.Native.Nat.{ℕ, suc, _+_, _^_, _<_, _≤_}
 use native.Mathlib.Omega.{arith}
 use native.Mathlib.Nat.{mod-eq-of-lt}
 use mathlib.Core.Bool.{Bool, true, false, cond}
@@ -18,9 +18,6 @@ use Rattle.calls.specs.Table.{Table, count}
 use Rattle.calls.specs.Ticks.{tickedAll, sums, noSums, visited}
 use Rattle.calls.specs.declared.Sums.{Sums}
 use Rattle.calls.specs.declared.Turn.{Turn}
-
-pub risen : (test : Bool) (n r : ℕ) → test ≡ true → r ≡ (n + 1) % 2 ^ 64 → r ≡ counted test n
-risen test n r e f = rw e f
 
 pub visits : (c : Sums) (s : Stream) (k : Ticked) (m d : ℕ) → k ≡ tickOf s → m ≡ counted (k .reset) (c .resets) → d ≡ counted (k .damaged) (c .damaged)
     → _≡_ {A = Turn} (record { stream = k .stream; sums = record { resets = m; damaged = d } }) (visited c s)

@@ -20,7 +20,6 @@ pub use slot::reset;
 use stream::Weighed;
 ghost use mathlib.Core.Path.{_≡_};
 ghost use mathlib.Core.Bool.{_||_};
-ghost use Rattle.stream.specs.Decisions.{counted};
 ghost use Rattle.calls.specs.Ticks.{noSums, visited};
 ghost use Rattle.calls.specs.Table.{blank, hasKey, isFree, unseen, looked, orElse, foundHere};
 
@@ -213,23 +212,13 @@ pub fn no_sums() -> Sums
     }
 }
 
-// A count, risen by 1 where the test holds.
-fn counted(test: bool, count: u64) -> u64
-    ensures { λ r. ⌜ r ≡ counted test count ⌝ }
-{
-    if test {
-        return std::num::wrapping_add_u64(count, 1);
-    }
-    count
-}
-
 // The tick of one record, after those that c counts.
 pub fn visit(c: Sums, s: Stream) -> Turn
     ensures { λ r. ⌜ r ≡ visited c s ⌝ }
 {
     let k = stream::tick(s);
-    let resets = counted(k.reset, c.resets);
-    let damaged = counted(k.damaged, c.damaged);
+    let resets = stream::counted(k.reset, c.resets);
+    let damaged = stream::counted(k.damaged, c.damaged);
     let stream = k.stream;
     let sums = Sums { resets, damaged };
     Turn { stream, sums }

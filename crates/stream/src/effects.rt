@@ -8,7 +8,7 @@ ghost use Rattle.stream.specs.Decisions.{counted};
 ghost use Rattle.stream.specs.Steps.{recordAfter};
 
 // A counter, risen by 1 where the test holds.
-fn counted(test: bool, count: u64) -> u64
+pub fn counted(test: bool, count: u64) -> u64
     ensures { λ r. ⌜ r ≡ counted test count ⌝ }
 {
     if test {

@@ -5,6 +5,7 @@ mod effects;
 mod history;
 mod number;
 
+pub use effects::counted;
 use record::Counts;
 use record::State;
 use record::Stream;
