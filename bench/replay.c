@@ -15,12 +15,16 @@ struct answer { u64 length; u16 number; u8 refusal; };
 struct stream { u64 dest; u16 vlan, window, time; u8 rule, used; u64 history; u16 anchor, remaining; u8 any; u64 counts[8]; };
 struct decided { struct stream stream; u8 verdict; };
 
+struct arrival { u64 slot, length; u16 number; u8 verdict, refusal; };
+
 struct answer nippitsun_take_tag(const u8 *, u64, u8 *, u64);
 struct answer nippitsun_write_tag(const u8 *, u64, u16, u8 *, u64);
+struct arrival nippitsun_arrival(struct stream *, u64, u8, const u8 *, u64, u8 *, u64);
 struct decided timing_decide(struct stream, u16, u8);
 struct stream timing_row(struct stream, u16, u16, u8, u64);
 
-_Static_assert(sizeof(struct stream) == 96 && sizeof(struct decided) == 104 && sizeof(struct answer) == 16, "layout");
+_Static_assert(sizeof(struct stream) == 96 && sizeof(struct decided) == 104 && sizeof(struct answer) == 16
+    && sizeof(struct arrival) == 24, "layout");
 
 static u8 buffer[1 << 16];
 static u64 from, until;
@@ -66,6 +70,7 @@ static int same(struct stream a, struct stream b) {
 }
 
 static u8 frame[4096], out[4096], wanted[4096];
+static struct stream table[256], after[256];
 
 int main(void) {
     u64 done = 0;
@@ -100,6 +105,22 @@ int main(void) {
             u64 times = number(8);
             take(&t, sizeof t);
             if (!same(timing_row(s, n, step, network, times), t)) stop("bench: DIFFERENT: decisions in a row of the archive\n");
+        } else if (kind == 5) {
+            u64 slots = number(1);
+            u8 network = number(1);
+            u64 n = number(4), room = number(4);
+            take(table, slots * sizeof *table);
+            take(frame, n);
+            take(out, room);
+            u64 slot = number(8), length = number(8);
+            u16 told = number(2);
+            u8 verdict = number(1), refusal = number(1);
+            take(after, slots * sizeof *after);
+            take(wanted, room);
+            struct arrival a = nippitsun_arrival(table, slots, network, frame, n, out, room);
+            int equal = a.slot == slot && a.length == length && a.number == told && a.verdict == verdict && a.refusal == refusal;
+            for (u64 i = 0; i < slots; i++) equal = equal && same(table[i], after[i]);
+            if (!equal || memcmp(out, wanted, room) != 0) stop("bench: DIFFERENT: an arrival of the archive\n");
         } else {
             stop("bench: no such kind of case\n");
         }

@@ -1,6 +1,6 @@
 //! What is timed: each cell has the same calls on both sides.
 use crate::record::{State, Stream};
-use crate::{plain, proved};
+use crate::{cells_arrivals, plain, proved};
 
 /// Makes so many calls and gives a sum of what they answered.
 pub type Work = Box<dyn FnMut(u64) -> u64>;
@@ -8,18 +8,18 @@ pub type Work = Box<dyn FnMut(u64) -> u64>;
 pub struct Cell {
     pub name: String,
     pub aim: f64,
-    /// How many decisions or tag calls one call is.
+    /// How many decisions, tag calls or arrivals one call is.
     pub each: u64,
     pub plain: Work,
     pub proved: Work,
 }
 
 /// A value that the compiler knows nothing of.
-fn hidden<T: Copy>(x: T) -> T {
+pub fn hidden<T: Copy>(x: T) -> T {
     unsafe { std::ptr::read_volatile(&x) }
 }
 
-fn frame(size: usize, vlan: bool, tagged: bool) -> Vec<u8> {
+pub fn frame(size: usize, vlan: bool, tagged: bool) -> Vec<u8> {
     let mut f: Vec<u8> = (0..size).map(|i| (i * 7 + 1) as u8).collect();
     let mut at = 12;
     if vlan {
@@ -186,5 +186,6 @@ pub fn all() -> Vec<Cell> {
     let mut cells = Vec::new();
     tag_cells(&mut cells);
     decision_cells(&mut cells);
+    cells_arrivals::add_all(&mut cells);
     cells
 }

@@ -22,7 +22,7 @@ impl Dice {
         (self.next() >> 11) % n
     }
 
-    fn one_in(&mut self, n: u64) -> bool {
+    pub fn one_in(&mut self, n: u64) -> bool {
         self.below(n) == 0
     }
 }
@@ -31,7 +31,7 @@ impl Dice {
 pub struct Cases(pub Option<Vec<u8>>);
 
 impl Cases {
-    fn add(&mut self, parts: &[&[u8]]) {
+    pub fn add(&mut self, parts: &[&[u8]]) {
         if let Some(kept) = &mut self.0 {
             for part in parts {
                 kept.extend_from_slice(part);
@@ -56,7 +56,7 @@ impl Cases {
 }
 
 /// A record as it lies in memory, its padding zero.
-fn bytes(s: &Stream) -> Vec<u8> {
+pub fn bytes(s: &Stream) -> Vec<u8> {
     let mut b = Vec::with_capacity(96);
     b.extend_from_slice(&s.dest.to_le_bytes());
     for x in [s.vlan, s.window, s.time] {
@@ -74,11 +74,11 @@ fn bytes(s: &Stream) -> Vec<u8> {
     b
 }
 
-fn wrong(what: &str, case: u64) -> String {
+pub fn wrong(what: &str, case: u64) -> String {
     format!("DIFFERENT: {} at random case {}", what, case)
 }
 
-fn all_seen(what: &str, seen: &[u64], wanted: &[usize]) -> Result<(), String> {
+pub fn all_seen(what: &str, seen: &[u64], wanted: &[usize]) -> Result<(), String> {
     for &n in wanted {
         if seen[n] == 0 {
             return Err(format!("{}: answer {} never came up", what, n));

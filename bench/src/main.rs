@@ -1,10 +1,12 @@
 //! The proved calls beside the same calls in plain Rust: first their results are compared, then their times.
 //!
-//! `bench` compares and times. `bench compare` compares only, and `bench cases` writes the cases compared, with the plain
-//! side's results, for bench/replay.c. `bench count CELL SIDE CALLS` makes so many calls of one
-//! cell on one side, for a tool that counts instructions; `bench cells` lists the cells' names.
+//! `bench` compares and times; `bench only NAME` times just the cells whose name starts so. `bench compare` compares only,
+//! and `bench cases` writes the cases compared, with the plain side's results, for bench/replay.c. `bench count CELL SIDE
+//! CALLS` makes so many calls of one cell on one side, for a tool that counts instructions; `bench cells` lists the names.
 mod cells;
+mod cells_arrivals;
 mod compare;
+mod compare_arrivals;
 mod plain;
 mod proved;
 mod record;
@@ -58,6 +60,8 @@ fn compared() -> Result<(), String> {
     let tags = compare::tags(300_000, &mut none)?;
     let decisions = compare::decisions(300_000, &mut none)?;
     println!("{} tag calls and {} decisions and rows of them on random inputs: answers, records and output bytes equal", tags, decisions);
+    let arrivals = compare_arrivals::arrivals(400_000, &mut none)?;
+    println!("{} arrivals on random tables, beside two plain arrivals: answers, records and output bytes equal", arrivals);
     Ok(())
 }
 
@@ -66,27 +70,41 @@ fn cases() -> Result<(), String> {
     let mut kept = compare::Cases(Some(Vec::new()));
     compare::tags(20_000, &mut kept)?;
     compare::decisions(100_000, &mut kept)?;
+    compare_arrivals::arrivals(20_000, &mut kept)?;
     std::io::stdout().write_all(&kept.0.unwrap()).map_err(|e| e.to_string())
 }
 
-fn table() -> Result<(), String> {
+/// How much more a gap of 63 costs than one of 1, where both cells were timed.
+fn tell_gap(what: &str, one: f64, gap: f64) {
+    if one > 0.0 && gap > 0.0 {
+        println!("A forward gap of 63 costs {:.2} times a gap of 1 (proved side, {}; aim: at most 2).", gap / one, what);
+    }
+}
+
+fn table(only: &str) -> Result<(), String> {
     compared()?;
     println!();
     println!("| cell | plain ns | proved ns | ratio | aim | |");
     println!("|---|---|---|---|---|---|");
-    let (mut one, mut gap) = (0.0, 0.0);
+    let (mut one, mut gap) = ([0.0; 2], [0.0; 2]);
     for mut cell in cells::all() {
+        if !cell.name.starts_with(only) {
+            continue;
+        }
         let t = measure(&mut cell)?;
         let met = if t.ratio <= cell.aim { "met" } else { "missed" };
         println!("| {} | {:.1} | {:.1} | {:.2} | {:.1} | {} |", cell.name, t.plain, t.proved, t.ratio, cell.aim, met);
         match cell.name.as_str() {
-            "row-new" => one = t.proved,
-            "row-gap63" => gap = t.proved,
+            "row-new" => one[0] = t.proved,
+            "row-gap63" => gap[0] = t.proved,
+            "arrival-64-1-gap1" => one[1] = t.proved,
+            "arrival-64-1-gap63" => gap[1] = t.proved,
             _ => {}
         }
     }
     println!();
-    println!("A forward gap of 63 costs {:.2} times a gap of 1 (proved side, in a row; aim: at most 2).", gap / one);
+    tell_gap("decisions in a row", one[0], gap[0]);
+    tell_gap("arrivals of 64 bytes", one[1], gap[1]);
     Ok(())
 }
 
@@ -109,7 +127,8 @@ fn run() -> Result<(), String> {
     let words: Vec<String> = std::env::args().skip(1).collect();
     let words: Vec<&str> = words.iter().map(|w| w.as_str()).collect();
     match words[..] {
-        [] => table(),
+        [] => table(""),
+        ["only", name] => table(name),
         ["compare"] => compared(),
         ["cases"] => cases(),
         ["cells"] => {
@@ -119,7 +138,7 @@ fn run() -> Result<(), String> {
             Ok(())
         }
         ["count", name, side, calls] => count(name, side, calls.parse().map_err(|_| String::from("how many calls?"))?),
-        _ => Err(String::from("usage: bench [compare | cases | cells | count CELL SIDE CALLS]")),
+        _ => Err(String::from("usage: bench [only NAME | compare | cases | cells | count CELL SIDE CALLS]")),
     }
 }
 

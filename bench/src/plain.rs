@@ -1,14 +1,19 @@
 //! The plain side: the same calls in safe Rust, written from document 01 alone. Each is kept a call of its own, as the
 //! archive's are, so that both sides pay for one, and has C's convention, by which the answer comes back in registers.
-use crate::record::{Decided, Stream, TagAnswer, DAMAGED, DUPLICATE, HANDED_UP, ROGUE};
+use crate::record::{ArrivalAnswer, Decided, Stream, TagAnswer, DAMAGED, DUPLICATE, HANDED_UP, ROGUE};
 
+const SLOTS_MOST: usize = 64;
 const FRAME_MOST: usize = 2000;
 const UNTAGGED_MOST: usize = 1994;
 const VLAN_TAG: u16 = 0x8100;
 const TAG: u16 = 0xF1C1;
+const TABLE: u8 = 1;
+const NETWORK: u8 = 2;
 const LONG: u8 = 3;
 const SHORT: u8 = 4;
 const UNTAGGED: u8 = 5;
+const UNKNOWN: u8 = 6;
+const HURT: u8 = 7;
 const ROOM: u8 = 8;
 const TAGGED: u8 = 13;
 
@@ -103,6 +108,7 @@ pub extern "C" fn write_tag(frame: &[u8], number: u16, out: &mut [u8]) -> TagAns
     }
 }
 
+#[inline(always)]
 fn lawful(s: &Stream) -> bool {
     if s.used == 0 || (s.rule != 1 && s.rule != 2) || s.window < 2 || s.window > 64 || s.time == 0 || s.vlan > 4094 {
         return false;
@@ -126,6 +132,11 @@ fn decide_in(s: &mut Stream, number: u16, network: u8) -> u8 {
     if !lawful(s) {
         return DAMAGED;
     }
+    decide_lawful(s, number, network)
+}
+
+#[inline(always)]
+fn decide_lawful(s: &mut Stream, number: u16, network: u8) -> u8 {
     let d = number.wrapping_sub(s.state.anchor) as i16 as i32;
     let window = s.window as i32;
     if network == 0 {
@@ -208,4 +219,60 @@ pub fn row_at(t: &mut Stream, number: u16, step: u16, network: u8, times: u64) {
         decide_in(t, n, network);
         n = n.wrapping_add(step);
     }
+}
+
+/// The arrival of the second program, as it is.
+#[inline(never)]
+pub fn arrival(table: &mut [second::Stream], network: u8, frame: &[u8], out: &mut [u8]) -> Result<second::Arrival, second::Refusal> {
+    second::arrival(table, network, frame, out)
+}
+
+fn not_taken(refusal: u8) -> ArrivalAnswer {
+    ArrivalAnswer { refusal, ..ArrivalAnswer::default() }
+}
+
+/// The arrival with the record changed where it lies, written for speed.
+#[inline(never)]
+pub fn arrival_at(table: &mut [Stream], network: u8, frame: &[u8], out: &mut [u8]) -> ArrivalAnswer {
+    if table.len() > SLOTS_MOST {
+        return not_taken(TABLE);
+    }
+    if network > 1 {
+        return not_taken(NETWORK);
+    }
+    if frame.len() > FRAME_MOST {
+        return not_taken(LONG);
+    }
+    let at = match type_place(frame) {
+        Some(at) => at,
+        None => return not_taken(SHORT),
+    };
+    // One check of the bounds for the whole tag and the type behind it.
+    let tag = match frame.get(at..at + 8) {
+        Some(tag) => tag,
+        None => return not_taken(if word(frame, at) == TAG { SHORT } else { UNTAGGED }),
+    };
+    if word(tag, 0) != TAG {
+        return not_taken(UNTAGGED);
+    }
+    let dest = (u32::from_be_bytes([frame[0], frame[1], frame[2], frame[3]]) as u64) << 16 | word(frame, 4) as u64;
+    let vlan = if at == 16 { word(frame, 14) & 0x0FFF } else { 0 };
+    let slot = match table.iter().position(|s| s.dest == dest && s.vlan == vlan && s.used != 0) {
+        Some(slot) => slot,
+        None => return not_taken(UNKNOWN),
+    };
+    let s = &mut table[slot];
+    if !lawful(s) {
+        return not_taken(HURT);
+    }
+    if out.len() < frame.len() - 6 {
+        return not_taken(ROOM);
+    }
+    let number = word(tag, 4);
+    let verdict = decide_lawful(s, number, network);
+    let mut length = 0;
+    if verdict == HANDED_UP {
+        length = if at == 12 { taken(frame, 12, out).length } else { taken(frame, 16, out).length };
+    }
+    ArrivalAnswer { slot, length, number, verdict, refusal: 0 }
 }

@@ -44,6 +44,35 @@ pub struct TagAnswer {
     pub refusal: u8,
 }
 
+/// What an arrival answers. Where it is refused, `refusal` is the number and the rest is 0.
+#[repr(C)]
+#[derive(Clone, Copy, Debug, Default, PartialEq)]
+pub struct ArrivalAnswer {
+    pub slot: usize,
+    pub length: usize,
+    pub number: u16,
+    pub verdict: u8,
+    pub refusal: u8,
+}
+
+/// What an open answers.
+#[repr(C)]
+#[derive(Clone, Copy, Debug, PartialEq)]
+pub struct SlotAnswer {
+    pub slot: usize,
+    pub refusal: u8,
+}
+
+/// What a tick answers.
+#[repr(C)]
+#[derive(Clone, Copy, Debug, PartialEq)]
+pub struct TickAnswer {
+    pub resets: u64,
+    pub damaged: u64,
+    pub refusal: u8,
+}
+
+// The verdicts. Those of an arrival have the same numbers; there a damaged record is a refusal.
 pub const DAMAGED: u8 = 0;
 pub const HANDED_UP: u8 = 1;
 pub const DUPLICATE: u8 = 2;

@@ -1,0 +1,241 @@
+//! Random arrivals on random tables: the archive's call, the second program's and the plain one in place. Answers, every
+//! record field by field, and every output byte must be equal, and each refusal and verdict must have come up.
+use crate::compare::{all_seen, bytes, wrong, Cases, Dice};
+use crate::record::{ArrivalAnswer, Counts, SlotAnswer, State, Stream, TickAnswer, DUPLICATE, HANDED_UP, ROGUE};
+use crate::{plain, proved};
+use second::{Arrival, Refusal, Settings, Verdict};
+
+/// The second program's record as the archive has it. Every one has such a form, so records are compared in this form.
+pub fn record_of(s: &second::Stream) -> Stream {
+    let d = s.destination;
+    Stream {
+        dest: u64::from_be_bytes([0, 0, d[0], d[1], d[2], d[3], d[4], d[5]]),
+        vlan: s.vlan,
+        window: s.window as u16,
+        time: s.reset_time,
+        rule: s.rule,
+        used: s.in_use,
+        state: State { history: s.history, anchor: s.anchor, remaining: s.remaining, any: s.take_any },
+        counts: Counts {
+            arrivals0: s.arrivals[0],
+            arrivals1: s.arrivals[1],
+            passed: s.passed,
+            discarded: s.discarded,
+            rogue: s.rogue,
+            disorder: s.out_of_order,
+            lost: s.lost,
+            resets: s.resets,
+        },
+    }
+}
+
+/// The second program's answer as the archive tells it.
+fn answer_of(r: Result<Arrival, Refusal>) -> ArrivalAnswer {
+    match r {
+        Err(why) => ArrivalAnswer { refusal: why.number(), ..ArrivalAnswer::default() },
+        Ok(a) => {
+            let (verdict, length) = match a.verdict {
+                Verdict::HandedUp { length } => (HANDED_UP, length),
+                Verdict::Duplicate => (DUPLICATE, 0),
+                Verdict::Rogue => (ROGUE, 0),
+            };
+            ArrivalAnswer { slot: a.slot, length, number: a.number, verdict, refusal: 0 }
+        }
+    }
+}
+
+/// The same table three times.
+struct Tables {
+    second: Vec<second::Stream>,
+    proved: Vec<Stream>,
+    plain: Vec<Stream>,
+}
+
+impl Tables {
+    fn equal(&self) -> bool {
+        self.plain == self.proved && self.second.iter().zip(&self.proved).all(|(a, b)| record_of(a) == *b)
+    }
+
+    /// What the caller may write into a slot, in all three.
+    fn set(&mut self, slot: usize, s: second::Stream) {
+        self.second[slot] = s;
+        self.proved[slot] = record_of(&s);
+        self.plain[slot] = record_of(&s);
+    }
+}
+
+fn destination(dice: &mut Dice) -> [u8; 6] {
+    [2, 0, 0, dice.below(2) as u8, 0, dice.below(64) as u8]
+}
+
+fn vlan(dice: &mut Dice) -> u16 {
+    match dice.below(3) {
+        0 => 4095 - dice.below(2) as u16,
+        1 => dice.below(8) as u16,
+        _ => 0,
+    }
+}
+
+/// A table of 1 to 64 slots, rarely of 65, with a stream opened in nearly each by both sides' open.
+fn tables(dice: &mut Dice, case: u64) -> Result<Tables, String> {
+    let slots = match dice.below(20) {
+        0 => 65,
+        n if n < 10 => 1 + dice.below(8) as usize,
+        _ => 1 + dice.below(64) as usize,
+    };
+    let free = second::Stream::FREE;
+    let mut t = Tables { second: vec![free; slots], proved: vec![record_of(&free); slots], plain: vec![] };
+    for _ in 0..slots + slots / 4 {
+        let destination = destination(dice);
+        let window = if dice.one_in(4) { 64 } else { 2 + dice.below(64) as u8 };
+        let s = Settings {
+            destination,
+            vlan: vlan(dice),
+            rule: 1 + dice.below(2) as u8,
+            window,
+            reset_time: if dice.one_in(2) { 1 + dice.below(4) as u16 } else { 1 + dice.below(65535) as u16 },
+        };
+        let x = match second::open(&mut t.second, s) {
+            Ok(slot) => SlotAnswer { slot, refusal: 0 },
+            Err(why) => SlotAnswer { slot: 0, refusal: why.number() },
+        };
+        if x != proved::open(&mut t.proved, &destination, s.vlan, s.rule, s.window as u16, s.reset_time) {
+            return Err(wrong("an open", case));
+        }
+    }
+    t.plain = t.proved.clone();
+    Ok(t)
+}
+
+/// Something that the caller's memory may come to hold: free, damaged, or with counters about to wrap.
+fn stir(dice: &mut Dice, t: &mut Tables) {
+    let slot = dice.below(t.second.len() as u64) as usize;
+    let mut s = t.second[slot];
+    match dice.below(10) {
+        0 => s.in_use = dice.below(3) as u8,
+        1 => s.rule = dice.below(4) as u8,
+        2 => s.window = dice.next() as u8,
+        3 => s.reset_time = dice.below(3) as u16,
+        4 => s.take_any = dice.below(3) as u8,
+        5 => s.remaining = dice.below(4) as u16,
+        6 => s.history = dice.next(),
+        7 => s.anchor = dice.next() as u16,
+        8 => s.destination = t.second[0].destination,
+        _ => {
+            s.passed = u64::MAX;
+            s.arrivals = [u64::MAX; 2];
+            s.lost = u64::MAX - dice.below(40);
+        }
+    }
+    t.set(slot, s);
+    // Mended again most often, or soon no record would be lawful.
+    if !s.is_lawful() && !dice.one_in(8) {
+        let mut mended = s;
+        mended.in_use = 1;
+        mended.rule = 1 + dice.below(2) as u8;
+        mended.window = 2 + dice.below(63) as u8;
+        mended.reset_time = mended.reset_time.max(1);
+        mended.vlan = mended.vlan.min(4094);
+        mended.take_any = 0;
+        mended.remaining = mended.reset_time;
+        mended.history = if mended.rule == 1 { s.history >> (64 - mended.window) | 1 } else { 0 };
+        t.set(slot, mended);
+    }
+}
+
+/// A frame for a slot of the table, most often one that arrives: its number is near the anchor.
+fn frame(dice: &mut Dice, pool: &[u8], t: &Tables) -> Vec<u8> {
+    let s = t.second[dice.below(t.second.len() as u64) as usize];
+    let length = match dice.below(24) {
+        0 => dice.below(27),
+        1 => 1990 + dice.below(20),
+        2 => dice.below(2000),
+        _ => 24 + dice.below(80),
+    } as usize;
+    let from = dice.below((pool.len() - length) as u64) as usize;
+    let mut f = pool[from..from + length].to_vec();
+    let mut put = |at: usize, bytes: &[u8]| {
+        if at + bytes.len() <= length {
+            f[at..at + bytes.len()].copy_from_slice(bytes);
+        }
+    };
+    put(0, &if dice.one_in(30) { destination(dice) } else { s.destination });
+    let vlan = if dice.one_in(30) { vlan(dice) } else { s.vlan };
+    let mut at = 12;
+    if vlan != 0 || dice.one_in(3) {
+        put(12, &[0x81, 0x00]);
+        put(14, &(vlan | (dice.next() as u16 & 0xF000)).to_be_bytes());
+        at = 16;
+    }
+    put(at, if dice.one_in(30) { &[0x81, 0x00] } else { &[0xF1, 0xC1] });
+    let near = dice.below(140) as u16;
+    let number = match dice.below(16) {
+        0 => dice.next() as u16,
+        1 => s.anchor.wrapping_add(32768),
+        2 => s.anchor.wrapping_add(s.window as u16),
+        3 => s.anchor.wrapping_sub(s.window as u16),
+        4 => s.anchor.wrapping_add(near).wrapping_sub(70),
+        5 => s.anchor,
+        6 | 7 => s.anchor.wrapping_sub(near % 8),
+        8 | 9 => s.anchor.wrapping_add(near % 8),
+        _ => s.anchor.wrapping_add(1),
+    };
+    put(at + 4, &number.to_be_bytes());
+    f
+}
+
+/// How many arrivals one table sees.
+const LIFE: u64 = 100;
+
+pub fn arrivals(cases: u64, kept: &mut Cases) -> Result<u64, String> {
+    let mut dice = Dice::new();
+    let pool: Vec<u8> = (0..10_000).map(|_| dice.next() as u8).collect();
+    let (mut refused, mut verdicts) = ([0u64; 256], [0u64; 256]);
+    let mut t = tables(&mut dice, 0)?;
+    for case in 0..cases {
+        if case % LIFE == 0 {
+            t = tables(&mut dice, case)?;
+        }
+        if dice.one_in(10) {
+            stir(&mut dice, &mut t);
+        }
+        if dice.one_in(20) {
+            let x = match second::tick(&mut t.second) {
+                Ok(a) => TickAnswer { resets: a.reset as u64, damaged: a.damaged as u64, refusal: 0 },
+                Err(why) => TickAnswer { resets: 0, damaged: 0, refusal: why.number() },
+            };
+            if x != proved::tick(&mut t.proved) {
+                return Err(wrong("a tick", case));
+            }
+            t.plain.copy_from_slice(&t.proved);
+        }
+        let f = frame(&mut dice, &pool, &t);
+        let network = if dice.one_in(30) { dice.next() as u8 } else { dice.below(2) as u8 };
+        let room = match dice.below(12) {
+            0 => f.len().saturating_sub(7),
+            1 => f.len().saturating_sub(6),
+            _ => f.len() + dice.below(20) as usize,
+        };
+        let from = dice.below((pool.len() - room) as u64) as usize;
+        let start = &pool[from..from + room];
+        let before: Vec<u8> = if kept.0.is_some() { t.proved.iter().flat_map(bytes).collect() } else { vec![] };
+        let (mut a, mut b, mut c) = (start.to_vec(), start.to_vec(), start.to_vec());
+        let x = answer_of(plain::arrival(&mut t.second, network, &f, &mut a));
+        let y = proved::arrival(&mut t.proved, network, &f, &mut b);
+        let z = plain::arrival_at(&mut t.plain, network, &f, &mut c);
+        if x != y || x != z || a != b || a != c || !t.equal() {
+            return Err(wrong("an arrival", case));
+        }
+        refused[x.refusal as usize] += 1;
+        verdicts[x.verdict as usize] += 1;
+        if kept.0.is_some() {
+            let after: Vec<u8> = t.second.iter().flat_map(|s| bytes(&record_of(s))).collect();
+            kept.add(&[&[5, t.proved.len() as u8, network], &(f.len() as u32).to_le_bytes(), &(room as u32).to_le_bytes()]);
+            kept.add(&[&before, &f, start, &(x.slot as u64).to_le_bytes(), &(x.length as u64).to_le_bytes()]);
+            kept.add(&[&x.number.to_le_bytes(), &[x.verdict, x.refusal], &after, &a]);
+        }
+    }
+    all_seen("an arrival's refusal", &refused, &[0, 1, 2, 3, 4, 5, 6, 7, 8])?;
+    all_seen("an arrival's verdict", &verdicts, &[0, 1, 2, 3])?;
+    Ok(cases)
+}
