@@ -1,4 +1,5 @@
-// Links the archives of the proved crates. NIPPITSUN_ARCHIVES names their folder, if it is not the repository's own.
+// Links the archives of the proved crates, which tools/archive makes. NIPPITSUN_ARCHIVES names their folder, if it is not
+// the repository's own.
 use std::env;
 use std::path::PathBuf;
 
@@ -6,7 +7,7 @@ fn main() {
     println!("cargo:rerun-if-env-changed=NIPPITSUN_ARCHIVES");
     let folder = match env::var("NIPPITSUN_ARCHIVES") {
         Ok(given) => PathBuf::from(given),
-        Err(_) => PathBuf::from(env::var("CARGO_MANIFEST_DIR").unwrap()).join("../target/staticlib"),
+        Err(_) => PathBuf::from(env::var("CARGO_MANIFEST_DIR").unwrap()).join("../target/native"),
     };
     println!("cargo:rustc-link-search=native={}", folder.display());
     for name in ["port", "timing", "timing_row"] {
