@@ -221,6 +221,19 @@ pub fn row_at(t: &mut Stream, number: u16, step: u16, network: u8, times: u64) {
     }
 }
 
+/// A call with an arrival's arguments that does nothing.
+pub type Bare = fn(&mut [Stream], u8, &[u8], &mut [u8]) -> u64;
+
+pub fn nothing(_: &mut [Stream], _: u8, _: &[u8], _: &mut [u8]) -> u64 {
+    0
+}
+
+/// The frame's bytes copied, and nothing else: the floor of a frame that is handed up.
+#[inline(never)]
+pub fn copy(frame: &[u8], out: &mut [u8]) {
+    out[..frame.len()].copy_from_slice(frame);
+}
+
 /// The arrival of the second program, as it is.
 #[inline(never)]
 pub fn arrival(table: &mut [second::Stream], network: u8, frame: &[u8], out: &mut [u8]) -> Result<second::Arrival, second::Refusal> {
