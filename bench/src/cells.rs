@@ -80,12 +80,25 @@ fn tags() -> Group {
         for size in [64, 256, 1500] {
             let with = if vlan { "-vlan" } else { "" };
             let name = format!("take-{}{}", size, with);
-            cells.push(Cell { name, each: 1, works: vec![taking!(proved, size, vlan), taking!(plain, size, vlan)] });
+            cells.push(Cell {
+                name,
+                each: 1,
+                works: vec![taking!(proved, size, vlan), taking!(plain, size, vlan)],
+            });
             let name = format!("write-{}{}", size, with);
-            cells.push(Cell { name, each: 1, works: vec![writing!(proved, size, vlan), writing!(plain, size, vlan)] });
+            cells.push(Cell {
+                name,
+                each: 1,
+                works: vec![writing!(proved, size, vlan), writing!(plain, size, vlan)],
+            });
         }
     }
-    Group { sides: &["product", "plain"], alike: 2, aim: 1.1, cells }
+    Group {
+        sides: &["product", "plain"],
+        alike: 2,
+        aim: 1.1,
+        cells,
+    }
 }
 
 /// A record without take-any, in the middle of its life.
@@ -97,7 +110,12 @@ fn record(rule: u8) -> Stream {
         time: 100,
         rule,
         used: 1,
-        state: State { history: if rule == 1 { 0x5555_5555_5555_5555 } else { 0 }, anchor: 65000, remaining: 100, any: 0 },
+        state: State {
+            history: if rule == 1 { 0x5555_5555_5555_5555 } else { 0 },
+            anchor: 65000,
+            remaining: 100,
+            any: 0,
+        },
         ..Stream::default()
     }
 }
@@ -167,18 +185,44 @@ fn in_row_by_reference(rule: u8, d: u16) -> Work {
 
 fn decisions() -> Group {
     // The arrival, the rule, and d.
-    let arrivals: [(&str, u8, u16); 5] =
-        [("new", 1, 1), ("duplicate", 1, 0), ("gap63", 1, 63), ("match-new", 2, 1), ("match-duplicate", 2, 0)];
+    let arrivals: [(&str, u8, u16); 5] = [
+        ("new", 1, 1),
+        ("duplicate", 1, 0),
+        ("gap63", 1, 63),
+        ("match-new", 2, 1),
+        ("match-duplicate", 2, 0),
+    ];
     let mut cells = Vec::new();
     for (name, rule, d) in arrivals {
-        let works: Vec<Work> = vec![by_value!(proved, rule, d), by_value!(plain, rule, d), by_reference(rule, d)];
-        cells.push(Cell { name: format!("decide-{}", name), each: 1, works });
+        let works: Vec<Work> = vec![
+            by_value!(proved, rule, d),
+            by_value!(plain, rule, d),
+            by_reference(rule, d),
+        ];
+        cells.push(Cell {
+            name: format!("decide-{}", name),
+            each: 1,
+            works,
+        });
     }
     for (name, rule, d) in arrivals {
-        let works: Vec<Work> = vec![in_row!(proved, rule, d), in_row!(plain, rule, d), in_row_by_reference(rule, d)];
-        cells.push(Cell { name: format!("row-{}", name), each: ROW, works });
+        let works: Vec<Work> = vec![
+            in_row!(proved, rule, d),
+            in_row!(plain, rule, d),
+            in_row_by_reference(rule, d),
+        ];
+        cells.push(Cell {
+            name: format!("row-{}", name),
+            each: ROW,
+            works,
+        });
     }
-    Group { sides: &["product", "plain", "in-place"], alike: 3, aim: 1.0, cells }
+    Group {
+        sides: &["product", "plain", "in-place"],
+        alike: 3,
+        aim: 1.0,
+        cells,
+    }
 }
 
 /// The arrivals first: they are the one table.

@@ -18,16 +18,36 @@ struct Mix {
 }
 
 const fn mix(name: &'static str, ahead: u16, step: u16) -> Mix {
-    Mix { name, ahead, step, pair: false, network: 0 }
+    Mix {
+        name,
+        ahead,
+        step,
+        pair: false,
+        network: 0,
+    }
 }
 
 /// Those that are timed in every size and with every number of streams.
-const MIXES: [Mix; 3] = [mix("new", 1, 1), Mix { pair: true, ..mix("pair", 1, 1) }, mix("duplicate", 0, 0)];
+const MIXES: [Mix; 3] = [
+    mix("new", 1, 1),
+    Mix {
+        pair: true,
+        ..mix("pair", 1, 1)
+    },
+    mix("duplicate", 0, 0),
+];
 
 /// Those of 64 bytes and one stream alone. There is no network 2: that arrival is refused before its frame is read, so it is
 /// the call and little else.
-const SINGLE: [Mix; 4] =
-    [mix("gap8", 8, 8), mix("gap63", 63, 63), mix("rogue", 1000, 0), Mix { network: 2, ..mix("refused", 1, 1) }];
+const SINGLE: [Mix; 4] = [
+    mix("gap8", 8, 8),
+    mix("gap63", 63, 63),
+    mix("rogue", 1000, 0),
+    Mix {
+        network: 2,
+        ..mix("refused", 1, 1)
+    },
+];
 
 /// The number that each stream has had last when a cell starts.
 const ANCHOR: u16 = 65000;
@@ -61,7 +81,15 @@ impl Traffic {
             f[..6].copy_from_slice(&[2, 0, 0, 0, 0, 0]);
         }
         let number = ANCHOR.wrapping_add(mix.ahead);
-        let mut t = Traffic { ring, place: 0, mix, streams, stream: 0, number, second: false };
+        let mut t = Traffic {
+            ring,
+            place: 0,
+            mix,
+            streams,
+            stream: 0,
+            number,
+            second: false,
+        };
         for _ in 0..RING {
             t.renew();
         }
@@ -172,7 +200,10 @@ fn copying(size: usize, streams: u8, mix: Mix) -> Work {
     Box::new(move |calls| {
         let size = hidden(size);
         for _ in 0..calls {
-            plain::copy(&traffic.ring.0[traffic.place][..size], black_box(&mut out.0));
+            plain::copy(
+                &traffic.ring.0[traffic.place][..size],
+                black_box(&mut out.0),
+            );
             traffic.renew();
         }
         0
@@ -206,7 +237,11 @@ fn cell(size: usize, streams: u8, mix: Mix) -> Cell {
         copying(size, streams, mix),
         calling(size, streams, mix),
     ];
-    Cell { name: format!("arrival-{}-{}-{}", size, streams, mix.name), each: 1, works }
+    Cell {
+        name: format!("arrival-{}-{}-{}", size, streams, mix.name),
+        each: 1,
+        works,
+    }
 }
 
 pub fn arrivals() -> Group {
@@ -221,5 +256,10 @@ pub fn arrivals() -> Group {
     for mix in SINGLE {
         cells.push(cell(64, 1, mix));
     }
-    Group { sides: &["product", "plain", "second", "memcpy", "bare"], alike: 3, aim: 1.0, cells }
+    Group {
+        sides: &["product", "plain", "second", "memcpy", "bare"],
+        alike: 3,
+        aim: 1.0,
+        cells,
+    }
 }

@@ -39,7 +39,15 @@ impl Cases {
         }
     }
 
-    fn add_tag(&mut self, kind: u8, f: &[u8], number: u16, before: &[u8], r: TagAnswer, after: &[u8]) {
+    fn add_tag(
+        &mut self,
+        kind: u8,
+        f: &[u8],
+        number: u16,
+        before: &[u8],
+        r: TagAnswer,
+        after: &[u8],
+    ) {
         self.add(&[
             &[kind],
             &(f.len() as u32).to_le_bytes(),
@@ -68,7 +76,16 @@ pub fn bytes(s: &Stream) -> Vec<u8> {
     b.extend_from_slice(&s.state.remaining.to_le_bytes());
     b.extend_from_slice(&[s.state.any, 0, 0, 0]);
     let c = &s.counts;
-    for x in [c.arrivals0, c.arrivals1, c.passed, c.discarded, c.rogue, c.disorder, c.lost, c.resets] {
+    for x in [
+        c.arrivals0,
+        c.arrivals1,
+        c.passed,
+        c.discarded,
+        c.rogue,
+        c.disorder,
+        c.lost,
+        c.resets,
+    ] {
         b.extend_from_slice(&x.to_le_bytes());
     }
     b
@@ -151,7 +168,10 @@ pub fn tags(cases: u64, kept: &mut Cases) -> Result<u64, String> {
         kept.add_tag(1, &f, number, start, x, &a);
         a.copy_from_slice(start);
         b.copy_from_slice(start);
-        let (x, y) = (plain::write_tag(&f, number, &mut a), proved::write_tag(&f, number, &mut b));
+        let (x, y) = (
+            plain::write_tag(&f, number, &mut a),
+            proved::write_tag(&f, number, &mut b),
+        );
         if x != y || a != b {
             return Err(wrong("write a tag", case));
         }
@@ -202,7 +222,12 @@ fn record(dice: &mut Dice) -> Stream {
         },
     };
     if dice.one_in(8) {
-        s.state = State { history: 0, anchor: 65535, remaining: 0, any: 1 + dice.below(255) as u8 };
+        s.state = State {
+            history: 0,
+            anchor: 65535,
+            remaining: 0,
+            any: 1 + dice.below(255) as u8,
+        };
     }
     if dice.one_in(20) {
         s.counts.passed = u64::MAX;
@@ -251,7 +276,14 @@ pub fn decisions(cases: u64, kept: &mut Cases) -> Result<u64, String> {
             return Err(wrong("one decision", case));
         }
         seen[x.verdict as usize] += 1;
-        kept.add(&[&[3], &bytes(&s), &number.to_le_bytes(), &[network], &bytes(&x.stream), &[x.verdict]]);
+        kept.add(&[
+            &[3],
+            &bytes(&s),
+            &number.to_le_bytes(),
+            &[network],
+            &bytes(&x.stream),
+            &[x.verdict],
+        ]);
         let step = match dice.below(4) {
             0 => 1,
             1 => 63,
@@ -265,7 +297,15 @@ pub fn decisions(cases: u64, kept: &mut Cases) -> Result<u64, String> {
         if r != proved::row(s, number, step, network, times) || r != t {
             return Err(wrong("decisions in a row", case));
         }
-        kept.add(&[&[4], &bytes(&s), &number.to_le_bytes(), &step.to_le_bytes(), &[network], &times.to_le_bytes(), &bytes(&r)]);
+        kept.add(&[
+            &[4],
+            &bytes(&s),
+            &number.to_le_bytes(),
+            &step.to_le_bytes(),
+            &[network],
+            &times.to_le_bytes(),
+            &bytes(&r),
+        ]);
     }
     all_seen("one decision", &seen, &[0, 1, 2, 3])?;
     Ok(2 * cases)

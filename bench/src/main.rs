@@ -60,7 +60,9 @@ fn cases() -> Result<(), String> {
     compare::tags(20_000, &mut kept)?;
     compare::decisions(100_000, &mut kept)?;
     compare_arrivals::arrivals(20_000, &mut kept)?;
-    std::io::stdout().write_all(&kept.0.unwrap()).map_err(|e| e.to_string())
+    std::io::stdout()
+        .write_all(&kept.0.unwrap())
+        .map_err(|e| e.to_string())
 }
 
 /// Where callgrind writes down what it has counted, and starts again at 0.
@@ -93,13 +95,21 @@ fn count() {
 
 fn tables(counts: &str, names: &[&str]) -> Result<(), String> {
     let counts = table::Counts::read(counts)?;
-    for (mut group, print) in cells::all().into_iter().zip([table::arrivals, table::tags, table::decisions]) {
+    for (mut group, print) in
+        cells::all()
+            .into_iter()
+            .zip([table::arrivals, table::tags, table::decisions])
+    {
         let mut cells = std::mem::take(&mut group.cells);
         cells.retain(|c| names.iter().any(|n| c.name.starts_with(n)));
         let mut rows = Vec::new();
         for mut cell in cells {
             let ns = measure(&group, &mut cell)?;
-            rows.push(Row { ns, counts: counts.of(&cell.name, group.sides), name: cell.name });
+            rows.push(Row {
+                ns,
+                counts: counts.of(&cell.name, group.sides),
+                name: cell.name,
+            });
         }
         if !rows.is_empty() {
             println!();
@@ -120,7 +130,9 @@ fn run() -> Result<(), String> {
             Ok(())
         }
         ["table", counts, ref names @ ..] => tables(counts, names),
-        _ => Err(String::from("usage: bench compare | cases | count | table COUNTS NAME..")),
+        _ => Err(String::from(
+            "usage: bench compare | cases | count | table COUNTS NAME..",
+        )),
     }
 }
 

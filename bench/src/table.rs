@@ -34,21 +34,33 @@ impl Counts {
         let text = std::fs::read_to_string(path).map_err(|e| format!("{}: {}", path, e))?;
         let mut counts = HashMap::new();
         for line in text.lines() {
-            let (what, number) = line.rsplit_once(' ').ok_or_else(|| format!("{}: {}", path, line))?;
-            counts.insert(String::from(what), number.parse().map_err(|_| format!("{}: {}", path, line))?);
+            let (what, number) = line
+                .rsplit_once(' ')
+                .ok_or_else(|| format!("{}: {}", path, line))?;
+            counts.insert(
+                String::from(what),
+                number.parse().map_err(|_| format!("{}: {}", path, line))?,
+            );
         }
         Ok(Counts(counts))
     }
 
     pub fn of(&self, cell: &str, sides: &[&str]) -> Vec<Option<f64>> {
-        sides.iter().map(|side| self.0.get(&format!("{} {}", cell, side)).copied()).collect()
+        sides
+            .iter()
+            .map(|side| self.0.get(&format!("{} {}", cell, side)).copied())
+            .collect()
     }
 }
 
 /// What an arrival's cell is called after: its size, its streams and its mix.
 fn parts(name: &str) -> (usize, usize, &str) {
     let words: Vec<&str> = name.split('-').collect();
-    (words[1].parse().unwrap(), words[2].parse().unwrap(), words[3])
+    (
+        words[1].parse().unwrap(),
+        words[2].parse().unwrap(),
+        words[3],
+    )
 }
 
 /// The time that one of two full networks leaves one core for an arrival, in ns: the frame and 20 bytes around it.
@@ -86,27 +98,38 @@ fn tell_aim(rows: &[Row], to: usize, beside: &str, aim: f64) {
     let met = ratios.iter().filter(|&&r| r <= aim).count();
     let least = ratios.iter().copied().fold(f64::MAX, f64::min);
     let largest = ratios.iter().copied().fold(f64::MIN, f64::max);
-    println!("Beside {}: {:.2} to {:.2}; the aim, at most {:.1}, is met in {} of {} cells.", beside, least, largest, aim, met, rows.len());
+    println!(
+        "Beside {}: {:.2} to {:.2}; the aim, at most {:.1}, is met in {} of {} cells.",
+        beside,
+        least,
+        largest,
+        aim,
+        met,
+        rows.len()
+    );
 }
 
 /// How much more a gap of 63 costs than one of 1, where both cells were timed.
 fn tell_gap(rows: &[Row], one: &str, gap: &str) {
     let time = |name: &str| rows.iter().find(|r| r.name == name).map(|r| r.ns[PRODUCT]);
     if let (Some(one), Some(gap)) = (time(one), time(gap)) {
-        println!("A forward gap of 63 costs the product {:.2} times a gap of 1 (aim: at most 2).", gap / one);
+        println!(
+            "A forward gap of 63 costs the product {:.2} times a gap of 1 (aim: at most 2).",
+            gap / one
+        );
     }
 }
 
 /// The one table.
 pub fn arrivals(rows: &[Row], aim: f64) {
-    println!("the arrivals           |       ns an arrival         | instructions an arrival     |  product to  |  line rate   | most");
-    println!("size streams mix       | product plain second memcpy | product plain second memcpy | plain second |    1G   10G  | of it");
-    println!("-----------------------+-----------------------------+-----------------------------+--------------+--------------+-------");
+    println!("the arrivals           |       ns an arrival         | instructions an arrival     |  product to  |  line rate  | most");
+    println!("size streams mix       | product plain second memcpy | product plain second memcpy | plain second |    1G   10G | of it");
+    println!("-----------------------+-----------------------------+-----------------------------+--------------+-------------+------");
     for r in rows {
         let (size, streams, mix) = parts(&r.name);
         let ns = r.ns[PRODUCT];
         println!(
-            "{:4} {:7} {:9} | {:7.1} {:5.1} {:6.1} {:6.1} | {:>7} {:>5} {:>6} {:>6} | {:5.2} {:6.2} | {:5.1} {:5.2}  | {}",
+            "{:4} {:7} {:9} | {:7.1} {:5.1} {:6.1} {:6.1} | {:>7} {:>5} {:>6} {:>6} | {:5.2} {:6.2} | {:5.1} {:5.2} | {}",
             size,
             streams,
             mix,
@@ -133,16 +156,29 @@ pub fn arrivals(rows: &[Row], aim: f64) {
     tell_aim(rows, SECOND, "the second program's arrival", aim);
     tell_gap(rows, "arrival-64-1-new", "arrival-64-1-gap63");
     let bare = rows.iter().map(|r| r.ns[BARE]);
-    let (least, largest) = (bare.clone().fold(f64::MAX, f64::min), bare.fold(0.0, f64::max));
+    let (least, largest) = (
+        bare.clone().fold(f64::MAX, f64::min),
+        bare.fold(0.0, f64::max),
+    );
     println!("In every time: the loop that writes the frames and a bare call, together {:.1} to {:.1} ns.", least, largest);
 }
 
 fn small(what: &str, rows: &[Row], sides: &[&str]) {
     let each = |cell: &dyn Fn(usize) -> String, from: usize| -> String {
-        (from..sides.len()).map(|i| format!(" {:>8}", cell(i))).collect()
+        (from..sides.len())
+            .map(|i| format!(" {:>8}", cell(i)))
+            .collect()
     };
     let names = |from: usize| each(&|i| String::from(sides[i]), from);
-    println!("{:22} |{:>w$} |{:>w$} |{:>v$}", what, "ns", "instructions", "product to", w = 9 * sides.len(), v = 2 + 9 * (sides.len() - 1));
+    println!(
+        "{:22} |{:>w$} |{:>w$} |{:>v$}",
+        what,
+        "ns",
+        "instructions",
+        "product to",
+        w = 9 * sides.len(),
+        v = 2 + 9 * (sides.len() - 1)
+    );
     println!("{:22} |{} |{} |{}", "", names(0), names(0), names(1));
     for r in rows {
         println!(
