@@ -92,9 +92,12 @@ fn most(row: &Row, rows: &[Row]) -> &'static str {
     }
 }
 
-/// How many of the cells meet the aim beside one side, and the range of the ratios.
+/// How many of the cells meet the aim beside one side, as the ratio is printed, and the range of the ratios.
 fn tell_aim(rows: &[Row], to: usize, beside: &str, aim: f64) {
-    let ratios: Vec<f64> = rows.iter().map(|r| r.ratio(to)).collect();
+    let ratios: Vec<f64> = rows
+        .iter()
+        .map(|r| (r.ratio(to) * 100.0).round() / 100.0)
+        .collect();
     let met = ratios.iter().filter(|&&r| r <= aim).count();
     let least = ratios.iter().copied().fold(f64::MAX, f64::min);
     let largest = ratios.iter().copied().fold(f64::MIN, f64::max);
