@@ -21,6 +21,8 @@ use second::event_file::{kind, SLOTS};
 use second::frame::{TAG_MARK, VLAN_MARK};
 use second::Stream;
 
+use crate::records;
+
 /// Fewer are too few.
 pub const LEAST: u64 = 100;
 
@@ -84,7 +86,7 @@ impl Tally {
 
     /// Counts a file's lines, which stand beside its records.
     pub fn file(&mut self, file: &[u8], lines: &str) {
-        let mut rest = file.get(1..).unwrap_or_default();
+        let mut bodies = records(file);
         // The rule in each slot.
         let mut rules = [0; SLOTS];
         for line in lines.lines() {
@@ -94,7 +96,8 @@ impl Tally {
                 continue;
             }
             self.records += 1;
-            let body = next_body(&mut rest);
+            // Every line with a number has its record.
+            let body = bodies.next().unwrap_or_default();
             self.input(body);
             let shape = match words[1..] {
                 [letter, "no", number] => format!("{letter} no {number}"),
@@ -184,15 +187,4 @@ fn name(rule: u8) -> &'static str {
         Stream::MATCH => "match",
         _ => "none",
     }
-}
-
-/// The next record's body; empty if there is none, which only wrong lines need.
-fn next_body<'a>(rest: &mut &'a [u8]) -> &'a [u8] {
-    let Some((length, behind)) = rest.split_at_checked(2) else {
-        return &[];
-    };
-    let length = u16::from_be_bytes([length[0], length[1]]).into();
-    let (body, behind) = behind.split_at_checked(length).unwrap_or((behind, &[]));
-    *rest = behind;
-    body
 }
