@@ -39,7 +39,9 @@ pub fn first_difference(a: (&str, &[u8]), b: (&str, &[u8])) -> Option<(usize, St
             [x, y] if x == y => {}
             differ => {
                 let [x, y] = differ.map(|line| match line {
-                    Some(line) => format!("{:?}", String::from_utf8_lossy(line)),
+                    Some(line) => {
+                        format!("{:?}", String::from_utf8_lossy(&line[..line.len().min(80)]))
+                    }
                     None => "nothing".into(),
                 });
                 return Some((number, format!("line {number}: {} {x}, {} {y}", a.0, b.0)));
