@@ -40,7 +40,7 @@ fn compare() -> Result<String, String> {
     let cases = cases::all(Path::new("."))?;
     let answers = product::run_all(&words, &cases, room);
 
-    let mut tally = Tally::new();
+    let mut tally = Tally::default();
     let mut bytes = 0;
     // Each case with its lines, which both programs wrote.
     let mut equal = Vec::new();

@@ -28,7 +28,7 @@ fn generated_files_come_back_from_their_text() {
 
 #[test]
 fn rare_answers_and_strange_lines_are_told() {
-    let mut tally = Tally::new();
+    let mut tally = Tally::default();
     let few = tally.faults();
     assert!(few.iter().any(|fault| fault == "'A no 6' was seen 0 times"));
     assert!(few.iter().all(|fault| fault.ends_with("was seen 0 times")));
