@@ -4,7 +4,6 @@ use crate::compare_arrivals::record_of;
 use crate::record::{ArrivalAnswer, Stream};
 use crate::{plain, proved};
 use second::{Arrival, Refusal, Verdict};
-use std::hint::black_box;
 
 /// What comes. `ahead` is how far the first number of each stream is ahead of its anchor, `step` how the number goes on when
 /// every stream has had its turn, and `pair` whether each frame comes on network 0 and then on network 1.
@@ -200,13 +199,10 @@ fn copying(size: usize, streams: u8, mix: Mix) -> Work {
     Box::new(move |calls| {
         let size = hidden(size);
         for _ in 0..calls {
-            plain::copy(
-                &traffic.ring.0[traffic.place][..size],
-                black_box(&mut out.0),
-            );
+            plain::copy(&traffic.ring.0[traffic.place][..size], &mut out.0);
             traffic.renew();
         }
-        0
+        out.0[size - 7] as u64
     })
 }
 

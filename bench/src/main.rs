@@ -67,7 +67,7 @@ fn cases() -> Result<(), String> {
 #[no_mangle]
 #[inline(never)]
 pub extern "C" fn bench_counted() {
-    std::hint::black_box(());
+    cells::hidden(0u8);
 }
 
 /// Nothing but the calls between two ends of bench_counted; what was done is told at the end.
@@ -77,7 +77,7 @@ fn count() {
     for group in &mut groups {
         for cell in &mut group.cells {
             for work in &mut cell.works {
-                std::hint::black_box(work(CALLS / cell.each));
+                cells::hidden(work(CALLS / cell.each));
                 bench_counted();
             }
         }
