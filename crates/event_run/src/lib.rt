@@ -1,10 +1,15 @@
 // An event file, read in pieces, and the lines that answer it (document 01, "Event file and the program `events`").
+pub mod serve;
+
+use event_file::line::Reply;
 use event_file::line::Told;
+use event_file::reader::Event;
 use event_file::reader::Read;
+use record::Stream;
 ghost use mathlib.Core.Path.{_≡_};
 ghost use Prim.Native.Nat.{_+_, _-_, _≤_, _<_};
 ghost use lib.ListN.{length, take, drop};
-ghost use Rattle.event_run.specs.Run.{nextOf, Noted};
+ghost use Rattle.event_run.specs.Run.{nextOf, Handled, Noted, Drained};
 
 // Where a run is: the next record's number and its place in the input, and how many bytes of lines wait.
 pub struct Place {
@@ -42,51 +47,61 @@ fn note(p: Place, end: usize, told: Told, lines: &mut [u8]) -> Place
     }
 }
 
-// Moves the bytes from a place up to another to the front, and answers how many.
-fn shift(input: &mut [u8], at: usize, to: usize) -> usize
-    requires { ⌜ (at ≤ to) × (to ≤ length (now input)) ⌝ }
-    ensures { λ r. ⌜ (r ≡ to - at) × (take r (now (input .exit)) ≡ take r (drop at (now (input .entry)))) ⌝ }
+// The answer of one record whose body stands in the input from start up to end.
+fn handle(table: &mut [Stream], input: &[u8], start: usize, end: usize, out: &mut [u8]) -> Told
+    requires { ⌜ (start ≤ end) × (end ≤ length (now input)) ⌝ }
+    ensures { λ r. ⌜ Handled (now (table .entry)) (take (end - start) (drop start (now (input .entry)))) (now (out .entry)) (now (table .exit)) r ⌝ }
 {
-    let n = to - at;
-    let mut i = 0;
-    while i < n {
-        input[i] = input[at + i];
-        i += 1;
+    let body = &input[start..end];
+    let event = event_file::reader::decode(body);
+    match event {
+        Event::Bad => Told::Bad,
+        Event::Open(s) => {
+            let dest = event_file::reader::destination(body);
+            Told::Answered(Reply::Open(receiver::open(
+                table,
+                dest,
+                s.vlan,
+                s.rule,
+                s.window,
+                s.time,
+            )))
+        }
+        Event::Close(slot) => Told::Answered(Reply::Close(receiver::close(table, slot))),
+        Event::Reset(slot) => Told::Answered(Reply::Reset(receiver::reset(table, slot))),
+        Event::Arrival(network) => {
+            Told::Answered(Reply::Arrival(receiver::arrival(table, network, &body[2..], out)))
+        }
+        Event::Tick => Told::Answered(Reply::Tick(receiver::tick(table))),
     }
-    n
 }
 
-// Writes the first bytes of the lines. Answers whether they went out.
-fn flush(onto: i32, lines: &[u8], used: usize) -> bool
-    requires { ⌜ used ≤ length (now lines) ⌝ }
+// All records that can be answered: each is answered, and its line is noted.
+fn drain(table: &mut [Stream], p: Place, input: &[u8], lines: &mut [u8], out: &mut [u8]) -> Place
+    ensures { λ r. ⌜ Drained (now (table .entry)) p (now (input .entry)) (now (lines .entry)) (now (out .entry)) (now (table .exit)) r (now (lines .exit)) ⌝ }
 {
-    io::write_all(onto, &lines[..used])
-}
-
-// What one read brought: the place up to which the buffer is read now, and the read's answer.
-struct Piece {
-    to: usize,
-    got: isize,
-}
-
-// Reads a piece behind the bytes that are left. There is room for one, so that no byte read means the end of the input.
-fn fill(from: i32, input: &mut [u8], left: usize) -> Piece
-    requires { ⌜ left < length (now input) ⌝ }
-    ensures { λ r. ⌜ (left ≤ r .to) × (r .to ≤ length (now (input .exit))) ⌝ }
-{
-    let got = libc::read(from, &mut input[left..]);
-    let n = io::count(got, &input[left..]);
-    Piece { to: left + n, got }
-}
-
-// The last lines. After a read that failed, no `end` or `cut` is due.
-fn close(onto: i32, ended: bool, left: usize, lines: &mut [u8], used: usize)
-    requires { ⌜ used ≤ length (now lines) ⌝ }
-{
-    if ended {
-        let all = event_file::line::say_last(left, lines, used);
-        flush(onto, lines, all);
-    } else {
-        flush(onto, lines, used);
+    let mut p = p;
+    loop {
+        let Read::Body(start, end) = seek(p, input, lines.len()) else {
+            break;
+        };
+        let told = handle(table, input, start, end, out);
+        let next = note(p, end, told, lines);
+        p = next;
     }
+    p
+}
+
+// The same with a table of 8 by value: it is lent once for a whole buffer.
+struct Round {
+    table: [Stream; 8],
+    place: Place,
+}
+
+fn drain8(table: [Stream; 8], p: Place, input: &[u8], lines: &mut [u8], out: &mut [u8]) -> Round
+    ensures { λ r. ⌜ Drained table p (now (input .entry)) (now (lines .entry)) (now (out .entry)) (r .table) (r .place) (now (lines .exit)) ⌝ }
+{
+    let mut table = table;
+    let place = drain(&mut table, p, input, lines, out);
+    Round { table, place }
 }

@@ -1,11 +1,11 @@
--- `event_run::shift` meets its contract: the loop has moved the first i bytes. The measure is what is left of them. Assumes nothing.
+-- `event_run::serve::shift` meets its contract: the loop has moved the first i bytes. The measure is what is left of them. Assumes nothing.
 use Prim.Native.Nat.{ℕ, _-_, _≤_}
 use native.Mathlib.Omega.{arith}
 use borrow.Author.Needs.{needs}
 use mathlib.Core.Path.{refl}
 use Rattle.event_run.proofs.Moves.{Moved, move-start, move-turn, move-end}
-use Rattle.event_run.proofs.shift.Statement.{statement}
-use Rattle.event_run.proofs.shift.Tie as tie
+use Rattle.event_run.proofs.serve.shift.Statement.{statement}
+use Rattle.event_run.proofs.serve.shift.Tie as tie
 
 abbrev Inv-loop : tie.InvT-loop
 Inv-loop input₀ at to n i₀ input i = (i ≤ n) × (Moved at i input₀ input)

@@ -1,9 +1,9 @@
--- `event_run::flush` meets its contract: the bytes that are written are within the lines. Assumes nothing.
+-- `event_run::serve::flush` meets its contract: the bytes that are written are within the lines. Assumes nothing.
 use lib.ListN.{length-take}
 use native.Mathlib.Omega.{arith}
 use borrow.Author.Needs.{needs}
-use Rattle.event_run.proofs.flush.Statement.{statement}
-use Rattle.event_run.proofs.flush.Tie as tie
+use Rattle.event_run.proofs.serve.flush.Statement.{statement}
+use Rattle.event_run.proofs.serve.flush.Tie as tie
 
 slice-aggregate-write-all : tie.Need-slice-aggregate-write-all
 slice-aggregate-write-all c = simp length-take (omega arith)

@@ -1,0 +1,221 @@
+// The run over an event file: it is read in large pieces, what is left of a record is kept, and the lines are written as
+// soon as no record is left that can be answered. Nothing that is printed depends on how the input is cut into reads.
+use crate::Place;
+use crate::Round;
+use crate::drain8;
+use libc::STDERR_FILENO;
+use record::Stream;
+ghost use mathlib.Core.Path.{_≡_};
+ghost use Prim.Native.Nat.{_+_, _-_, _≤_, _<_};
+ghost use lib.ListN.{length, take, drop};
+
+// Moves the bytes from a place up to another to the front, and answers how many.
+fn shift(input: &mut [u8], at: usize, to: usize) -> usize
+    requires { ⌜ (at ≤ to) × (to ≤ length (now input)) ⌝ }
+    ensures { λ r. ⌜ (r ≡ to - at) × (take r (now (input .exit)) ≡ take r (drop at (now (input .entry)))) ⌝ }
+{
+    if at == 0 {
+        return to;
+    }
+    let n = to - at;
+    let mut i = 0;
+    while i < n {
+        input[i] = input[at + i];
+        i += 1;
+    }
+    n
+}
+
+// Writes the first bytes of the lines. Answers whether they went out, and says so on standard error where they did not.
+fn flush(onto: i32, lines: &[u8], used: usize) -> bool
+    requires { ⌜ used ≤ length (now lines) ⌝ }
+{
+    if io::write_all(onto, &lines[..used]) {
+        return true;
+    }
+    io::write_all(STDERR_FILENO, b"events: cannot write\n");
+    false
+}
+
+// What one read brought: the place up to which the buffer is read now, and the read's answer.
+struct Piece {
+    to: usize,
+    got: isize,
+}
+
+// Reads a piece behind the bytes that are left. There is room for one, so that no byte read means the end of the input.
+fn fill(from: i32, input: &mut [u8], left: usize) -> Piece
+    requires { ⌜ left < length (now input) ⌝ }
+    ensures { λ r. ⌜ (left ≤ r .to) × (r .to ≤ length (now (input .exit))) ⌝ }
+{
+    let got = libc::read(from, &mut input[left..]);
+    if got < 0 {
+        io::write_all(STDERR_FILENO, b"events: cannot read\n");
+    }
+    let n = io::count(got, &input[left..]);
+    Piece { to: left + n, got }
+}
+
+// Writes the last line: so many bytes are left behind the last whole record, and the input has ended.
+fn finish(onto: i32, left: usize, lines: &mut [u8]) -> bool {
+    let used = event_file::line::say_last(left, lines, 0);
+    flush(onto, lines, used)
+}
+
+// Where a run is between two turns: the table, the next record's number, and the part of the input buffer, from a place up
+// to another, that is still to be answered.
+struct Held {
+    table: [Stream; 8],
+    number: u64,
+    at: usize,
+    to: usize,
+}
+
+// What a turn came to: where the run is then, how many of the first bytes of the lines were handed over to be written, how
+// many bytes were read, whether the run goes on, and whether the input has ended.
+struct Turn {
+    held: Held,
+    wrote: usize,
+    read: usize,
+    going: bool,
+    ended: bool,
+}
+
+// The records that can be answered, of the part of the input buffer that is held.
+fn drain_to(h: Held, input: &[u8], lines: &mut [u8], out: &mut [u8]) -> Round {
+    let to = h.to;
+    let table = h.table;
+    let p = Place {
+        number: h.number,
+        at: h.at,
+        used: 0,
+    };
+    drain8(table, p, &input[..to], lines, out)
+}
+
+// One turn: answers what can be answered and writes the lines; then, if there was room for all of them, reads a piece more.
+fn go_on(from: i32, onto: i32, h: Held, input: &mut [u8], lines: &mut [u8], out: &mut [u8]) -> Turn {
+    let d = drain_to(h, input, lines, out);
+    let table = d.table;
+    let number = d.place.number;
+    let at = d.place.at;
+    let used = d.place.used;
+    let to = h.to;
+    let sent = flush(onto, lines, used);
+    if !sent {
+        return rest(table, number, at, to, used, false);
+    }
+    if lines.len() - used < event_file::line::LINE {
+        return rest(table, number, at, to, used, true);
+    }
+    if number == u64::MAX {
+        return rest(table, number, at, to, used, false);
+    }
+    let left = shift(input, at, to);
+    let p = fill(from, input, left);
+    if p.to == left {
+        return Turn {
+            held: Held {
+                table,
+                number,
+                at: 0,
+                to: left,
+            },
+            wrote: used,
+            read: 0,
+            going: false,
+            ended: p.got == 0,
+        };
+    }
+    Turn {
+        held: Held {
+            table,
+            number,
+            at: 0,
+            to: p.to,
+        },
+        wrote: used,
+        read: p.to - left,
+        going: true,
+        ended: false,
+    }
+}
+
+// A turn that read nothing.
+fn rest(table: [Stream; 8], number: u64, at: usize, to: usize, used: usize, going: bool) -> Turn {
+    Turn {
+        held: Held {
+            table,
+            number,
+            at,
+            to,
+        },
+        wrote: used,
+        read: 0,
+        going,
+        ended: false,
+    }
+}
+
+// The table has 8 slots, free at first; records are numbered from 1; the first stands behind the version byte.
+fn start(to: usize) -> Held {
+    Held {
+        table: [calls::blank(); 8],
+        number: 1,
+        at: 1,
+        to,
+    }
+}
+
+// Does the input begin with the version byte, 1?
+fn versioned(input: &[u8]) -> bool {
+    if input.len() == 0 {
+        return false;
+    }
+    input[0] == 1
+}
+
+// A proved loop has to end, and nothing says that an input does: turns are counted down from a number that no run uses up.
+fn turns(from: i32, onto: i32, h: Held, input: &mut [u8], lines: &mut [u8], out: &mut [u8]) {
+    let mut held = h;
+    let mut left = u64::MAX;
+    while left > 0 {
+        let t = go_on(from, onto, held, input, lines, out);
+        let h = t.held;
+        if t.ended {
+            finish(onto, h.to, lines);
+            return;
+        }
+        if !t.going {
+            return;
+        }
+        held = h;
+        left -= 1;
+    }
+}
+
+fn serve(from: i32, onto: i32, input: &mut [u8], lines: &mut [u8], out: &mut [u8]) {
+    let p = fill(from, input, 0);
+    if p.got < 0 {
+        return;
+    }
+    let to = p.to;
+    if !versioned(&input[..to]) {
+        flush(onto, b"version\n", 8);
+        return;
+    }
+    turns(from, onto, start(to), input, lines, out);
+}
+
+// Bytes of the input buffer (a record and its length bytes fit, 65537, and a read brings a large piece), and of the lines.
+const INPUT: usize = 262144;
+
+const LINES: usize = 65536;
+
+// Runs the event file that a descriptor gives, and writes the lines onto another.
+pub fn run(from: i32, onto: i32) {
+    let mut input = [0u8; INPUT];
+    let mut lines = [0u8; LINES];
+    let mut out = [0u8; Stream::FRAME_MOST];
+    serve(from, onto, &mut input, &mut lines, &mut out);
+}
