@@ -94,7 +94,14 @@ fn drain_to(h: Held, input: &[u8], lines: &mut [u8], out: &mut [u8]) -> Round {
 }
 
 // One turn: answers what can be answered and writes the lines; then, if there was room for all of them, reads a piece more.
-fn go_on(from: i32, onto: i32, h: Held, input: &mut [u8], lines: &mut [u8], out: &mut [u8]) -> Turn {
+fn go_on(
+    from: i32,
+    onto: i32,
+    h: Held,
+    input: &mut [u8],
+    lines: &mut [u8],
+    out: &mut [u8],
+) -> Turn {
     let d = drain_to(h, input, lines, out);
     let table = d.table;
     let number = d.place.number;
