@@ -1,26 +1,25 @@
 -- What is due stays due: a record's answer, its line, and the last line. Assumes nothing.
-use mathlib.Core.Path.{_≡_, refl, sym, ap, _∙_}
+use mathlib.Core.Path.{_≡_, refl, ap, _∙_}
 use Prim.Native.Nat.{ℕ, _+_, _-_, _≤_, _<_}
 use native.Mathlib.Decide.{decLt}
 use native.Mathlib.Omega.{arith}
 use mathlib.Core.Bool.{Bool, true, false, _&&_}
 use mathlib.Core.List.{List, _++_, append-assoc}
-use lib.ListN.{length, take, drop, getD, length-take, List·getD-eq-default}
-use lib.Seq.{length-take-le, getD-take}
+use lib.ListN.{length, take, drop}
+use lib.Seq.{length-take-le}
 use lib.Dec.{ltb, leb}
 use borrow.Author.Tests.{lt-ltb, le-ltb, le-leb, lt-leb, ltb-true, leb-true, eq-eqb, ne-eqb}
 use Rattle.record.specs.Words.{if_then_else_}
 use Rattle.record.specs.Sizes.{frameMost}
-use Rattle.frame.specs.Bytes.{Bytes}
 use Rattle.calls.specs.Table.{Table}
 use Rattle.event_file.specs.Records.{recordsOf, readAt}
 use Rattle.event_file.specs.Lines.{lineOf, saidTold, lastLine}
-use Rattle.event_file.specs.Buffers.{Put, Writes, lineMost}
+use Rattle.event_file.specs.Buffers.{Writes, lineMost, lastMost}
 use Rattle.event_file.specs.Files.{linesFrom}
 use Rattle.event_file.specs.declared.reader.Read.{Read}
 use Rattle.event_file.specs.declared.reader.Read.the-variants.{More, Body}
 use Rattle.event_file.specs.declared.line.Told.{Told}
-use Rattle.event_file.proofs.Framing.{Whole, whole-is, more-near, one-record, last-record}
+use Rattle.event_file.proofs.Framing.{Whole, whole-is, one-record, last-record}
 use Rattle.event_file.proofs.Writing.{front-of, writes-put}
 use Rattle.event_file.proofs.Outputs.{any-output}
 use Rattle.event_run.specs.declared.Place.{Place}
@@ -51,6 +50,13 @@ last-room {most} {at} {r} {new} {old} {now} w l h = elim (decLt (length old) (at
   where
     fits : at + most ≤ length old → r ≤ length now
     fits k = let q = writes-put most at k w in omega (arith, q .room, q .place)
+
+-- and where there is room for it, it stands there
+pub last-written : (left : ℕ) {old now : List ℕ} {r : ℕ} → Writes lastMost (lastLine left) 0 old now r → lastMost ≤ length old → take (length (lastLine left)) now ≡ lastLine left
+last-written left {old} {now} {r} w h =
+    let q = writes-put lastMost 0 h w in
+    let e : length (lastLine left) ≡ r = omega (arith, q .place) in
+    ap (λ (n : ℕ). take n now) e ∙ front-of q
 
 -- ---- one record
 
@@ -96,31 +102,27 @@ kept-start t p input lines = record { same = λ rest. refl; within = λ h. h; ro
 
 -- ---- a buffer that is read up to a place
 
-bytes-take : (n : ℕ) (s : List ℕ) → Bytes s → Bytes (take n s)
-bytes-take n s h i = elim (decLt i n) [ yes p ↦ (let e : getD (take n s) i 0 ≡ getD s i 0 = getD-take n s i 0 p in omega (arith, h i)) | no p ↦ (let l : length (take n s) ≤ i = omega (arith, length-take n s) in omega (arith, List·getD-eq-default (take n s) 0 l)) ]
-
-pub drained-to : {t u : Table} {p r : Place} (to : ℕ) (input : List ℕ) {old new out : List ℕ} → Bytes input
+pub drained-to : {t u : Table} {p r : Place} (to : ℕ) (input : List ℕ) {old new out : List ℕ}
     → (p .at ≤ to) × (to ≤ length input) × (p .used ≤ length old) × (length out ≡ frameMost) → Drained t p (take to input) old out u r new
-    → ((r .at ≤ to) × (r .used ≤ length new)) × (r .used + lineMost ≤ length new → r .number < lastNumber → to < r .at + 65537)
-drained-to {t} {u} {p} {r} to input {old} {new} {out} h pre d =
+    → (r .at ≤ to) × (r .used ≤ length new)
+drained-to {t} {u} {p} {r} to input {old} {new} {out} pre d =
     let k = d .kept (pre .3) in
     let l : length (take to input) ≡ to = length-take-le to input (pre .1) in
-    ((omega (arith, k .within (omega arith)), k .room (pre .2)), λ a b. omega (arith, more-near (take to input) (r .at) (bytes-take to input h) (sym (answerable r (take to input) (length new) a b ∙ d .none))))
+    (omega (arith, k .within (omega arith)), k .room (pre .2))
 
 -- ---- the last line
 
--- the lines written at the end are all that was due
-pub due-last : (t : Table) (p : Place) (input old new : List ℕ) (r : ℕ) → p .at ≤ length input → readAt input (p .at) ≡ More
-    → Put (lastLine (length input - p .at)) (p .used) old new r → take r new ≡ due t p old (drop (p .at) input)
-unfolding due linesFrom lastLine
-due-last t p input old new r h m f =
-    front-of f ∙ ap (λ (l : List ℕ). take (p .used) old ++ l) (elim (decLt (p .at) (length input)) [ yes q ↦ some q | no q ↦ none (omega arith) ])
+-- where no whole record is left, the last line is all that is due
+pub last-due : (t : Table) (number : ℕ) (input : List ℕ) (at : ℕ) → at ≤ length input → More ≡ readAt input at
+    → linesFrom t number (recordsOf (drop at input)) ≡ lastLine (length input - at)
+unfolding linesFrom lastLine
+last-due t number input at h m = elim (decLt at (length input)) [ yes q ↦ some q | no q ↦ none (omega arith) ]
   where
-    none : length input ≡ p .at → lastLine (length input - p .at) ≡ linesFrom t (p .number) (recordsOf (drop (p .at) input))
-    none e = let z : length input - p .at ≡ 0 = omega arith in rw (last-record input (p .at) h (sym m), eq-eqb _ _ e, eq-eqb _ _ z)
+    none : length input ≡ at → linesFrom t number (recordsOf (drop at input)) ≡ lastLine (length input - at)
+    none e = let z : length input - at ≡ 0 = omega arith in rw (last-record input at h m, eq-eqb _ _ e, eq-eqb _ _ z)
 
-    some : p .at < length input → lastLine (length input - p .at) ≡ linesFrom t (p .number) (recordsOf (drop (p .at) input))
+    some : at < length input → linesFrom t number (recordsOf (drop at input)) ≡ lastLine (length input - at)
     some q =
-        let e : (length input ≡ p .at → ⊥) = λ a. omega arith in
-        let z : (length input - p .at ≡ 0 → ⊥) = λ a. omega arith in
-        rw (last-record input (p .at) h (sym m), ne-eqb _ _ e, ne-eqb _ _ z)
+        let e : (length input ≡ at → ⊥) = λ a. omega arith in
+        let z : (length input - at ≡ 0 → ⊥) = λ a. omega arith in
+        rw (last-record input at h m, ne-eqb _ _ e, ne-eqb _ _ z)

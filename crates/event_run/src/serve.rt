@@ -3,11 +3,19 @@
 use crate::Place;
 use crate::Round;
 use crate::drain8;
+use event_file::reader::Read;
 use libc::STDERR_FILENO;
 use record::Stream;
 ghost use mathlib.Core.Path.{_≡_};
+ghost use mathlib.Core.Bool.{true, false};
 ghost use Prim.Native.Nat.{_+_, _-_, _≤_, _<_};
 ghost use lib.ListN.{length, take, drop};
+ghost use Rattle.record.specs.Sizes.{frameMost};
+ghost use Rattle.event_file.specs.Records.{readAt};
+ghost use Rattle.event_file.specs.Lines.{lastLine};
+ghost use Rattle.event_file.specs.Buffers.{lastMost};
+ghost use Rattle.event_run.specs.Run.{Drained};
+ghost use Rattle.event_run.specs.Turns.{placeOf, stays, Turned, startsOne, startOf};
 
 // Moves the bytes from a place up to another to the front, and answers how many.
 fn shift(input: &mut [u8], at: usize, to: usize) -> usize
@@ -46,7 +54,7 @@ struct Piece {
 // Reads a piece behind the bytes that are left. There is room for one, so that no byte read means the end of the input.
 fn fill(from: i32, input: &mut [u8], left: usize) -> Piece
     requires { ⌜ left < length (now input) ⌝ }
-    ensures { λ r. ⌜ (left ≤ r .to) × (r .to ≤ length (now (input .exit))) ⌝ }
+    ensures { λ r. ⌜ (left ≤ r .to) × (r .to ≤ length (now (input .exit))) × (take left (now (input .exit)) ≡ take left (now (input .entry))) ⌝ }
 {
     let got = libc::read(from, &mut input[left..]);
     if got < 0 {
@@ -57,9 +65,12 @@ fn fill(from: i32, input: &mut [u8], left: usize) -> Piece
 }
 
 // Writes the last line: so many bytes are left behind the last whole record, and the input has ended.
-fn finish(onto: i32, left: usize, lines: &mut [u8]) -> bool {
+fn finish(onto: i32, left: usize, lines: &mut [u8])
+    requires { ⌜ lastMost ≤ length (now lines) ⌝ }
+    ensures { λ _. ⌜ take (length (lastLine left)) (now (lines .exit)) ≡ lastLine left ⌝ }
+{
     let used = event_file::line::say_last(left, lines, 0);
-    flush(onto, lines, used)
+    flush(onto, lines, used);
 }
 
 // Where a run is between two turns: the table, the next record's number, and the part of the input buffer, from a place up
@@ -82,7 +93,11 @@ struct Turn {
 }
 
 // The records that can be answered, of the part of the input buffer that is held.
-fn drain_to(h: Held, input: &[u8], lines: &mut [u8], out: &mut [u8]) -> Round {
+fn drain_to(h: Held, input: &[u8], lines: &mut [u8], out: &mut [u8]) -> Round
+    requires { ⌜ (h .at ≤ h .to) × (h .to ≤ length (now input)) × (length (now out) ≡ frameMost) ⌝ }
+    ensures { λ r. ⌜ Drained (h .table) (placeOf h) (take (h .to) (now (input .entry))) (now (lines .entry)) (now (out .entry)) (r .table) (r .place) (now (lines .exit)) ⌝ }
+    ensures { λ r. ⌜ (r .place .at ≤ h .to) × (r .place .used ≤ length (now (lines .exit))) ⌝ }
+{
     let to = h.to;
     let table = h.table;
     let p = Place {
@@ -93,15 +108,26 @@ fn drain_to(h: Held, input: &[u8], lines: &mut [u8], out: &mut [u8]) -> Round {
     drain8(table, p, &input[..to], lines, out)
 }
 
-// One turn: answers what can be answered and writes the lines; then, if there was room for all of them, reads a piece more.
-fn go_on(
-    from: i32,
-    onto: i32,
-    h: Held,
-    input: &mut [u8],
-    lines: &mut [u8],
-    out: &mut [u8],
-) -> Turn {
+// Is a whole record left?
+fn whole(input: &[u8], at: usize, to: usize) -> bool
+    requires { ⌜ to ≤ length (now input) ⌝ }
+    ensures { λ r. ⌜ (r ≡ false → (Read.More ≡ readAt (take to (now (input .entry))) at) × (to < at + 65537)) ⌝ }
+{
+    let next = event_file::reader::next(&input[..to], at);
+    let Read::Body(_, _) = next else {
+        return false;
+    };
+    true
+}
+
+// One turn: answers what can be answered and writes the lines; then, if no whole record is left, reads a piece more. One
+// that is left had no room for its line, which is there now, or it is the last that has a number.
+fn go_on(from: i32, onto: i32, h: Held, input: &mut [u8], lines: &mut [u8], out: &mut [u8]) -> Turn
+    requires { ⌜ (65537 ≤ length (now input)) × (length (now out) ≡ frameMost) ⌝ }
+    requires { ⌜ (h .at ≤ h .to) × (h .to ≤ length (now input)) ⌝ }
+    ensures { λ r. ⌜ Turned h (now (input .entry)) (now (input .exit)) (now (lines .exit)) r ⌝ }
+    ensures { λ r. ⌜ (r .held .at ≤ r .held .to) × (r .held .to ≤ length (now (input .exit))) ⌝ }
+{
     let d = drain_to(h, input, lines, out);
     let table = d.table;
     let number = d.place.number;
@@ -110,13 +136,10 @@ fn go_on(
     let to = h.to;
     let sent = flush(onto, lines, used);
     if !sent {
-        return rest(table, number, at, to, used, false);
+        return stay(table, number, at, to, used, false);
     }
-    if lines.len() - used < event_file::line::LINE {
-        return rest(table, number, at, to, used, true);
-    }
-    if number == u64::MAX {
-        return rest(table, number, at, to, used, false);
+    if whole(input, at, to) {
+        return stay(table, number, at, to, used, number < u64::MAX);
     }
     let left = shift(input, at, to);
     let p = fill(from, input, left);
@@ -148,8 +171,10 @@ fn go_on(
     }
 }
 
-// A turn that read nothing.
-fn rest(table: [Stream; 8], number: u64, at: usize, to: usize, used: usize, going: bool) -> Turn {
+// A turn that reads nothing.
+fn stay(table: [Stream; 8], number: u64, at: usize, to: usize, used: usize, going: bool) -> Turn
+    ensures { λ r. ⌜ r ≡ stays table number at to used going ⌝ }
+{
     Turn {
         held: Held {
             table,
@@ -165,7 +190,9 @@ fn rest(table: [Stream; 8], number: u64, at: usize, to: usize, used: usize, goin
 }
 
 // The table has 8 slots, free at first; records are numbered from 1; the first stands behind the version byte.
-fn start(to: usize) -> Held {
+fn start(to: usize) -> Held
+    ensures { λ r. ⌜ r ≡ startOf to ⌝ }
+{
     Held {
         table: [calls::blank(); 8],
         number: 1,
@@ -175,7 +202,9 @@ fn start(to: usize) -> Held {
 }
 
 // Does the input begin with the version byte, 1?
-fn versioned(input: &[u8]) -> bool {
+fn versioned(input: &[u8]) -> bool
+    ensures { λ r. ⌜ r ≡ startsOne (now (input .entry)) ⌝ }
+{
     if input.len() == 0 {
         return false;
     }
@@ -183,7 +212,10 @@ fn versioned(input: &[u8]) -> bool {
 }
 
 // A proved loop has to end, and nothing says that an input does: turns are counted down from a number that no run uses up.
-fn turns(from: i32, onto: i32, h: Held, input: &mut [u8], lines: &mut [u8], out: &mut [u8]) {
+fn turns(from: i32, onto: i32, h: Held, input: &mut [u8], lines: &mut [u8], out: &mut [u8])
+    requires { ⌜ (65537 ≤ length (now input)) × (length (now out) ≡ frameMost) × (lastMost ≤ length (now lines)) ⌝ }
+    requires { ⌜ (h .at ≤ h .to) × (h .to ≤ length (now input)) ⌝ }
+{
     let mut held = h;
     let mut left = u64::MAX;
     while left > 0 {
@@ -201,7 +233,9 @@ fn turns(from: i32, onto: i32, h: Held, input: &mut [u8], lines: &mut [u8], out:
     }
 }
 
-fn serve(from: i32, onto: i32, input: &mut [u8], lines: &mut [u8], out: &mut [u8]) {
+fn serve(from: i32, onto: i32, input: &mut [u8], lines: &mut [u8], out: &mut [u8])
+    requires { ⌜ (65537 ≤ length (now input)) × (length (now out) ≡ frameMost) × (lastMost ≤ length (now lines)) ⌝ }
+{
     let p = fill(from, input, 0);
     if p.got < 0 {
         return;

@@ -1,0 +1,21 @@
+-- `event_run::serve::finish` meets its contract: there is room for the last line. Assumes nothing.
+use native.Mathlib.Omega.{arith}
+use Rattle.event_run.proofs.Dues.{last-room, last-written}
+use borrow.Author.Needs.{needs}
+use Rattle.event_run.proofs.serve.finish.Statement.{statement}
+use Rattle.event_run.proofs.serve.finish.Tie as tie
+
+say-last-requires : tie.Need-say-last-requires
+say-last-requires c κs = search needs
+
+flush-requires : tie.Need-flush-requires
+flush-requires c κs = last-room (c .before .before .before .say-last .ensures) (c .before .before .before .say-last .kept .1 .0) (omega arith)
+
+same-length : tie.Need-same-length
+same-length c = search needs
+
+returns : tie.Need-returns
+returns c = let d = c .before .before .before .before .say-last in last-written _ (d .ensures) (c .before .before .before .before .before .before .before .pre)
+
+pub finish-spec : {M : Type 1} → statement M
+finish-spec = tie.close (tie.spec say-last-requires flush-requires same-length returns)
