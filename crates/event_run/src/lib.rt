@@ -1,10 +1,11 @@
 // An event file, read in pieces, and the lines that answer it (document 01, "Event file and the program `events`").
 use event_file::line::Told;
 use event_file::reader::Read;
+use record::Stream;
 ghost use mathlib.Core.Path.{_≡_};
 ghost use Prim.Native.Nat.{_+_, _-_, _≤_, _<_};
 ghost use lib.ListN.{length, take, drop};
-ghost use Rattle.event_run.specs.Run.{nextOf, Noted};
+ghost use Rattle.event_run.specs.Run.{nextOf, Handled, Noted, Drained};
 
 // Where a run is: the next record's number and its place in the input, and how many bytes of lines wait.
 pub struct Place {
@@ -40,6 +41,44 @@ fn note(p: Place, end: usize, told: Told, lines: &mut [u8]) -> Place
         at: end,
         used,
     }
+}
+
+// The answer of one record whose body stands in the input from start up to end.
+fn handle(table: &mut [Stream], input: &[u8], start: usize, end: usize, out: &mut [u8]) -> Told
+    requires { ⌜ (start ≤ end) × (end ≤ length (now input)) ⌝ }
+    ensures { λ r. ⌜ Handled (now (table .entry)) (take (end - start) (drop start (now (input .entry)))) (now (out .entry)) (now (table .exit)) r ⌝ }
+{
+    Told::Bad
+}
+
+// All records that can be answered: each is answered, and its line is noted.
+fn drain(table: &mut [Stream], p: Place, input: &[u8], lines: &mut [u8], out: &mut [u8]) -> Place
+    ensures { λ r. ⌜ Drained (now (table .entry)) p (now (input .entry)) (now (lines .entry)) (now (out .entry)) (now (table .exit)) r (now (lines .exit)) ⌝ }
+{
+    let mut p = p;
+    loop {
+        let Read::Body(start, end) = seek(p, input, lines.len()) else {
+            break;
+        };
+        let told = handle(table, input, start, end, out);
+        let next = note(p, end, told, lines);
+        p = next;
+    }
+    p
+}
+
+// The same with a table of 8 by value: it is lent once for a whole buffer.
+struct Round {
+    table: [Stream; 8],
+    place: Place,
+}
+
+fn drain8(table: [Stream; 8], p: Place, input: &[u8], lines: &mut [u8], out: &mut [u8]) -> Round
+    ensures { λ r. ⌜ Drained table p (now (input .entry)) (now (lines .entry)) (now (out .entry)) (r .table) (r .place) (now (lines .exit)) ⌝ }
+{
+    let mut table = table;
+    let place = drain(&mut table, p, input, lines, out);
+    Round { table, place }
 }
 
 // Moves the bytes from a place up to another to the front, and answers how many.
