@@ -106,7 +106,12 @@ class Type:
             self.owned = lambda v, g: f'{p}has ! {paren(v)} {g}'
 
 
-def imports(table, body, prefix):
+def taken(uses):
+    """The names that these `use` lines bring."""
+    return {n.split(' as ')[-1].strip() for u in uses for m in re.findall(r'\{(.*?)\}', u) for n in m.split(',')}
+
+
+def imports(table, body, prefix, but=()):
     words = set(re.split(r'[\s(){},;]+', body)) | set(re.findall(r'[^\s(){},;.]+', body))
     r = []
     for line in table.strip().split('\n'):
@@ -116,7 +121,7 @@ def imports(table, body, prefix):
         for n in names.split():
             word, _, real = n.partition('=')
             real = real or word
-            if word in words:
+            if word in words and word not in but:
                 got.append(real.replace('@', ' as '))
         if got:
             r.append(f'use {prefix}{module}.{{{", ".join(got)}}}')

@@ -52,7 +52,7 @@ import os, re, sys
 sys.dont_write_bytecode = True
 
 from calls import Steps
-from names import IMPORTS, dash, imports, local, own, paren
+from names import IMPORTS, dash, imports, local, own, paren, taken
 
 
 class Walk(Steps):
@@ -190,8 +190,10 @@ class Walk(Steps):
         body = re.sub(r'\n\n\n+', '\n\n', body)
         f, mine = dash(self.name), f'Rattle.{self.crate}.proofs'
         head = [f'-- `{self.crate}::{self.name}` meets its contract: {self.about}', f'-- A walk of its MIR, made by tools/walks/walk.py from tools/walks/{self.crate}/{self.name}.walk: edit that. Assumes nothing.']
-        head += imports(IMPORTS, body, '') + uses + imports(own(self.crate), body, mine + '.') + self.callee_uses()
-        head += [f'use {mine}.{self.name}.Key.{{name as #{self.crate}·{f}}}', f'use {mine}.{self.name} as fn', f'use {mine}.{self.name}.Statement as stated', f'use {mine}.{self.name}.Code as code']
+        ours = imports(own(self.crate), body, mine + '.')
+        theirs = imports(own('receiver'), body, 'Rattle.receiver.proofs.', taken(uses + ours)) if self.crate != 'receiver' else []
+        head += imports(IMPORTS, body, '') + uses + theirs + ours + self.callee_uses()
+        head += [f'use {mine}.{self.name}.Key.{{name as #{dash(self.crate)}·{f}}}', f'use {mine}.{self.name} as fn', f'use {mine}.{self.name}.Statement as stated', f'use {mine}.{self.name}.Code as code']
         if 'mir′.' in body: head += [f'use {mine}.{self.name}.Code.Mir as mir′']
         return '\n'.join(head) + '\n\n' + body
 

@@ -37,11 +37,11 @@ use Rattle.record.specs.declared.Stream.{Stream}
 use Rattle.calls.specs.declared.Answer.{Answer}
 use Rattle.calls.specs.Calls.{arriving, Meets as CallMeets}
 use Rattle.calls.specs.Said.{saidArrival}
-use Rattle.receiver.proofs.Rows.{R}
-use Rattle.receiver.proofs.Calling.{calls-value, calls-with}
-use Rattle.receiver.proofs.Enums.{answer-val, answer-tells, answer-typed, answer-has}
 use Rattle.port.specs.declared.ArrivalAnswer.{ArrivalAnswer}
 use Rattle.port.specs.Answers.{tellArrival, Told}
+use Rattle.receiver.proofs.Calling.{calls-value, calls-with}
+use Rattle.receiver.proofs.Enums.{answer-val, answer-tells, answer-typed, answer-has}
+use Rattle.receiver.proofs.Rows.{R}
 use Rattle.port.proofs.Answers.{meets-told}
 use Rattle.port.proofs.Values.{arrivalanswer-val, arrivalanswer-tells, arrivalanswer-ok, arrivalanswer-typed, arrivalanswer-has}
 use Rattle.receiver.proofs.arrival as fn-arrival
@@ -128,10 +128,10 @@ module _ {M : Type 1} (𝓤 : URA M) (H : Heap 𝓤) (A : Atoms 𝓤) (W : Given
         (λ (a : Answer) ws. CallMeets ys (arriving network fr us) (record { said = saidArrival a; table = ws .0; output = ws .1 .1 .1 .0 })) (λ a ws. id⊢ 𝓤 _) (and-then ! (load ! (from ! (stop !)) (look-cell ! 5 refl)) (and-then ! (load ! (from ! (stop !)) (look-cell ! 15 refl)) (and-then ! (load ! (from ! (stop !)) (look-cell ! 13 refl)) (and-then ! (load ! (from ! (stop !)) (look-cell ! 1 refl)) (no-more !))))) (λ a ws g-a said.
         -- [what is left; the tokens; the locals]
         land ! (from ! (stop !)) (init ! 10 refl (answer-typed 𝓤 H A W a g-a)) $
-        calls-value {𝓤 = 𝓤} {H = H} {A = A} ! fm fn-tell-arrival.ended (fn-tell-arrival.clauses 𝓤 H A mem run) (known .tell-arrival′) ((tt, tt, tt, (a, tt), (answer-val a ∷ [], tt)), tt) (qed W [] ∵ nothing ! $ answer-has ! a g-a $ fjoin ! $ nothing ! $ join ! $ frame ! $ done !) arrivalanswer-val (λ r vs p. arrivalanswer-tells r vs p) (λ (r : ArrivalAnswer). r ≡ tellArrival (saidArrival a)) (λ r ws. id⊢ 𝓤 _) (and-then ! (load ! (from ! (stop !)) (look-cell ! 11 refl)) (no-more !)) (λ r g-r told.
+        calls-value {𝓤 = 𝓤} {H = H} {A = A} ! fm fn-tell-arrival.ended (fn-tell-arrival.clauses 𝓤 H A mem run) (known .tell-arrival′) ((tt, tt, tt, (a, tt), (answer-val a ∷ [], tt)), tt) (qed W [] ∵ nothing ! $ answer-has ! a g-a $ fjoin ! $ nothing ! $ join ! $ frame ! $ done !) arrivalanswer-val (λ r vs p. arrivalanswer-tells r vs p) (λ (r : ArrivalAnswer). r ≡ tellArrival (saidArrival a)) (λ r ws. id⊢ 𝓤 _) (and-then ! (load ! (from ! (stop !)) (look-cell ! 11 refl)) (no-more !)) (λ r g-r heard.
         land ! (from ! (stop !)) (init ! 20 refl (arrivalanswer-typed 𝓤 H A W r g-r)) $
         returns ! (look-cell ! 20 refl) $ forget ! 20 refl $ forget ! 18 refl $ forget ! 16 refl $ forget ! 14 refl $ forget ! 12 refl $ forget ! 10 refl $ forget ! 8 refl $ forget ! 6 refl $ forget ! 4 refl $ forget ! 2 refl $
-        move ! (20 ∷ 21 ∷ []) $ free1 ! $ move ! (18 ∷ 19 ∷ []) $ free1 ! $ move ! (16 ∷ 17 ∷ []) $ free1 ! $ move ! (14 ∷ 15 ∷ []) $ free1 ! $ move ! (12 ∷ 13 ∷ []) $ free1 ! $ move ! (10 ∷ 11 ∷ []) $ free1 ! $ move ! (8 ∷ 9 ∷ []) $ free1 ! $ move ! (6 ∷ 7 ∷ []) $ free1 ! $ move ! (4 ∷ 5 ∷ []) $ free1 ! $ move ! (2 ∷ 3 ∷ []) $ free1 ! $ free0 ! $ keep ! (0 ∷ 1 ∷ []) $ by ! (exits (ws .0) (ws .1 .1 .1 .0) r g-r (meets-told tellArrival ys (arriving network fr us) said told))))))))))))))
+        move ! (20 ∷ 21 ∷ []) $ free1 ! $ move ! (18 ∷ 19 ∷ []) $ free1 ! $ move ! (16 ∷ 17 ∷ []) $ free1 ! $ move ! (14 ∷ 15 ∷ []) $ free1 ! $ move ! (12 ∷ 13 ∷ []) $ free1 ! $ move ! (10 ∷ 11 ∷ []) $ free1 ! $ move ! (8 ∷ 9 ∷ []) $ free1 ! $ move ! (6 ∷ 7 ∷ []) $ free1 ! $ move ! (4 ∷ 5 ∷ []) $ free1 ! $ move ! (2 ∷ 3 ∷ []) $ free1 ! $ free0 ! $ keep ! (0 ∷ 1 ∷ []) $ by ! (exits (ws .0) (ws .1 .1 .1 .0) r g-r (meets-told tellArrival ys (arriving network fr us) said heard))))))))))))))
 
 pub nippitsun-arrival-spec : {M : Type 1} → stated.statement M
 unfolding code.routine tablesOf
