@@ -57,7 +57,8 @@ def own(crate):
     """The same of the crate's own modules, crates/CRATE/proofs/*.antt."""
     r = ''
     for f in sorted(glob.glob(f'crates/{crate}/proofs/*.antt')):
-        names = re.findall(r'^ *(?:abbrev |unfoldable )?pub (?:record |data )?([^\s:]+) ', open(f).read(), re.M)
+        text = re.sub(r'^(pub record .*\n)(?:  .*\n)+', r'\1', open(f).read(), flags=re.M)   # without the fields
+        names = re.findall(r'^ *(?:abbrev |unfoldable )?pub (?:record |data )?([^\s:]+) ', text, re.M)
         r += f'{os.path.basename(f)[:-5]}: {" ".join(dict.fromkeys(names))}\n'
     return r
 
