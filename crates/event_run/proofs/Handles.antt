@@ -7,7 +7,7 @@ use mathlib.Core.Bool.{Bool, true, false, _&&_}
 use mathlib.Core.List.{List, [], _∷_}
 use lib.ListN.{length, getD, take, drop, length-take}
 use lib.Dec.{leb, eqb}
-use lib.Seq.{drop-drop}
+use lib.Seq.{take-nil, drop-drop}
 use borrow.Author.Tests.{leb-true}
 use Rattle.refusal.specs.Checks.{Said}
 use Rattle.record.specs.Words.{if_then_else_}
@@ -54,7 +54,7 @@ frame-within s start end h e = omega (arith, arrival-long (take (end - start) (d
 drop-take : (m n : ℕ) (l : List ℕ) → drop m (take n l) ≡ take (n - m) (drop m l)
 drop-take zero n l = simp unary-clauses refl
 drop-take (suc m) zero l = let k : zero - suc m ≡ 0 = omega arith in rw k refl
-drop-take (suc m) (suc n) [] = simp unary-clauses refl
+drop-take (suc m) (suc n) [] = simp unary-clauses (sym (take-nil (n - m)))
 drop-take (suc m) (suc n) (a ∷ l) = simp unary-clauses (drop-take m n l)
 
 -- the frame of a body is the part of the input behind its kind and its network
