@@ -12,7 +12,8 @@ Of the function:
   %about TEXT               the file's first comment
   %param NAME TYPE          a parameter, in order: &[Stream], &mut [Stream], &[u8], &mut [u8], a number, bool, Stream, a type of Values.antt or Enums.antt, or a & to one of these (&Six).
                             NAME is its value (of a slice: its list; the table is ys), g-NAME the fact that it fits
-                            `given` behind a &mut says that it is handed on for good: %walk then leaves [..; tokens; what the parameters own] together
+                            `given` behind a &mut says that it is handed on for good: %walk then leaves [..; tokens; what the parameters own] together;
+                            `settled` that it may be: at the end the walk has what says its last list, be it the callee's, and `exits` makes it of what was kept
   %result TYPE              what it returns; () for nothing
   %requires FACT            over the parameters' names; `given` is the proof of it
   %calls CRATE::G ..        the callees; known .g′ is the theorem of each
@@ -61,7 +62,7 @@ class Walk(Steps):
         m = re.fullmatch(r'call (\S+)(.*?) -> (\S+) (\S+) (\S+)\. (.*)', text)
         if m:
             return ind + self.call(*m.groups())
-        m = re.fullmatch(r'(read|write) (\S+)(.*?) -> (\S+) (\S+) (?:(\S+) )?(\S+)\. (.*)', text)
+        m = re.fullmatch(r'(read|write) (\S+)(.*?) -> (\S+) (\S+) ((?:\S+ )*?)(\S+)\. (.*)', text)
         if m:
             return ind + self.hand(*m.groups())
         m = re.fullmatch(r'lend (mut )?(\S+) (\d+) (\S+) (\S+)(.*?) -> (\S+) (\S+) (?:(\S+) )?(\S+)\. (.*)', text)
@@ -83,6 +84,15 @@ class Walk(Steps):
             d, sl, p = m.groups()
             return (f'{ind}assigns ! (addr ! (from ! (fld ! refl (hop ! (look-in ! {self.pos(sl)} (sub ! 0 refl (whole !))) (stop !))))) {self.cell(":=", p, "(tt, tt)")} $\n'
                     f'{ind}assigns ! (agg ! (and-then ! {self.opd(p)} (and-then ! {self.opd(sl + ".1")} (no-more !)))) {self.cell(":=", d, f"(tt, (tt, (record {{ fits = {ev} .0 }}, tt)))")} $')
+        m = re.fullmatch(r'part (\d+) := (\d+)\[(\d+)\.\.(\d+)\] via (\d+) (\d+) (\d+)', body)
+        if m:
+            d, sl, i, e, p, n, r = m.groups()
+            xs, first, end, within, room = self.arguments('|' + ev)[0][0]
+            return (f'{ind}assigns ! (bin ! {self.opd(sl + ".0")} {self.opd(i)} tt) {self.cell(":=", p, "(tt, tt)")} $\n'
+                    f'{ind}assigns ! (bin ! {self.opd(e)} {self.opd(i)} ({within} .0)) {self.cell(":=", n, f"(tt, record {{ fits = lt-of-le-of-lt (sub-le {end} {first}) {room} }})")} $\n'
+                    f'{ind}assigns ! (addr ! (from ! (hop ! (look-cell ! {self.pos(p)} refl) (stop !)))) {self.cell(":=", r, "(tt, tt)")} $\n'
+                    f'{ind}assigns ! (agg ! (and-then ! {self.opd(r)} (and-then ! {self.opd(n)} (no-more !)))) {self.cell(":=", d, f"(tt, (tt, (record {{ fits = lt-of-le-of-lt (sub-le {end} {first}) {room} }}, tt)))")} $\n'
+                    f'{ind}rewrite ! {self.pos(d)} (λ (m : ℕ). ‵ (fat fullShare {paren(self.ty[int(d)])} {local(d)} 0 (vstruct (vcons (vptr b₁ ({first} + o₁)) (vcons (vint w64 m) vnil))))) (part-count {xs} {first} {end} {within}) refl $')
         last = body.startswith('last ')
         step = 'assigns-last' if last else 'assigns'
         body = body[5:] if last else body
@@ -163,8 +173,7 @@ class Walk(Steps):
                 if key == 'about': self.about = rest
                 elif key == 'param':
                     name, kind = rest.split(' ', 1)
-                    given = kind.endswith(' given')
-                    self.params.append([name, kind[:-6] if given else kind] + (['given'] if given else []))
+                    self.params.append([name] + re.fullmatch(r'(.*?)(?: (given|settled))?', kind).expand(r'\1|\2').rstrip('|').split('|'))
                 elif key == 'result': self.result = rest
                 elif key == 'requires': self.requires = rest
                 elif key == 'calls': self.calls += rest.split()

@@ -14,7 +14,7 @@ ghost use mathlib.Core.Path.{_≡_};
 ghost use Prim.Native.Nat.{_+_, _-_, _≤_, _<_};
 ghost use lib.ListN.{length, take, drop};
 ghost use Rattle.event_file.specs.Records.{eventOf, destinationOf};
-ghost use Rattle.event_run.specs.Run.{nextOf, Noted, Handled, Drained};
+ghost use Rattle.event_run.specs.Run.{nextOf, Handled, Noted, Drained};
 
 // Where a run is: the next record's number and its place in the input, and how many bytes of lines wait.
 pub struct Place {
