@@ -4,7 +4,7 @@ use Prim.Native.Nat.{ℕ, _+_, _-_, _≤_}
 use native.Mathlib.Omega.{arith}
 use mathlib.Core.Bool.{Bool, true, false}
 use mathlib.Core.List.{List, [], _∷_, _++_, append-assoc}
-use lib.ListN.{length, take, drop, getD, length-take, length-drop, drop-of-length-le, take-append-drop}
+use lib.ListN.{length, take, drop, getD, length-take, drop-of-length-le, take-append-drop}
 use lib.Seq.{length-take-le, take-take, take-add, drop-at}
 use lib.Dec.{eqb}
 use Rattle.record.specs.Words.{if_then_else_}
@@ -17,7 +17,7 @@ use Rattle.event_run.specs.declared.Place.{Place}
 use Rattle.event_run.specs.declared.serve.Held.{Held}
 use Rattle.event_run.specs.declared.serve.Turn.{Turn}
 use Rattle.event_run.specs.Run.{due, Kept}
-use Rattle.event_run.specs.Turns.{placeOf, heldIn, dueFrom, pieceOf, stays, Turned, startsOne, startOf, Goes, on, end, RunsPrint}
+use Rattle.event_run.specs.Turns.{placeOf, heldIn, dueFrom, pieceOf, stays, Turned, startsOne, startOf, Goes, here, turn, RunsPrint}
 use Rattle.event_run.proofs.Dues.{last-due}
 
 -- ---- parts of a list
@@ -88,10 +88,10 @@ module _ (h : Held) (u : Table) (r : Place) (input old new : List ℕ) (k : Kept
         same : (later : List ℕ) → take (r .used) new ++ linesFrom u (r .number) (recordsOf (take left now ++ later)) ≡ dueFrom h input (drop (left - 0) (take left now) ++ later)
         same later = let n : left - 0 ≡ left = omega arith in rw n (read-same left (omega arith) later)
 
-        last : linesFrom u (r .number) (recordsOf (take left now ++ [])) ≡ lastLine (length (take left now))
+        last : linesFrom u (r .number) (recordsOf (take left now ++ [])) ≡ lastLine (left - 0)
         last =
             let n : length (take (h .to) input) ≡ h .to = length-take-le (h .to) input b in
-            let q : length (take left now) ≡ length (take (h .to) input) - r .at = ap (length {A = ℕ}) front ∙ length-drop (r .at) (take (h .to) input) in
+            let q : left - 0 ≡ length (take (h .to) input) - r .at = omega arith in
             ap (λ (s : List ℕ). linesFrom u (r .number) (recordsOf s)) (append-nil (take left now) ∙ front)
             ∙ (last-due u (r .number) (take (h .to) input) (r .at) (omega arith) m ∙ ap lastLine (sym q))
 
@@ -114,10 +114,12 @@ starts-some (a ∷ s) e = omega arith
 
 -- ---- a run
 
-goes-print : {h : Held} {input read written : List ℕ} → Goes h input read written → written ≡ dueFrom h input read
-goes-print (on {h} {old} {now} {lines} {r} {read} {written} t g) = ap (λ (s : List ℕ). take (r .wrote) lines ++ s) (goes-print g) ∙ t .same read
-goes-print (end {h} {old} {now} {lines} {r} t e) =
-    ap (λ (s : List ℕ). take (r .wrote) lines ++ s) (sym (t .last e .1)) ∙ (t .same [] ∙ ap (λ (s : List ℕ). dueFrom h old (s ++ [])) (t .last e .0))
+-- what was handed over, and what is due, stays
+goes-due : {h : Held} {old : List ℕ} {k : Held} {now read written : List ℕ} → Goes h old k now read written → (later : List ℕ) → written ++ dueFrom k now later ≡ dueFrom h old (read ++ later)
+goes-due here later = refl
+goes-due {h} {old} (turn {k} {now} {after} {lines} {read} {written} {r} g t) later =
+    append-assoc written (take (r .wrote) lines) (dueFrom (r .held) after later)
+    ∙ (ap (λ (s : List ℕ). written ++ s) (t .same later) ∙ (goes-due g (pieceOf r after ++ later) ∙ ap (dueFrom h old) (sym (append-assoc read (pieceOf r after) later))))
 
 one-starts : (s later : List ℕ) → startsOne s ≡ true → linesFrom freeTable 1 (recordsOf (drop 1 s ++ later)) ≡ linesOf (s ++ later)
 unfolding startsOne linesOf
@@ -126,4 +128,7 @@ one-starts (a ∷ s) later e = rw e refl
 
 pub runs-print : RunsPrint
 unfolding dueFrom
-runs-print to input read written e g = goes-print g ∙ one-starts (take to input) read e
+runs-print to input k now read written after lines r e g t z =
+    ap (λ (s : List ℕ). written ++ (take (r .wrote) lines ++ s)) (sym (t .last z .1))
+    ∙ (ap (λ (s : List ℕ). written ++ s) (t .same [] ∙ ap (λ (s : List ℕ). dueFrom k now (s ++ [])) (t .last z .0))
+    ∙ (goes-due g [] ∙ (ap (dueFrom (startOf to) input) (append-nil read) ∙ one-starts (take to input) read e)))

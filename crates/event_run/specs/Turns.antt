@@ -23,6 +23,9 @@ placeOf h = record { number = h .number; at = h .at; used = 0 }
 abbrev pub heldIn : Held → List ℕ → List ℕ
 heldIn h input = drop (h .at) (take (h .to) input)
 
+abbrev pub leftOf : Held → ℕ
+leftOf h = h .to - h .at
+
 -- All that is printed from here on, where the input still brings these bytes.
 unfoldable pub dueFrom : Held → (input later : List ℕ) → List ℕ
 dueFrom h input later = linesFrom (h .table) (h .number) (recordsOf (heldIn h input ++ later))
@@ -36,10 +39,10 @@ abbrev pub stays : Table → (number at to used : ℕ) (going : Bool) → Turn
 stays table number at to used going = record { held = record { table = table; number = number; at = at; to = to }; wrote = used; read = 0; going = going; ended = false }
 
 -- What a turn handed over to be written, and all that is printed from then on, is what was due before it with the piece
--- that it read; whatever comes later. Where the input has ended, nothing was read, and the last line is due.
+-- that it read; whatever comes later. Where the input has ended, nothing was read, and only the last line is due.
 pub record Turned (h : Held) (old now lines : List ℕ) (r : Turn) : Type 0 where
   pub same : (later : List ℕ) → take (r .wrote) lines ++ dueFrom (r .held) now later ≡ dueFrom h old (pieceOf r now ++ later)
-  pub last : r .ended ≡ true → (pieceOf r now ≡ []) × (dueFrom (r .held) now [] ≡ lastLine (length (heldIn (r .held) now)))
+  pub last : r .ended ≡ true → (pieceOf r now ≡ []) × (dueFrom (r .held) now [] ≡ lastLine (leftOf (r .held)))
 
 -- the version byte, 1, stands at the start
 unfoldable pub startsOne : List ℕ → Bool
@@ -50,17 +53,22 @@ startsOne (version ∷ s) = eqb version 1
 abbrev pub startOf : (to : ℕ) → Held
 startOf to = record { table = freeTable; number = 1; at = 1; to = to }
 
--- A run: turns up to one at which the input has ended, with all bytes that they read and all that was handed over to be
--- written, the last line at the end.
-pub data Goes : (h : Held) (input read written : List ℕ) → Type 0 where
-  on : {h : Held} {old now lines : List ℕ} {r : Turn} {read written : List ℕ}
-      → Turned h old now lines r → Goes (r .held) now read written → Goes h old (pieceOf r now ++ read) (take (r .wrote) lines ++ written)
-  end : {h : Held} {old now lines : List ℕ} {r : Turn}
-      → Turned h old now lines r → r .ended ≡ true → Goes h old [] (take (r .wrote) lines ++ lastLine (length (heldIn (r .held) now)))
+-- A run, turn by turn: where it is, all bytes that its turns have read, and all that they have handed over to be written.
+pub data Goes (h : Held) (old : List ℕ) : (k : Held) (now read written : List ℕ) → Type 0 where
+  here : Goes h old h old [] []
+  turn : {k : Held} {now after lines read written : List ℕ} {r : Turn} → Goes h old k now read written → Turned k now after lines r
+      → Goes h old (r .held) after (read ++ pieceOf r after) (written ++ take (r .wrote) lines)
 
--- However the reads cut the input, and however the lines are cut into writes: what a whole run hands over to be written
--- is what document 01 says is printed of the bytes that it read.
+-- The loop over the turns keeps this: it has come by such turns to where it is.
+pub record Gone (h : Held) (old : List ℕ) (k : Held) (now : List ℕ) : Type 0 where
+  pub read : List ℕ
+  pub written : List ℕ
+  pub goes : Goes h old k now read written
+
+-- However the reads cut the input, and however the lines are cut into writes: at the end of the input, what the turns
+-- have handed over to be written and the last line are what document 01 says is printed of the bytes that were read.
 abbrev pub RunsPrint : Type 0
 RunsPrint =
-    (to : ℕ) (input read written : List ℕ) → startsOne (take to input) ≡ true → Goes (startOf to) input read written
-    → written ≡ linesOf (take to input ++ read)
+    (to : ℕ) (input : List ℕ) (k : Held) (now read written after lines : List ℕ) (r : Turn) → startsOne (take to input) ≡ true
+    → Goes (startOf to) input k now read written → Turned k now after lines r → r .ended ≡ true
+    → written ++ (take (r .wrote) lines ++ lastLine (leftOf (r .held))) ≡ linesOf (take to input ++ read)

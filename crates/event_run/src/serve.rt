@@ -15,7 +15,7 @@ ghost use Rattle.event_file.specs.Records.{readAt};
 ghost use Rattle.event_file.specs.Lines.{lastLine};
 ghost use Rattle.event_file.specs.Buffers.{lastMost};
 ghost use Rattle.event_run.specs.Run.{Drained};
-ghost use Rattle.event_run.specs.Turns.{placeOf, stays, Turned, startsOne, startOf};
+ghost use Rattle.event_run.specs.Turns.{placeOf, leftOf, stays, Turned, startsOne, startOf};
 
 // Moves the bytes from a place up to another to the front, and answers how many.
 fn shift(input: &mut [u8], at: usize, to: usize) -> usize
@@ -62,15 +62,6 @@ fn fill(from: i32, input: &mut [u8], left: usize) -> Piece
     }
     let n = io::count(got, &input[left..]);
     Piece { to: left + n, got }
-}
-
-// Writes the last line: so many bytes are left behind the last whole record, and the input has ended.
-fn finish(onto: i32, left: usize, lines: &mut [u8])
-    requires { ⌜ lastMost ≤ length (now lines) ⌝ }
-    ensures { λ _. ⌜ take (length (lastLine left)) (now (lines .exit)) ≡ lastLine left ⌝ }
-{
-    let used = event_file::line::say_last(left, lines, 0);
-    flush(onto, lines, used);
 }
 
 // Where a run is between two turns: the table, the next record's number, and the part of the input buffer, from a place up
@@ -189,6 +180,15 @@ fn stay(table: [Stream; 8], number: u64, at: usize, to: usize, used: usize, goin
     }
 }
 
+// Writes the last line: the input has ended, and no whole record is left.
+fn finish(onto: i32, h: Held, lines: &mut [u8])
+    requires { ⌜ (h .at ≤ h .to) × (lastMost ≤ length (now lines)) ⌝ }
+    ensures { λ _. ⌜ take (length (lastLine (leftOf h))) (now (lines .exit)) ≡ lastLine (leftOf h) ⌝ }
+{
+    let used = event_file::line::say_last(h.to - h.at, lines, 0);
+    flush(onto, lines, used);
+}
+
 // The table has 8 slots, free at first; records are numbered from 1; the first stands behind the version byte.
 fn start(to: usize) -> Held
     ensures { λ r. ⌜ r ≡ startOf to ⌝ }
@@ -222,7 +222,7 @@ fn turns(from: i32, onto: i32, h: Held, input: &mut [u8], lines: &mut [u8], out:
         let t = go_on(from, onto, held, input, lines, out);
         let h = t.held;
         if t.ended {
-            finish(onto, h.to, lines);
+            finish(onto, h, lines);
             return;
         }
         if !t.going {

@@ -5,6 +5,9 @@ use borrow.Author.Needs.{needs}
 use Rattle.event_run.proofs.serve.finish.Statement.{statement}
 use Rattle.event_run.proofs.serve.finish.Tie as tie
 
+sub-say-last : tie.Need-sub-say-last
+sub-say-last c = search needs
+
 say-last-requires : tie.Need-say-last-requires
 say-last-requires c κs = search needs
 
@@ -15,7 +18,7 @@ same-length : tie.Need-same-length
 same-length c = search needs
 
 returns : tie.Need-returns
-returns c = let d = c .before .before .before .before .say-last in last-written _ (d .ensures) (c .before .before .before .before .before .before .before .pre)
+returns c = let d = c .before .before .before .before .say-last in last-written _ (d .ensures) (c .before .before .before .before .before .before .before .before .pre .1)
 
 pub finish-spec : {M : Type 1} → statement M
-finish-spec = tie.close (tie.spec say-last-requires flush-requires same-length returns)
+finish-spec = tie.close (tie.spec sub-say-last say-last-requires flush-requires same-length returns)

@@ -1,19 +1,21 @@
--- `event_run::serve::turns` meets its contract: the turns that are left are the measure. Assumes nothing.
+-- `event_run::serve::turns` meets its contract: the loop goes by turns. How many are left is the measure. Assumes nothing.
 use Prim.Native.Nat.{_≤_}
 use mathlib.Core.Path.{_≡_}
 use lib.ListN.{length}
+use mathlib.Core.List.{[]}
 use borrow.Author.Needs.{needs}
+use Rattle.event_run.specs.Turns.{Gone, here, turn}
 use Rattle.event_run.proofs.serve.turns.Statement.{statement}
 use Rattle.event_run.proofs.serve.turns.Tie as tie
 
 abbrev Inv-loop : tie.InvT-loop
-Inv-loop from onto input₀ lines₀ out₀ held₀ left₀ input lines out held left = (held .at ≤ held .to) × (held .to ≤ length input) × (length input ≡ length input₀) × (length lines ≡ length lines₀) × (length out ≡ length out₀)
+Inv-loop from onto input₀ lines₀ out₀ held₀ left₀ input lines out held left = (held .at ≤ held .to) × (held .to ≤ length input) × (length input ≡ length input₀) × (length lines ≡ length lines₀) × (length out ≡ length out₀) × (Gone held₀ input₀ held input)
 
 abbrev μ-loop : tie.MeasureT-loop
 μ-loop from onto input₀ lines₀ out₀ held₀ left₀ input lines out held left = left
 
 loop-holds : tie.Need-loop-holds Inv-loop μ-loop
-loop-holds c = search needs
+loop-holds c = (search needs, search needs, search needs, search needs, search needs, record { read = []; written = []; goes = here })
 
 go-on-requires : tie.Need-go-on-requires Inv-loop μ-loop
 go-on-requires c κs = search needs
@@ -52,7 +54,10 @@ loop-less : tie.Need-loop-less Inv-loop μ-loop
 loop-less c = search needs
 
 loop-again : tie.Need-loop-again Inv-loop μ-loop
-loop-again c = search needs
+loop-again c =
+    let g = c .before .before .before .before .before .before .before .before .before .before .go-on in
+    let l = c .before .before .before .before .before .before .before .before .before .before .before .before .before .before .before .loop in
+    (search needs, search needs, search needs, search needs, search needs, record { read = _; written = _; goes = turn (l .inv .5 .goes) (g .ensures .0) })
 
 same-length-7 : tie.Need-same-length-7 Inv-loop μ-loop
 same-length-7 c = search needs
