@@ -17,7 +17,7 @@ use Rattle.event_run.specs.declared.Place.{Place}
 use Rattle.event_run.specs.declared.serve.Held.{Held}
 use Rattle.event_run.specs.declared.serve.Turn.{Turn}
 use Rattle.event_run.specs.Run.{due, Kept}
-use Rattle.event_run.specs.Turns.{placeOf, heldIn, dueFrom, pieceOf, stays, Turned, startsOne, startOf, Goes, here, turn, RunsPrint}
+use Rattle.event_run.specs.Turns.{placeOf, heldIn, dueFrom, pieceOf, stays, Turned, startsOne, startOf, Goes, here, turn, RunsPrint, VersionPrints}
 use Rattle.event_run.proofs.Dues.{last-due}
 
 -- ---- parts of a list
@@ -132,3 +132,8 @@ runs-print to input k now read written after lines r e g t z =
     ap (λ (s : List ℕ). written ++ (take (r .wrote) lines ++ s)) (sym (t .last z .1))
     ∙ (ap (λ (s : List ℕ). written ++ s) (t .same [] ∙ ap (λ (s : List ℕ). dueFrom k now (s ++ [])) (t .last z .0))
     ∙ (goes-due g [] ∙ (ap (dueFrom (startOf to) input) (append-nil read) ∙ one-starts (take to input) read e)))
+
+pub version-prints : VersionPrints
+unfolding startsOne linesOf
+version-prints [] later e h = rw (h refl) refl
+version-prints (a ∷ s) later e h = rw e refl

@@ -8,6 +8,7 @@ use mathlib.Core.List.{List, [], _∷_, _++_}
 use lib.ListN.{length, take, drop}
 use lib.Dec.{eqb}
 use Rattle.calls.specs.Table.{Table}
+use Rattle.event_file.specs.Text.{text}
 use Rattle.event_file.specs.Records.{recordsOf}
 use Rattle.event_file.specs.Lines.{lastLine}
 use Rattle.event_file.specs.Files.{freeTable, linesFrom, linesOf}
@@ -72,3 +73,9 @@ RunsPrint =
     (to : ℕ) (input : List ℕ) (k : Held) (now read written after lines : List ℕ) (r : Turn) → startsOne (take to input) ≡ true
     → Goes (startOf to) input k now read written → Turned k now after lines r → r .ended ≡ true
     → written ++ (take (r .wrote) lines ++ lastLine (leftOf (r .held))) ≡ linesOf (take to input ++ read)
+
+-- An absent or different version byte: `version` and nothing more, whatever comes later. It is absent where the input has
+-- ended before it.
+abbrev pub VersionPrints : Type 0
+VersionPrints =
+    (first later : List ℕ) → startsOne first ≡ false → (first ≡ [] → later ≡ []) → linesOf (first ++ later) ≡ text "version\n"

@@ -11,6 +11,7 @@ ghost use mathlib.Core.Bool.{true, false};
 ghost use Prim.Native.Nat.{_+_, _-_, _≤_, _<_};
 ghost use lib.ListN.{length, take, drop};
 ghost use Rattle.record.specs.Sizes.{frameMost};
+ghost use Rattle.event_file.specs.Text.{text};
 ghost use Rattle.event_file.specs.Records.{readAt};
 ghost use Rattle.event_file.specs.Lines.{lastLine};
 ghost use Rattle.event_file.specs.Buffers.{lastMost};
@@ -211,6 +212,13 @@ fn versioned(input: &[u8]) -> bool
     input[0] == 1
 }
 
+// All that is printed of an absent or different version byte.
+fn version_line() -> [u8; 8]
+    ensures { λ r. ⌜ r ≡ text "version\n" ⌝ }
+{
+    [b'v', b'e', b'r', b's', b'i', b'o', b'n', b'\n']
+}
+
 // A proved loop has to end, and nothing says that an input does: turns are counted down from a number that no run uses up.
 fn turns(from: i32, onto: i32, h: Held, input: &mut [u8], lines: &mut [u8], out: &mut [u8])
     requires { ⌜ (65537 ≤ length (now input)) × (length (now out) ≡ frameMost) × (lastMost ≤ length (now lines)) ⌝ }
@@ -242,7 +250,8 @@ fn serve(from: i32, onto: i32, input: &mut [u8], lines: &mut [u8], out: &mut [u8
     }
     let to = p.to;
     if !versioned(&input[..to]) {
-        flush(onto, b"version\n", 8);
+        let line = version_line();
+        flush(onto, &line, 8);
         return;
     }
     turns(from, onto, start(to), input, lines, out);

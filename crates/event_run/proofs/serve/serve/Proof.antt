@@ -27,6 +27,9 @@ slice-aggregate-versioned c = simp length-take (omega (arith, c .before .before 
 versioned-requires : tie.Need-versioned-requires
 versioned-requires c κs = search needs
 
+version-line-requires : tie.Need-version-line-requires
+version-line-requires c = search needs
+
 slice-aggregate-flush : tie.Need-slice-aggregate-flush
 slice-aggregate-flush c = search needs
 
@@ -73,6 +76,7 @@ serve-spec =
     slice-reshare-prefix-versioned
     slice-aggregate-versioned
     versioned-requires
+    version-line-requires
     slice-aggregate-flush
     flush-requires
     same-length-2
