@@ -1,6 +1,4 @@
 // An event file, read in pieces, and the lines that answer it (document 01, "Event file and the program `events`").
-pub mod serve;
-
 use calls::Answer;
 use calls::Done;
 use calls::Opened;
@@ -161,12 +159,12 @@ fn drain(table: &mut [Stream], p: Place, input: &[u8], lines: &mut [u8], out: &m
 }
 
 // The same with a table of 8 by value: it is lent once for a whole buffer.
-struct Round {
-    table: [Stream; 8],
-    place: Place,
+pub struct Round {
+    pub table: [Stream; 8],
+    pub place: Place,
 }
 
-fn drain8(table: [Stream; 8], p: Place, input: &[u8], lines: &mut [u8], out: &mut [u8]) -> Round
+pub fn drain8(table: [Stream; 8], p: Place, input: &[u8], lines: &mut [u8], out: &mut [u8]) -> Round
     ensures { λ r. ⌜ Drained table p (now (input .entry)) (now (lines .entry)) (now (out .entry)) (r .table) (r .place) (now (lines .exit)) ⌝ }
 {
     let mut table = table;

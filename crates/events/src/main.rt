@@ -4,5 +4,5 @@ use libc::STDIN_FILENO;
 use libc::STDOUT_FILENO;
 
 fn main() {
-    event_run::serve::run(STDIN_FILENO, STDOUT_FILENO);
+    event_turns::run(STDIN_FILENO, STDOUT_FILENO);
 }
