@@ -36,8 +36,8 @@ abbrev pub pieceOf : Turn → List ℕ → List ℕ
 pieceOf r input = drop (r .held .to - r .read) (take (r .held .to) input)
 
 -- a turn that reads nothing
-abbrev pub stays : Table → (number at to used : ℕ) (going : Bool) → Turn
-stays table number at to used going = record { held = record { table = table; number = number; at = at; to = to }; wrote = used; read = 0; going = going; ended = false }
+abbrev pub stays : Table → (number at to wrote : ℕ) (going : Bool) → Turn
+stays table number at to wrote going = record { held = record { table = table; number = number; at = at; to = to }; wrote = wrote; read = 0; going = going; ended = false }
 
 -- What a turn handed over to be written, and all that is printed from then on, is what was due before it with the piece
 -- that it read; whatever comes later. Where the input has ended, nothing was read, and only the last line is due.

@@ -34,15 +34,22 @@ fn shift(input: &mut [u8], at: usize, to: usize) -> usize
     n
 }
 
-// Writes the first bytes of the lines. Answers whether they went out, and says so on standard error where they did not.
-fn flush(onto: i32, lines: &[u8], used: usize) -> bool
+// How many bytes were handed over to be written, and whether they went out.
+struct Sent {
+    wrote: usize,
+    out: bool,
+}
+
+// Writes the first bytes of the lines, and says so on standard error where they did not go out.
+fn flush(onto: i32, lines: &[u8], used: usize) -> Sent
     requires { ⌜ used ≤ length (now lines) ⌝ }
+    ensures { λ r. ⌜ r .wrote ≡ used ⌝ }
 {
-    if io::write_all(onto, &lines[..used]) {
-        return true;
+    let out = io::write_all(onto, &lines[..used]);
+    if !out {
+        io::write_all(STDERR_FILENO, b"events: cannot write\n");
     }
-    io::write_all(STDERR_FILENO, b"events: cannot write\n");
-    false
+    Sent { wrote: used, out }
 }
 
 // What one read brought: the place up to which the buffer is read now, and the read's answer.
@@ -126,11 +133,12 @@ fn go_on(from: i32, onto: i32, h: Held, input: &mut [u8], lines: &mut [u8], out:
     let used = d.place.used;
     let to = h.to;
     let sent = flush(onto, lines, used);
-    if !sent {
-        return stay(table, number, at, to, used, false);
+    let wrote = sent.wrote;
+    if !sent.out {
+        return stay(table, number, at, to, wrote, false);
     }
     if whole(input, at, to) {
-        return stay(table, number, at, to, used, number < u64::MAX);
+        return stay(table, number, at, to, wrote, number < u64::MAX);
     }
     let left = shift(input, at, to);
     let p = fill(from, input, left);
@@ -142,7 +150,7 @@ fn go_on(from: i32, onto: i32, h: Held, input: &mut [u8], lines: &mut [u8], out:
                 at: 0,
                 to: left,
             },
-            wrote: used,
+            wrote,
             read: 0,
             going: false,
             ended: p.got == 0,
@@ -155,7 +163,7 @@ fn go_on(from: i32, onto: i32, h: Held, input: &mut [u8], lines: &mut [u8], out:
             at: 0,
             to: p.to,
         },
-        wrote: used,
+        wrote,
         read: p.to - left,
         going: true,
         ended: false,
@@ -163,8 +171,8 @@ fn go_on(from: i32, onto: i32, h: Held, input: &mut [u8], lines: &mut [u8], out:
 }
 
 // A turn that reads nothing.
-fn stay(table: [Stream; 8], number: u64, at: usize, to: usize, used: usize, going: bool) -> Turn
-    ensures { λ r. ⌜ r ≡ stays table number at to used going ⌝ }
+fn stay(table: [Stream; 8], number: u64, at: usize, to: usize, wrote: usize, going: bool) -> Turn
+    ensures { λ r. ⌜ r ≡ stays table number at to wrote going ⌝ }
 {
     Turn {
         held: Held {
@@ -173,7 +181,7 @@ fn stay(table: [Stream; 8], number: u64, at: usize, to: usize, used: usize, goin
             at,
             to,
         },
-        wrote: used,
+        wrote,
         read: 0,
         going,
         ended: false,

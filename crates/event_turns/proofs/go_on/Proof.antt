@@ -26,9 +26,9 @@ same-length-3 c = search needs
 
 returns : tie.Need-returns
 returns c =
-    let d = c .before .before .before .before .before .before .before .before .before in
+    let d = c .before .before .before .before .before .before .before .before .before .before in
     let a = d .before .before .before .before .before .before .before in
-    rw (c .stay .ensures) (stay-turned _ _ _ _ _ _ (d .drain-to .ensures .0 .kept (a .pre .0 .1)) _, (d .drain-to .ensures .1 .0, a .pre .1 .1))
+    rw (c .stay .ensures, c .before .before .before .flush .ensures) (stay-turned _ _ _ _ _ _ (d .drain-to .ensures .0 .kept (a .pre .0 .1)) _, (d .drain-to .ensures .1 .0, a .pre .1 .1))
 
 whole-requires : tie.Need-whole-requires
 whole-requires c κs = search needs
@@ -47,9 +47,9 @@ same-length-6 c = search needs
 
 returns-2 : tie.Need-returns-2
 returns-2 c =
-    let d = c .before .before .before .before .before .before .before .before .before .before .before .before in
+    let d = c .before .before .before .before .before .before .before .before .before .before .before .before .before in
     let a = d .before .before .before .before .before .before .before in
-    rw (c .stay2 .ensures) (stay-turned _ _ _ _ _ _ (d .drain-to .ensures .0 .kept (a .pre .0 .1)) _, (d .drain-to .ensures .1 .0, a .pre .1 .1))
+    rw (c .stay2 .ensures, c .before .before .before .before .before .before .flush .ensures) (stay-turned _ _ _ _ _ _ (d .drain-to .ensures .0 .kept (a .pre .0 .1)) _, (d .drain-to .ensures .1 .0, a .pre .1 .1))
 
 shift-requires : tie.Need-shift-requires
 shift-requires c κs = search needs
@@ -57,7 +57,7 @@ shift-requires c κs = search needs
 fill-requires : tie.Need-fill-requires
 fill-requires c κs =
     let w = c .before .before .before .before .before .before in
-    let d = w .before .before .before .before .before .before .before .before .before .before in
+    let d = w .before .before .before .before .before .before .before .before .before .before .before in
     let a = d .before .before .before .before .before .before .before in
     omega (arith, c .before .before .before .shift .ensures .0, c .before .before .before .shift .kept .0, w .whole .ensures (c .before .before .before .before .before .if2 .left) .1, d .drain-to .ensures .1 .0, a .pre .0 .0)
 
@@ -75,13 +75,14 @@ returns-3 c =
     let f = c .before .before .before .before .before .before in
     let s = f .before .before .before .before in
     let w = s .before .before .before in
-    let d = w .before .before .before .before .before .before .before .before .before .before in
+    let d = w .before .before .before .before .before .before .before .before .before .before .before in
     let a = d .before .before .before .before .before .before .before in
     let k = d .drain-to .ensures .0 .kept (a .pre .0 .1) in
+    rw (w .before .before .before .before .flush .ensures)
     (end-turned _ _ _ _ _ _ k (f .fill .last .1 .0) (s .shift .result) (s .shift .ensures .0) (d .drain-to .ensures .1 .0) (a .pre .1 .1) (f .fill .ensures .2 ∙ s .shift .ensures .1) _ (w .whole .ensures (s .before .before .if2 .left) .0), (omega arith, omega (arith, f .fill .ensures .0, f .fill .ensures .1)))
 
-sub-t36 : tie.Need-sub-t36
-sub-t36 c = search needs
+sub-t37 : tie.Need-sub-t37
+sub-t37 c = search needs
 
 same-length-10 : tie.Need-same-length-10
 same-length-10 c = search needs
@@ -97,9 +98,10 @@ returns-4 c =
     let f = c .before .before .before .before .before in
     let s = f .before .before .before .before in
     let w = s .before .before .before in
-    let d = w .before .before .before .before .before .before .before .before .before .before in
+    let d = w .before .before .before .before .before .before .before .before .before .before .before in
     let a = d .before .before .before .before .before .before .before in
     let k = d .drain-to .ensures .0 .kept (a .pre .0 .1) in
+    rw (w .before .before .before .before .flush .ensures)
     (read-turned _ _ _ _ _ _ k (f .fill .last .1 .0) (s .shift .result) (s .shift .ensures .0) (d .drain-to .ensures .1 .0) (a .pre .1 .1) (f .fill .ensures .2 ∙ s .shift .ensures .1) (f .fill .result .to) (f .fill .ensures .0), (omega arith, f .fill .ensures .1))
 
 pub go-on-spec : {M : Type 1} → statement M
@@ -125,7 +127,7 @@ go-on-spec =
     same-length-8
     same-length-9
     returns-3
-    sub-t36
+    sub-t37
     same-length-10
     same-length-11
     same-length-12
