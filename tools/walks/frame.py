@@ -1,7 +1,7 @@
 """The parts of a walk's proof that follow from the function's signature alone: module, entry, exit, ending. Used by walk.py."""
 import re
 
-from names import SUB, Type, dash, local, nest, path
+from names import SUB, Type, dash, local, nest, paren, path
 
 
 class Frame:
@@ -162,6 +162,50 @@ class Frame:
       qed W ({kept}) ∵
       suffices ! _ (ends-at 𝓤 H A fn.ended stayed (fn.clauses 𝓤 H A mem run) W {self.ghost()} ({r.val('r')}) r {at} {lens}) $ says ! said $
       {' '.join(out)} frame ! $ {r.owned('r', 'g')} $ done !
+'''
+
+    # a callee that is handed references for good, its parameters in order: what is left of them, and from that and the tokens to Post′
+    def gives(self, params, said):
+        r, refs = Type(self.result), self.refs()
+        last = {p[0]: ('zs' if p[0] == 'ys' else p[0] + '′') for p in self.params if p[1].startswith('&mut')}
+        left, tokens = 'ftrue', '‵ ftrue'
+        for name in reversed(params):
+            k = next((k for k, p in refs if p[0] == name), None)
+            one = f'fsep (finally {self.element(refs[k][1])} {self.names(k)[4]} {last[name]}) (feq ℕ (length {last[name]}) (length {name}))' if name in last else 'ftrue'
+            left = f'fsep {paren(one)} {paren(left)}'
+        for k, _ in reversed(refs):
+            κ, q = self.names(k)[:2]
+            tokens = f'‵ (flft {κ} {q}) ⊛ {paren(tokens) if "⊛" in tokens else tokens}'
+        # the last lists are taken out, the first one stands last
+        out, given = [], [name for name in params if name in last]
+        for j, name in enumerate(params):
+            rest = any(n in last for n in params[j + 1:])
+            if name not in last:
+                out.append('fsplit ! $ lose ! $')
+            else:
+                out.append(f'fsplit ! $ {"" if rest else "move ! (1 ∷ []) $ lose ! $ "}fsplit ! $ move ! (1 ∷ []) $ feqL ! (λ len-{name}.' + (' move ! (1 ∷ []) $' if rest else ''))
+                if not rest: break
+        have = given[::-1]
+        out.append(f'suffices ! _ (ends-at 𝓤 H A fn.ended stayed (fn.clauses 𝓤 H A mem run) W {self.ghost()} ({r.val("r")}) r {nest([last.get(p[0], "tt") for p in self.params], "tt")} {nest(["len-" + p[0] if p[0] in last else "tt" for p in self.params], "tt")}) $ says ! said $')
+        out.append(f'move ! ({len(have)} ∷ []) $ frame ! $ nothing ! $')
+        for p in reversed(self.params):
+            if p[0] in last:
+                out.append(f'move ! ({have.index(p[0]) + 1} ∷ 0 ∷ []) $ fjoin ! $'); have.remove(p[0])
+            else:
+                out.append('nothing ! $ fjoin ! $')
+        item = {p[0]: self.item(p) for p in self.params}
+        types, lists = ' → '.join(f'List {item[name]}' for name in given), ' '.join(last[name] for name in given)
+        binds = ' '.join(f'({last[name]} : List {item[name]})' for name in given)
+        return f'''  abbrev tokens′ : Item 𝓤
+  tokens′ = {tokens}
+
+  abbrev left′ : {types} → Fml
+  left′ {lists} = {left}
+
+  exits-given : {binds} (r : {r.denot}) → {r.fact('r')} → {said} → ent 𝓤 (⋆ 𝓤 H A (‵ (left′ {lists}) ∷ tokens′ ∷ [])) (Post′ ({r.val('r')}))
+  exits-given {lists} r g said =
+      qed W (‵ (left′ {lists}) ∷ tokens′ ∷ []) ∵
+      {' '.join(out)} frame ! $ {r.owned('r', 'g')} $ done !{')' * len(given)}
 '''
 
     # [observation; borrow; ..] to what says that the last list is this

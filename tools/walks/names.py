@@ -8,6 +8,7 @@ WIDTH = {'u8': 'w8', 'u16': 'w16', 'u32': 'w32', 'u64': 'w64', 'usize': 'w64'}
 IMPORTS = '''
 mathlib.Core.Path: ≡=_≡_ refl sym ∙=_∙_ ap subst
 Prim.Native.Nat: ℕ zero suc +=_+_ -=_-_ <=_<_ ≤=_≤_ *=_*_ ^=_^_
+native.Mathlib.Nat: lt-of-le-of-lt sub-le
 native.Mathlib.Omega: arith
 mathlib.Core.Bool: Bool true false not cond
 mathlib.Core.List: List [] ∷=_∷_ ++=_++_
@@ -27,7 +28,7 @@ prog.Wp: Heap Calls Loops Env Wp WpFn Tables atReturn afterSeq afterBlock afterT
 ghost.Atoms: Atoms sem
 contract.Monad: Fun top
 contract.Running: givenOf tables tablesOf
-types.Kit: Given Item ‵ ⊛=_⊛_ ⋆ Post anyQ atRet post runs Sq $=_$_ ∵=_∵_ ! qed by move keep join split rewrite fjoin fsplit feqI suffices frame done use1 group lose=drop@lose
+types.Kit: Given Item ‵ ⊛=_⊛_ ⋆ Post anyQ atRet post runs Sq $=_$_ ∵=_∵_ ! qed by move keep join split rewrite fjoin fsplit feqI feqL suffices frame done use1 group lose=drop@lose
 types.Part: whole sub look-in agg
 types.Match: vrt in-variant look-tag
 types.Run: look-cell=look@look-cell look-raw store-raw store-cell=store@store-cell init forget stop hop fld from load lit unit-lit addr and-then no-more of-opd bin assigns assigns-last land first skips jumps blocks branches switches-on loops again Below exec returns returns-within enter alloc1 alloc0 params1 pass1 pass0 free1 free0
@@ -50,6 +51,7 @@ denote.Triple.Statement: Contract Triple
 denote.Triple.Table: entered cited
 denote.Triple.Walked: says needs Stays stay-slice stay-dropped gave-slice walkOf goes-slice goes-dropped goes-gave-slice ends-at walked walk-meets
 denote.Exit: yes
+borrow.Rule.Slice.PartAt: part-count
 '''
 
 

@@ -21,6 +21,7 @@ Of the function:
 Of the proof:
   %module                   opens the module over the parameters, with x, mv, Post′ (and n, s: length and machine value of the first slice)
   %exits FACT               the lemma `exits`, from what is kept to Post′. FACT is over r and the last lists of what is &mut: zs of ys, us′ of us
+  %gives ys _ us: FACT      where a callee is handed ys and us for good, and something else between them: `left′ zs us′`, what it leaves, `tokens′`, and the lemma `exits-given`, from both to Post′
   %tables                   opens the module over the callees' theorems and the g-NAMEs
   %walk                     the statement `walk` and its start: locals made, parameters passed, slices entered
   %loop turn-1 then t-3     a loop over the records: opens the proof `turn` of a turn from the state t; t-3 is the code behind the loop
@@ -38,6 +39,7 @@ Statements of the MIR, on lines that begin with a colon. An operand is a local 3
   : 6 := 5 cmp 3                            a comparison                : 3 <- 3 plus ; fits FACT       plus 1
   : place 8 := 1[3] via := 5 ; FACT         local 8 points to record number _3 of the slice _1; _5 is its distance, of which FACT says that it fits
   : 9 := *8 ; EVIDENCE                      a record is read            : *8 := 4.0 ; EVIDENCE          a record is stored
+  : part 9 := 2[5..4] via 6 7 8 ; LIST FIRST END WITHIN FACT      local 9 is the part of the slice _2 from number _5 up to _4, which are FIRST and END: WITHIN says that it is one, FACT that END fits
   : reborrow 8 := 1 via 7 ; FACT            local 8 is the slice _1 once more, of which FACT says that its length fits; _7 is its place
 Calls leave a bracket open. r is the result, g-r that it fits, `said` the FACT of it. An argument is `TYPE VALUE FACT OPERAND`; `| given PROOF` shows a `requires`.
   : call CRATE::G | .. | .. -> TYPE r said. FACT                by value
@@ -88,11 +90,13 @@ class Walk(Steps):
         if m:
             d, sl, i, e, p, n, r = m.groups()
             xs, first, end, within, room = self.arguments('|' + ev)[0][0]
+            _, _, b, o, _ = self.names(self.ref(self.params[int(sl) - 1]))
+            fits = f'record {{ fits = lt-of-le-of-lt (sub-le {end} {first}) {room} }}'
             return (f'{ind}assigns ! (bin ! {self.opd(sl + ".0")} {self.opd(i)} tt) {self.cell(":=", p, "(tt, tt)")} $\n'
-                    f'{ind}assigns ! (bin ! {self.opd(e)} {self.opd(i)} ({within} .0)) {self.cell(":=", n, f"(tt, record {{ fits = lt-of-le-of-lt (sub-le {end} {first}) {room} }})")} $\n'
+                    f'{ind}assigns ! (bin ! {self.opd(e)} {self.opd(i)} ({within} .0)) {self.cell(":=", n, f"(tt, {fits})")} $\n'
                     f'{ind}assigns ! (addr ! (from ! (hop ! (look-cell ! {self.pos(p)} refl) (stop !)))) {self.cell(":=", r, "(tt, tt)")} $\n'
-                    f'{ind}assigns ! (agg ! (and-then ! {self.opd(r)} (and-then ! {self.opd(n)} (no-more !)))) {self.cell(":=", d, f"(tt, (tt, (record {{ fits = lt-of-le-of-lt (sub-le {end} {first}) {room} }}, tt)))")} $\n'
-                    f'{ind}rewrite ! {self.pos(d)} (λ (m : ℕ). ‵ (fat fullShare {paren(self.ty[int(d)])} {local(d)} 0 (vstruct (vcons (vptr b₁ ({first} + o₁)) (vcons (vint w64 m) vnil))))) (part-count {xs} {first} {end} {within}) refl $')
+                    f'{ind}assigns ! (agg ! (and-then ! {self.opd(r)} (and-then ! {self.opd(n)} (no-more !)))) {self.cell(":=", d, f"(tt, (tt, ({fits}, tt)))")} $\n'
+                    f'{ind}rewrite ! {self.pos(d)} (λ (m : ℕ). ‵ (fat fullShare {paren(self.ty[int(d)])} {local(d)} 0 (sliceVal ({b}, {first} + {o}) m))) (part-count {xs} {first} {end} {within}) refl $')
         last = body.startswith('last ')
         step = 'assigns-last' if last else 'assigns'
         body = body[5:] if last else body
@@ -186,6 +190,9 @@ class Walk(Steps):
                 elif key == 'loops': out.append(self.loops(rest))
                 elif key == 'module': out.append(self.module())
                 elif key == 'exits': out.append(self.exits(rest))
+                elif key == 'gives':
+                    params, fact = rest.split(': ', 1)
+                    out.append(self.gives(params.split(), fact))
                 elif key == 'tables': out.append(self.tables())
                 elif key == 'walk': out.append(self.line(self.walk()))
                 elif key == 'end': out.append('\n' + self.ending())
