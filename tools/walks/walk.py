@@ -64,7 +64,7 @@ class Walk(Steps):
         m = re.fullmatch(r'call (\S+)(.*?) -> (\S+) (\S+) (\S+)\. (.*)', text)
         if m:
             return ind + self.call(*m.groups())
-        m = re.fullmatch(r'(read|write) (\S+)(.*?) -> (\S+) (\S+) (?:(\S+) )?(\S+)\. (.*)', text)
+        m = re.fullmatch(r'(read|write) (\S+)(.*?) -> (\S+) (\S+) ((?:\S+ )*?)(\S+)\. (.*)', text)
         if m:
             return ind + self.hand(*m.groups())
         m = re.fullmatch(r'lend (mut )?(\S+) (\d+) (\S+) (\S+)(.*?) -> (\S+) (\S+) (?:(\S+) )?(\S+)\. (.*)', text)

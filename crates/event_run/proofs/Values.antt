@@ -19,6 +19,9 @@ use denote.Struct.Laws as Struct-laws
 use Rattle.event_run.specs.declared.Place.{Place}
 use Rattle.event_run.proofs.Place as Place-type
 use Rattle.event_run.proofs.Place.Laws as Place-laws
+use Rattle.event_run.specs.declared.Round.{Round}
+use Rattle.event_run.proofs.Round as Round-type
+use Rattle.event_run.proofs.Round.Laws as Round-laws
 use Rattle.event_file.specs.declared.reader.Settings.{Settings}
 use Rattle.event_file.proofs.reader.Settings as Settings-type
 use Rattle.event_file.proofs.reader.Settings.Laws as Settings-laws
@@ -49,6 +52,33 @@ module _ {M : Type 1} (𝓤 : URA M) (H : Heap 𝓤) (A : Atoms 𝓤) (W : Given
 module _ {M : Type 1} {𝓤 : URA M} {H : Heap 𝓤} {A : Atoms 𝓤} {K : Type 0} {W : Given 𝓤 H A} {Γ : List (Item 𝓤)} {G : Goal 𝓤 H} where
   pub place-has : K → (v : Place) → place-ok v → Step K W (‵ (place-row .own v (place-val v ∷ [])) ∷ Γ) G Γ G
   place-has t v g = owned t place-row (Is place-row) (Struct-laws.makes Place-type.the-type Place-laws.the-plain 𝓤 H A) v _ g
+
+-- ---- Round
+abbrev pub round-row : RattleType
+round-row = Round-type.the-row
+
+abbrev pub round-ty : Ty
+round-ty = Round-laws.mir
+
+abbrev pub round-val : Round → Val
+round-val = Struct-laws.val Round-type.the-type Round-laws.the-laws
+
+abbrev pub round-spells : Round → List Val
+round-spells = Struct-laws.vals Round-type.the-type Round-laws.the-laws
+
+pub round-tells : Tells round-row (Is round-row) round-spells
+round-tells = Struct-laws.tells Round-type.the-type Round-laws.the-laws
+
+abbrev pub round-ok : Round → Type 0
+round-ok v = Is round-row v (round-val v ∷ [])
+
+module _ {M : Type 1} (𝓤 : URA M) (H : Heap 𝓤) (A : Atoms 𝓤) (W : Given 𝓤 H A) where
+  pub round-typed : (v : Round) → round-ok v → T (hasTy round-ty (round-val v)) × WT (round-val v)
+  round-typed v g = Struct-laws.lawful Round-type.the-type Round-laws.the-laws 𝓤 H A W .typed v _ g .0
+
+module _ {M : Type 1} {𝓤 : URA M} {H : Heap 𝓤} {A : Atoms 𝓤} {K : Type 0} {W : Given 𝓤 H A} {Γ : List (Item 𝓤)} {G : Goal 𝓤 H} where
+  pub round-has : K → (v : Round) → round-ok v → Step K W (‵ (round-row .own v (round-val v ∷ [])) ∷ Γ) G Γ G
+  round-has t v g = owned t round-row (Is round-row) (Struct-laws.makes Round-type.the-type Round-laws.the-plain 𝓤 H A) v _ g
 
 -- ---- Settings
 abbrev pub settings-row : RattleType

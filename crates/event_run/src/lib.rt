@@ -12,7 +12,7 @@ ghost use mathlib.Core.Path.{_≡_};
 ghost use Prim.Native.Nat.{_+_, _-_, _^_, _≤_, _<_};
 ghost use lib.ListN.{length, take, drop};
 ghost use Rattle.event_file.specs.Records.{eventOf, destinationOf};
-ghost use Rattle.event_run.specs.Run.{nextOf, Noted, Handled};
+ghost use Rattle.event_run.specs.Run.{nextOf, Handled, Noted, Drained};
 
 // Where a run is: the next record's number and its place in the input, and how many bytes of lines wait.
 pub struct Place {
@@ -140,6 +140,36 @@ fn handle(table: &mut [Stream], input: &[u8], start: usize, end: usize, out: &mu
             return tell_tick(a);
         }
     }
+}
+
+// All records that can be answered: each is answered, and its line is noted.
+fn drain(table: &mut [Stream], p: Place, input: &[u8], lines: &mut [u8], out: &mut [u8]) -> Place
+    ensures { λ r. ⌜ Drained (now (table .entry)) p (now (input .entry)) (now (lines .entry)) (now (out .entry)) (now (table .exit)) r (now (lines .exit)) ⌝ }
+{
+    let mut p = p;
+    loop {
+        let Read::Body(start, end) = seek(p, input, lines.len()) else {
+            break;
+        };
+        let told = handle(table, input, start, end, out);
+        let next = note(p, end, told, lines);
+        p = next;
+    }
+    p
+}
+
+// The same with a table of 8 by value: it is lent once for a whole buffer.
+struct Round {
+    table: [Stream; 8],
+    place: Place,
+}
+
+fn drain8(table: [Stream; 8], p: Place, input: &[u8], lines: &mut [u8], out: &mut [u8]) -> Round
+    ensures { λ r. ⌜ Drained table p (now (input .entry)) (now (lines .entry)) (now (out .entry)) (r .table) (r .place) (now (lines .exit)) ⌝ }
+{
+    let mut table = table;
+    let place = drain(&mut table, p, input, lines, out);
+    Round { table, place }
 }
 
 // Moves the bytes from a place up to another to the front, and answers how many.
