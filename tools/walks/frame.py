@@ -1,7 +1,7 @@
 """The parts of a walk's proof that follow from the function's signature alone: module, entry, exit, ending. Used by walk.py."""
 import re
 
-from names import SUB, Type, dash, local, nest, paren, path
+from names import SUB, Type, dash, local, nest, path
 
 
 class Frame:
@@ -57,13 +57,13 @@ class Frame:
 
     def stays(self, p):
         if p[1].startswith('&mut'):
-            return f'{"gave" if p[2:] else "stay"}-slice ({self.ref(p)} ∷ []) tt (plain (λ _. {self.element(p)}))'
+            return f'stay-slice ({self.ref(p)} ∷ []) tt (plain (λ _. {self.element(p)}))'
         return f'stay-dropped ({self.slot(p)}) yes'
 
     def goes(self, p):
         many = len(self.refs())
         if p[1].startswith('&mut'):
-            return f'goes-{"gave-" if p[2:] else ""}slice 𝓤 H A W {many} {self.ref(p)} tt (plain (λ _. {self.element(p)}))'
+            return f'goes-slice 𝓤 H A W {many} {self.ref(p)} tt (plain (λ _. {self.element(p)}))'
         return f'goes-dropped 𝓤 H A W {many} ({self.slot(p)}) yes (λ κs x f. refl)'
 
     def value(self, p):
@@ -147,7 +147,7 @@ class Frame:
         for k, p in muts:
             _, _, b, o, _ = self.names(k)
             move(have.index(('obs', k)), have.index(('bor', k)))
-            out.append(self.settles(k, last[k]) if 'settled' in p[2:] else f'owns-slice ! {self.element(p)} (named {k}) {p[0]} {last[k]} {b} {o} len-{p[0]} g-{p[0]} $'); have[0:2] = [('own', k)]
+            out.append(f'owns-slice ! {self.element(p)} (named {k}) {p[0]} {last[k]} {b} {o} len-{p[0]} g-{p[0]} $'); have[0:2] = [('own', k)]
         out.append('nothing ! $'); have.insert(0, 'acc')
         for p in reversed(self.params):
             if p[1].startswith('&mut'):
@@ -163,57 +163,6 @@ class Frame:
       suffices ! _ (ends-at 𝓤 H A fn.ended stayed (fn.clauses 𝓤 H A mem run) W {self.ghost()} ({r.val('r')}) r {at} {lens}) $ says ! said $
       {' '.join(out)} frame ! $ {r.owned('r', 'g')} $ done !
 '''
-
-    # a callee that is handed references for good, its parameters in order: what is left of them, and from that and the tokens to Post′
-    def gives(self, params, said):
-        r, refs = Type(self.result), self.refs()
-        last = {p[0]: ('zs' if p[0] == 'ys' else p[0] + '′') for p in self.params if p[1].startswith('&mut')}
-        left, tokens = 'ftrue', '‵ ftrue'
-        for name in reversed(params):
-            k = next((k for k, p in refs if p[0] == name), None)
-            one = f'fsep (finally {self.element(refs[k][1])} {self.names(k)[4]} {last[name]}) (feq ℕ (length {last[name]}) (length {name}))' if name in last else 'ftrue'
-            left = f'fsep {paren(one)} {paren(left)}'
-        for k, _ in reversed(refs):
-            κ, q = self.names(k)[:2]
-            tokens = f'‵ (flft {κ} {q}) ⊛ {paren(tokens) if "⊛" in tokens else tokens}'
-        # the last lists are taken out, the first one stands last
-        out, given = [], [name for name in params if name in last]
-        for j, name in enumerate(params):
-            rest = any(n in last for n in params[j + 1:])
-            if name not in last:
-                out.append('fsplit ! $ lose ! $')
-            else:
-                out.append(f'fsplit ! $ {"" if rest else "move ! (1 ∷ []) $ lose ! $ "}fsplit ! $ move ! (1 ∷ []) $ feqL ! (λ len-{name}.' + (' move ! (1 ∷ []) $' if rest else ''))
-                if not rest: break
-        have = given[::-1]
-        out.append(f'suffices ! _ (ends-at 𝓤 H A fn.ended stayed (fn.clauses 𝓤 H A mem run) W {self.ghost()} ({r.val("r")}) r {nest([last.get(p[0], "tt") for p in self.params], "tt")} {nest(["len-" + p[0] if p[0] in last else "tt" for p in self.params], "tt")}) $ says ! said $')
-        out.append(f'move ! ({len(have)} ∷ []) $ frame ! $ nothing ! $')
-        for p in reversed(self.params):
-            if p[0] in last:
-                out.append(f'move ! ({have.index(p[0]) + 1} ∷ 0 ∷ []) $ fjoin ! $'); have.remove(p[0])
-            else:
-                out.append('nothing ! $ fjoin ! $')
-        item = {p[0]: self.item(p) for p in self.params}
-        types, lists = ' → '.join(f'List {item[name]}' for name in given), ' '.join(last[name] for name in given)
-        binds = ' '.join(f'({last[name]} : List {item[name]})' for name in given)
-        return f'''  abbrev tokens′ : Item 𝓤
-  tokens′ = {tokens}
-
-  abbrev left′ : {types} → Fml
-  left′ {lists} = {left}
-
-  exits-given : {binds} (r : {r.denot}) → {r.fact('r')} → {said} → ent 𝓤 (⋆ 𝓤 H A (‵ (left′ {lists}) ∷ tokens′ ∷ [])) (Post′ ({r.val('r')}))
-  exits-given {lists} r g said =
-      qed W (‵ (left′ {lists}) ∷ tokens′ ∷ []) ∵
-      {' '.join(out)} frame ! $ {r.owned('r', 'g')} $ done !{')' * len(given)}
-'''
-
-    # [observation; borrow; ..] to what says that the last list is this
-    def settles(self, k, now):
-        κ, _, _, _, γ = self.names(k)
-        R = self.element(self.refs()[k][1])
-        code = f'(codedHoleys {R} .code (heres {R} {now}))'
-        return f'use1 W (‵ (fres {γ} {code})) (W .names .obs-res {γ} {code}) $ use1 W (‵ (finally {R} {γ} {now})) (res-finally 𝓤 H A W (named {k}) {κ} {R} {γ} {now}) $ move ! (1 ∷ []) $ lose ! $'
 
     def stayed(self):
         return f'abbrev stayed : Stays (fn.ended .signature .params) (fn.ended .kept)\nstayed = {nest([self.stays(p) for p in self.params], "tt")}\n\n'
@@ -317,9 +266,7 @@ class Frame:
             ev = '(tt, tt)' if self.lone(p) else f'(tt, (tt, (record {{ fits = g-{p[0]} .0 }}, tt)))' if p[1].startswith('&') else Type(p[1]).typed(p[0], f'g-{p[0]}')
             passes += f'pass1 ! (init ! @{i + 1} refl {ev}) $ '
         enters = ''
-        if any('given' in p[2:] for p in self.params):
-            pass   # handed on whole
-        elif len(self.refs()) == 1:
+        if len(self.refs()) == 1:
             enters = f'\n        move ! (&1 ∷ &0 ∷ []) $ enters-{"mut" if "mut" in self.params[0][1] else "shr"} ! (x .0) $'
         elif self.refs():
             enters = f'\n        move ! (&1 ∷ &0 ∷ []) $ {self.enters_many()}'

@@ -12,8 +12,6 @@ Of the function:
   %about TEXT               the file's first comment
   %param NAME TYPE          a parameter, in order: &[Stream], &mut [Stream], &[u8], &mut [u8], a number, bool, Stream, a type of Values.antt or Enums.antt, or a & to one of these (&Six).
                             NAME is its value (of a slice: its list; the table is ys), g-NAME the fact that it fits
-                            `given` behind a &mut says that it is handed on for good: %walk then leaves [..; tokens; what the parameters own] together;
-                            `settled` that it may be: at the end the walk has what says its last list, be it the callee's, and `exits` makes it of what was kept
   %result TYPE              what it returns; () for nothing
   %requires FACT            over the parameters' names; `given` is the proof of it
   %calls CRATE::G ..        the callees; known .g′ is the theorem of each
@@ -21,7 +19,6 @@ Of the function:
 Of the proof:
   %module                   opens the module over the parameters, with x, mv, Post′ (and n, s: length and machine value of the first slice)
   %exits FACT               the lemma `exits`, from what is kept to Post′. FACT is over r and the last lists of what is &mut: zs of ys, us′ of us
-  %gives ys _ us: FACT      where a callee is handed ys and us for good, and something else between them: `left′ zs us′`, what it leaves, `tokens′`, and the lemma `exits-given`, from both to Post′
   %tables                   opens the module over the callees' theorems and the g-NAMEs
   %walk                     the statement `walk` and its start: locals made, parameters passed, slices entered
   %loop turn-1 then t-3     a loop over the records: opens the proof `turn` of a turn from the state t; t-3 is the code behind the loop
@@ -177,7 +174,7 @@ class Walk(Steps):
                 if key == 'about': self.about = rest
                 elif key == 'param':
                     name, kind = rest.split(' ', 1)
-                    self.params.append([name] + re.fullmatch(r'(.*?)(?: (given|settled))?', kind).expand(r'\1|\2').rstrip('|').split('|'))
+                    self.params.append([name, kind])
                 elif key == 'result': self.result = rest
                 elif key == 'requires': self.requires = rest
                 elif key == 'calls': self.calls += rest.split()
@@ -190,9 +187,6 @@ class Walk(Steps):
                 elif key == 'loops': out.append(self.loops(rest))
                 elif key == 'module': out.append(self.module())
                 elif key == 'exits': out.append(self.exits(rest))
-                elif key == 'gives':
-                    params, fact = rest.split(': ', 1)
-                    out.append(self.gives(params.split(), fact))
                 elif key == 'tables': out.append(self.tables())
                 elif key == 'walk': out.append(self.line(self.walk()))
                 elif key == 'end': out.append('\n' + self.ending())
