@@ -15,7 +15,7 @@ use prog.Wp.{Heap, Calls, Loops, WpFn, Tables}
 use ghost.Atoms.{Atoms}
 use contract.Monad.{Fun}
 use contract.Running.{givenOf, tables, tablesOf}
-use types.Kit.{Given, Item, ‵, _⊛_, ⋆, post, _$_, _∵_, !, qed, by, move, keep, join, fjoin, fsplit, suffices, frame, done, drop as lose}
+use types.Kit.{Given, Item, ‵, _⊛_, ⋆, post, _$_, _∵_, !, qed, by, move, keep, join, fjoin, fsplit, feqL, suffices, frame, done, drop as lose}
 use types.Part.{whole, sub, look-in, agg}
 use types.Run.{look as look-cell, init, forget, stop, hop, fld, from, load, addr, and-then, no-more, assigns, land, returns, enter, alloc1, alloc0, params1, pass1, pass0, free1, free0}
 use sound.WpLaws.{FmC, fmOf, WpFn-mono}
@@ -32,7 +32,6 @@ use denote.Triple.Statement.{Contract, Triple}
 use denote.Triple.Table.{entered, cited}
 use denote.Triple.Walked.{says, Stays, stay-dropped, gave-slice, walkOf, goes-dropped, goes-gave-slice, ends-at, walked, walk-meets}
 use denote.Exit.{yes}
-use types.Kit.{feqL}
 use Rattle.record.specs.declared.Stream.{Stream}
 use Rattle.calls.specs.declared.Answer.{Answer}
 use Rattle.calls.specs.Calls.{arriving, Meets as CallMeets}
@@ -87,24 +86,19 @@ module _ {M : Type 1} (𝓤 : URA M) (H : Heap 𝓤) (A : Atoms 𝓤) (W : Given
   abbrev Post′ : Val → SProp 𝓤
   Post′ = walkOf 𝓤 H A fn.ended stayed (fn.clauses 𝓤 H A mem run) .post (((κ, (κ₁, (κ₂, tt))), (q, (q₁, (q₂, tt))), tt, x, mv), tt)
 
-  -- the tokens, what the parameters own, and what the receiver's call leaves of the two lists
   abbrev tokens′ : Item 𝓤
   tokens′ = ‵ (flft κ q) ⊛ (‵ (flft κ₁ q₁) ⊛ (‵ (flft κ₂ q₂) ⊛ ‵ ftrue))
-
-  abbrev owned′ : Fml
-  owned′ = owns (MutSlice (named 0) κ R ∷ u8 ∷ ShrSlice (named 1) κ₁ u8 ∷ MutSlice (named 2) κ₂ u8 ∷ []) x mv
 
   abbrev left′ : List Stream → List ℕ → Fml
   left′ zs us′ = fsep (fsep (finally R γ zs) (feq ℕ (length zs) (length ys))) (fsep ftrue (fsep ftrue (fsep (fsep (finally u8 γ₂ us′) (feq ℕ (length us′) (length us))) ftrue)))
 
-  exits : (zs : List Stream) (us′ : List ℕ) (r : ArrivalAnswer) → arrivalanswer-ok r → Told tellArrival ys (arriving network fr us) r zs us′ → ent 𝓤 (⋆ 𝓤 H A (‵ (left′ zs us′) ∷ tokens′ ∷ [])) (Post′ (arrivalanswer-val r))
-  exits zs us′ r g said =
+  exits-given : (zs : List Stream) (us′ : List ℕ) (r : ArrivalAnswer) → arrivalanswer-ok r → Told tellArrival ys (arriving network fr us) r zs us′ → ent 𝓤 (⋆ 𝓤 H A (‵ (left′ zs us′) ∷ tokens′ ∷ [])) (Post′ (arrivalanswer-val r))
+  exits-given zs us′ r g said =
       qed W (‵ (left′ zs us′) ∷ tokens′ ∷ []) ∵
-      fsplit ! $ fsplit ! $ move ! (1 ∷ []) $ feqL ! (λ len.
-      move ! (1 ∷ []) $ fsplit ! $ lose ! $ fsplit ! $ lose ! $ fsplit ! $ move ! (1 ∷ []) $ lose ! $ fsplit ! $ move ! (1 ∷ []) $ feqL ! (λ len-us.
-      -- [the last output; the last table; the tokens]
-      suffices ! _ (ends-at 𝓤 H A fn.ended stayed (fn.clauses 𝓤 H A mem run) W (((κ, (κ₁, (κ₂, tt))), (q, (q₁, (q₂, tt))), tt, x, mv), tt) (arrivalanswer-val r) r (zs, (tt, (tt, (us′, tt)))) (len, (tt, (tt, (len-us, tt))))) $ says ! said $
-      move ! (2 ∷ 0 ∷ 1 ∷ []) $ frame ! $ nothing ! $ move ! (1 ∷ 0 ∷ []) $ fjoin ! $ nothing ! $ fjoin ! $ nothing ! $ fjoin ! $ move ! (1 ∷ 0 ∷ []) $ fjoin ! $ frame ! $ arrivalanswer-has ! r g $ done !))
+      fsplit ! $ fsplit ! $ move ! (1 ∷ []) $ feqL ! (λ len-ys. move ! (1 ∷ []) $ fsplit ! $ lose ! $ fsplit ! $ lose ! $ fsplit ! $ move ! (1 ∷ []) $ lose ! $ fsplit ! $ move ! (1 ∷ []) $ feqL ! (λ len-us. suffices ! _ (ends-at 𝓤 H A fn.ended stayed (fn.clauses 𝓤 H A mem run) W (((κ, (κ₁, (κ₂, tt))), (q, (q₁, (q₂, tt))), tt, x, mv), tt) (arrivalanswer-val r) r (zs, (tt, (tt, (us′, tt)))) (len-ys, (tt, (tt, (len-us, tt))))) $ says ! said $ move ! (2 ∷ []) $ frame ! $ nothing ! $ move ! (1 ∷ 0 ∷ []) $ fjoin ! $ nothing ! $ fjoin ! $ nothing ! $ fjoin ! $ move ! (1 ∷ 0 ∷ []) $ fjoin ! $ frame ! $ arrivalanswer-has ! r g $ done !))
+
+  abbrev owned′ : Fml
+  owned′ = owns (MutSlice (named 0) κ R ∷ u8 ∷ ShrSlice (named 1) κ₁ u8 ∷ MutSlice (named 2) κ₂ u8 ∷ []) x mv
 
   module _ (𝓣 : Tables 𝓤 H) (fm : FmC 𝓤 H (W .laws) (𝓣 .C)) (known : Known 𝓤 H A mem run (𝓣 .C)) (g-ys : Room R (length ys)) (g-network : network < 2 ^ 8) (g-fr : Room u8 (length fr)) (g-us : Room u8 (length us)) where
     abbrev C : Calls 𝓤 H
@@ -131,7 +125,7 @@ module _ {M : Type 1} (𝓤 : URA M) (H : Heap 𝓤) (A : Atoms 𝓤) (W : Given
         calls-value {𝓤 = 𝓤} {H = H} {A = A} ! fm fn-tell-arrival.ended (fn-tell-arrival.clauses 𝓤 H A mem run) (known .tell-arrival′) ((tt, tt, tt, (a, tt), (answer-val a ∷ [], tt)), tt) (qed W [] ∵ nothing ! $ answer-has ! a g-a $ fjoin ! $ nothing ! $ join ! $ frame ! $ done !) arrivalanswer-val (λ r vs p. arrivalanswer-tells r vs p) (λ (r : ArrivalAnswer). r ≡ tellArrival (saidArrival a)) (λ r ws. id⊢ 𝓤 _) (and-then ! (load ! (from ! (stop !)) (look-cell ! 11 refl)) (no-more !)) (λ r g-r heard.
         land ! (from ! (stop !)) (init ! 20 refl (arrivalanswer-typed 𝓤 H A W r g-r)) $
         returns ! (look-cell ! 20 refl) $ forget ! 20 refl $ forget ! 18 refl $ forget ! 16 refl $ forget ! 14 refl $ forget ! 12 refl $ forget ! 10 refl $ forget ! 8 refl $ forget ! 6 refl $ forget ! 4 refl $ forget ! 2 refl $
-        move ! (20 ∷ 21 ∷ []) $ free1 ! $ move ! (18 ∷ 19 ∷ []) $ free1 ! $ move ! (16 ∷ 17 ∷ []) $ free1 ! $ move ! (14 ∷ 15 ∷ []) $ free1 ! $ move ! (12 ∷ 13 ∷ []) $ free1 ! $ move ! (10 ∷ 11 ∷ []) $ free1 ! $ move ! (8 ∷ 9 ∷ []) $ free1 ! $ move ! (6 ∷ 7 ∷ []) $ free1 ! $ move ! (4 ∷ 5 ∷ []) $ free1 ! $ move ! (2 ∷ 3 ∷ []) $ free1 ! $ free0 ! $ keep ! (0 ∷ 1 ∷ []) $ by ! (exits (ws .0) (ws .1 .1 .1 .0) r g-r (meets-told tellArrival ys (arriving network fr us) said heard))))))))))))))
+        move ! (20 ∷ 21 ∷ []) $ free1 ! $ move ! (18 ∷ 19 ∷ []) $ free1 ! $ move ! (16 ∷ 17 ∷ []) $ free1 ! $ move ! (14 ∷ 15 ∷ []) $ free1 ! $ move ! (12 ∷ 13 ∷ []) $ free1 ! $ move ! (10 ∷ 11 ∷ []) $ free1 ! $ move ! (8 ∷ 9 ∷ []) $ free1 ! $ move ! (6 ∷ 7 ∷ []) $ free1 ! $ move ! (4 ∷ 5 ∷ []) $ free1 ! $ move ! (2 ∷ 3 ∷ []) $ free1 ! $ free0 ! $ keep ! (0 ∷ 1 ∷ []) $ by ! (exits-given (ws .0) (ws .1 .1 .1 .0) r g-r (meets-told tellArrival ys (arriving network fr us) said heard))))))))))))))
 
 pub nippitsun-arrival-spec : {M : Type 1} → stated.statement M
 unfolding code.routine tablesOf
