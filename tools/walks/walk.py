@@ -12,6 +12,7 @@ Of the function:
   %about TEXT               the file's first comment
   %param NAME TYPE          a parameter, in order: &[Stream], &mut [Stream], &[u8], &mut [u8], a number, bool, Stream, a type of Values.antt or Enums.antt, or a & to one of these (&Six).
                             NAME is its value (of a slice: its list; the table is ys), g-NAME the fact that it fits
+                            `given` behind a &mut says that it is handed on for good: %walk then leaves [..; tokens; what the parameters own] together
   %result TYPE              what it returns; () for nothing
   %requires FACT            over the parameters' names; `given` is the proof of it
   %calls CRATE::G ..        the callees; known .g′ is the theorem of each
@@ -175,7 +176,8 @@ class Walk(Steps):
                 if key == 'about': self.about = rest
                 elif key == 'param':
                     name, kind = rest.split(' ', 1)
-                    self.params.append([name, kind])
+                    given = kind.endswith(' given')
+                    self.params.append([name, kind[:-6] if given else kind] + (['given'] if given else []))
                 elif key == 'result': self.result = rest
                 elif key == 'requires': self.requires = rest
                 elif key == 'calls': self.calls += rest.split()
