@@ -57,13 +57,13 @@ class Frame:
 
     def stays(self, p):
         if p[1].startswith('&mut'):
-            return f'stay-slice ({self.ref(p)} ∷ []) tt (plain (λ _. {self.element(p)}))'
+            return f'{"gave" if "given" in p[2:] else "stay"}-slice ({self.ref(p)} ∷ []) tt (plain (λ _. {self.element(p)}))'
         return f'stay-dropped ({self.slot(p)}) yes'
 
     def goes(self, p):
         many = len(self.refs())
         if p[1].startswith('&mut'):
-            return f'goes-slice 𝓤 H A W {many} {self.ref(p)} tt (plain (λ _. {self.element(p)}))'
+            return f'goes-{"gave-" if "given" in p[2:] else ""}slice 𝓤 H A W {many} {self.ref(p)} tt (plain (λ _. {self.element(p)}))'
         return f'goes-dropped 𝓤 H A W {many} ({self.slot(p)}) yes (λ κs x f. refl)'
 
     def value(self, p):
@@ -266,7 +266,9 @@ class Frame:
             ev = '(tt, tt)' if self.lone(p) else f'(tt, (tt, (record {{ fits = g-{p[0]} .0 }}, tt)))' if p[1].startswith('&') else Type(p[1]).typed(p[0], f'g-{p[0]}')
             passes += f'pass1 ! (init ! @{i + 1} refl {ev}) $ '
         enters = ''
-        if len(self.refs()) == 1:
+        if any('given' in p[2:] for p in self.params):
+            pass   # handed on whole
+        elif len(self.refs()) == 1:
             enters = f'\n        move ! (&1 ∷ &0 ∷ []) $ enters-{"mut" if "mut" in self.params[0][1] else "shr"} ! (x .0) $'
         elif self.refs():
             enters = f'\n        move ! (&1 ∷ &0 ∷ []) $ {self.enters_many()}'

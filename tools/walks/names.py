@@ -49,7 +49,7 @@ denote.Triple.Entry: onEntry
 denote.Triple.Spec: Meets tripleOf
 denote.Triple.Statement: Contract Triple
 denote.Triple.Table: entered cited
-denote.Triple.Walked: says needs Stays stay-slice stay-dropped walkOf goes-slice goes-dropped ends-at walked walk-meets
+denote.Triple.Walked: says needs Stays stay-slice stay-dropped gave-slice walkOf goes-slice goes-dropped goes-gave-slice ends-at walked walk-meets
 denote.Exit: yes
 borrow.Rule.Slice.PartAt: part-count
 '''

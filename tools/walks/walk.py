@@ -12,6 +12,7 @@ Of the function:
   %about TEXT               the file's first comment
   %param NAME TYPE          a parameter, in order: &[Stream], &mut [Stream], &[u8], &mut [u8], a number, bool, Stream, a type of Values.antt or Enums.antt, or a & to one of these (&Six).
                             NAME is its value (of a slice: its list; the table is ys), g-NAME the fact that it fits
+                            `given` behind a &mut says that it is handed on for good: %walk then leaves [..; tokens; what the parameters own] together
   %result TYPE              what it returns; () for nothing
   %requires FACT            over the parameters' names; `given` is the proof of it
   %calls CRATE::G ..        the callees; known .g′ is the theorem of each
@@ -44,6 +45,8 @@ Calls leave a bracket open. r is the result, g-r that it fits, `said` the FACT o
   : lend mut CRATE::G 8 LIST FACT | .. -> TYPE r zs said. FACT  as a &mut [Stream]; zs is the list that it leaves, `len` that it is as long
   : read CRATE::G | & NAME OPERAND | .. -> TYPE r said. FACT    handed a & parameter; and with `| &lent NAME LIST FACT OPERAND` lent a &mut one as a &
   : write CRATE::G | & NAME OPERAND | &mut NAME LIST FACT OPERAND | .. -> TYPE r vs said. FACT      and lent a &mut one; vs is what it leaves, len-vs that it is as long
+                            (handed a part of a & parameter: `| &part LIST FIRST END WITHIN OPERAND`, as `: part` has them; it leaves a second bracket open)
+                            (lent two: each its own `| &mut ..`, `-> TYPE r vs ws said. FACT`; `write` needs no `&` where it is lent one)
                             (of a callee with two `ensures` that is handed references FACT is `(FACT) ∗ (FACT)`)
   : lands := 7 ; EVIDENCE                   where the result goes
 """
@@ -174,7 +177,8 @@ class Walk(Steps):
                 if key == 'about': self.about = rest
                 elif key == 'param':
                     name, kind = rest.split(' ', 1)
-                    self.params.append([name, kind])
+                    given = kind.endswith(' given')
+                    self.params.append([name, kind[:-6] if given else kind] + (['given'] if given else []))
                 elif key == 'result': self.result = rest
                 elif key == 'requires': self.requires = rest
                 elif key == 'calls': self.calls += rest.split()
