@@ -46,7 +46,7 @@ Calls leave a bracket open. r is the result, g-r that it fits, `said` the FACT o
   : read CRATE::G | & NAME OPERAND | .. -> TYPE r said. FACT    handed a & parameter; and with `| &lent NAME LIST FACT OPERAND` lent a &mut one as a &
   : write CRATE::G | & NAME OPERAND | &mut NAME LIST FACT OPERAND | .. -> TYPE r vs said. FACT      and lent a &mut one; vs is what it leaves, len-vs that it is as long
                             (handed a part of a & parameter: `| &part LIST FIRST END WITHIN OPERAND`, as `: part` has them; it leaves a second bracket open)
-                            (lent two: each its own `| &mut ..`, `-> TYPE r vs ws said. FACT`; `write` needs no `&` where it is lent one)
+                            (without the &: only lent one. With two &mut, in whatever order: lent both, and two names stand behind r, `-> TYPE r zs vs said.`)
                             (of a callee with two `ensures` that is handed references FACT is `(FACT) ∗ (FACT)`)
   : lands := 7 ; EVIDENCE                   where the result goes
 """
