@@ -111,7 +111,7 @@ class Steps(Frame):
             move([0, have.index(('tok', k))])
             if given[one][0] == '&part':
                 _, xs, first, end, within, _ = given[one]
-                out.append(f'parts ! tt {xs} {b} {o} {first} {end} {within} (λ ε.')
+                out.append(f'slice-part ! tt {xs} {b} {o} {first} {end} {within} (λ ε.')
                 now = f'take ({end} - {first}) (drop {first} {xs})'
                 reference, value = f'record {{ ptr = ({b}, {first} + {o}); name = ε; now = {now} }}', f'sliceVal ({b}, {first} + {o}) (length ({now}))'
                 own = f'{self.row(p)} .own ({reference}) ({value} ∷ [])'

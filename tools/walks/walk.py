@@ -45,6 +45,7 @@ Calls leave a bracket open. r is the result, g-r that it fits, `said` the FACT o
   : lend mut CRATE::G 8 LIST FACT | .. -> TYPE r zs said. FACT  as a &mut [Stream]; zs is the list that it leaves, `len` that it is as long
   : read CRATE::G | & NAME OPERAND | .. -> TYPE r said. FACT    handed a & parameter; and with `| &lent NAME LIST FACT OPERAND` lent a &mut one as a &
   : write CRATE::G | & NAME OPERAND | &mut NAME LIST FACT OPERAND | .. -> TYPE r vs said. FACT      and lent a &mut one; vs is what it leaves, len-vs that it is as long
+                            (handed a part of a & parameter: `| &part LIST FIRST END WITHIN OPERAND`, as `: part` has them; it leaves a second bracket open)
                             (without the &: only lent one. With two &mut, in whatever order: lent both, and two names stand behind r, `-> TYPE r zs vs said.`)
                             (of a callee with two `ensures` that is handed references FACT is `(FACT) ∗ (FACT)`)
   : lands := 7 ; EVIDENCE                   where the result goes

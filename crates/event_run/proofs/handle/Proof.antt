@@ -52,18 +52,18 @@ use Rattle.event_file.specs.declared.reader.Event.{Event}
 use Rattle.event_file.specs.declared.line.Reply.{Reply}
 use Rattle.event_file.specs.declared.line.Told.{Told}
 use Rattle.event_run.specs.Run.{Handled}
+use Rattle.receiver.proofs.Both.{calls-mut-two}
 use Rattle.receiver.proofs.Calling.{calls-value, calls-with}
 use Rattle.receiver.proofs.Enums.{done-ty, done-val, done-tells, done-typed, done-has, swept-ty, swept-val, swept-tells, swept-typed, swept-has, opened-ty, opened-val, opened-tells, opened-typed, opened-has, answer-ty, answer-val, answer-tells, answer-typed, answer-has}
 use Rattle.receiver.proofs.Handing.{owns-slice}
 use Rattle.receiver.proofs.Lending.{mut-own, calls-mut}
+use Rattle.receiver.proofs.Parts.{slice-part}
 use Rattle.receiver.proofs.Pieces.{arm-of}
 use Rattle.receiver.proofs.Rows.{R, mutTy}
 use Rattle.receiver.proofs.Values.{Six, six-ty, six-val, six-tells, six-typed, six-has}
-use Rattle.event_run.proofs.Both.{calls-mut-two}
 use Rattle.event_run.proofs.Enums.{event-ty, event-val, event-tells, event-ok, event-typed, told-ty, told-val, told-tells, told-ok, told-typed, told-has}
 use Rattle.event_run.proofs.Fields.{bad-ok, open-settings, close-slot, reset-slot, arrival-network, settings-vlan, settings-rule, settings-window, settings-time}
 use Rattle.event_run.proofs.Handles.{frame-within, frame-part, handled-bad, handled-open, handled-close, handled-reset, handled-arrival, handled-tick}
-use Rattle.event_run.proofs.Parts.{parts}
 use Rattle.event_run.proofs.Values.{settings-ty, settings-ok, settings-typed}
 use Rattle.event_run.proofs.event_at as fn-event-at
 use Rattle.event_run.proofs.event_at.Symbol as fn-event-at-def
@@ -302,7 +302,7 @@ module _ {M : Type 1} (𝓤 : URA M) (H : Heap 𝓤) (A : Atoms 𝓤) (W : Given
           rewrite ! 16 (λ (m : ℕ). ‵ (fat fullShare (sliceTy (tyRef erased imm (pointee (u8 .written)))) l₂₉ 0 (sliceVal (b₁, i + o₁) m))) (part-count input i end w) refl $
           assigns ! (addr ! (from ! (fld ! refl (hop ! (look-in ! 64 (sub ! 0 refl (whole !))) (stop !))))) (from ! (stop !)) (init ! 14 refl (tt, tt)) $
           assigns ! (agg ! (and-then ! (load ! (from ! (stop !)) (look-cell ! 14 refl)) (and-then ! (load ! (from ! (fld ! refl (stop !))) (look-in ! 64 (sub ! 1 refl (whole !)))) (no-more !)))) (from ! (stop !)) (init ! 12 refl (tt, (tt, (record { fits = g-us .0 }, tt)))) $
-          move ! (3 ∷ []) $ use1 W (‵ (ShrSlice (named 1) κ₁ u8 .own (record { ptr = (b₁, o₁); name = γ₁; now = input }) (sliceVal (b₁, o₁) (length input) ∷ [])) ⊛ ‵ (ShrSlice (named 1) κ₁ u8 .own (record { ptr = (b₁, o₁); name = γ₁; now = input }) (sliceVal (b₁, o₁) (length input) ∷ []))) (shr-slice-copy 𝓤 H A W (named 1) κ₁ u8 .twice (record { ptr = (b₁, o₁); name = γ₁; now = input }) (sliceVal (b₁, o₁) (length input) ∷ [])) $ split ! $ move ! (0 ∷ 5 ∷ []) $ parts ! tt input b₁ o₁ i end w (λ ε. join ! $ move ! (2 ∷ 3 ∷ 4 ∷ 5 ∷ 6 ∷ 7 ∷ 0 ∷ 1 ∷ []) $ calls-mut-two {𝓤 = 𝓤} {H = H} {A = A} ! fm R ys b o g-ys u8 us b₂ o₂ g-us fn-arrival.ended (fn-arrival.clauses 𝓤 H A mem run) (known .arrival′) (λ ν ν′ δ δ′. (((ν ∷ [], (κ₁, (ν′ ∷ [], tt))), (fullShare, (q₁, (fullShare, tt))), tt, (record { ptr = (b, o); name = δ; now = ys }, (network, (record { ptr = (b₁, i + o₁); name = ε; now = take (end - i) (drop i input) }, (record { ptr = (b₂, o₂); name = δ′; now = us }, tt)))), (sliceVal (b, o) (length ys) ∷ [], (vint w8 network ∷ [], (sliceVal (b₁, i + o₁) (length (take (end - i) (drop i input))) ∷ [], (sliceVal (b₂, o₂) (length us) ∷ [], tt))))), tt)) (λ ν ν′ δ δ′. qed W ((‵ (flft (ν ∷ []) fullShare) ⊛ ‵ (mut-own R b o ν δ ys)) ∷ (‵ (flft (ν′ ∷ []) fullShare) ⊛ ‵ (mut-own u8 b₂ o₂ ν′ δ′ us)) ∷ (‵ (ShrSlice (named 1) κ₁ u8 .own (record { ptr = (b₁, i + o₁); name = ε; now = take (end - i) (drop i input) }) (sliceVal (b₁, i + o₁) (length (take (end - i) (drop i input))) ∷ [])) ⊛ ‵ (flft κ₁ q₁)) ∷ []) ∵ split ! $ move ! (2 ∷ []) $ split ! $ move ! (4 ∷ []) $ split ! $ nothing ! $ move ! (4 ∷ 0 ∷ []) $ fjoin ! $ move ! (1 ∷ 0 ∷ []) $ fjoin ! $ owned ! u8 (Is u8) (uint-makes 𝓤 H A W w8) network _ (refl, g-network) $ fjoin ! $ move ! (4 ∷ 0 ∷ []) $ fjoin ! $ nothing ! $ move ! (3 ∷ 0 ∷ []) $ join ! $ move ! (2 ∷ 0 ∷ []) $ join ! $ move ! (2 ∷ 0 ∷ []) $ join ! $ join ! $ frame ! $ done !) (‵ (flft κ₁ q₁)) (λ ν ν′ δ δ′. qed W ((‵ (flft (ν ∷ []) fullShare) ⊛ (‵ (flft (κ₁) q₁) ⊛ (‵ (flft (ν′ ∷ []) fullShare) ⊛ ‵ ftrue))) ∷ []) ∵ split ! $ frame ! $ split ! $ move ! (1 ∷ []) $ split ! $ frame ! $ lose ! $ done !) (λ ν ν′ δ δ′. answer-val) (λ ν ν′ δ δ′ a vs p. answer-tells a vs p) (λ ν ν′ δ δ′ ws. ws .0) (λ ν ν′ δ δ′ ws. ws .1 .1 .1 .0) (λ ν ν′ δ δ′ ws. qed W (‵ (fsep (fsep (finally R δ (ws .0)) (feq ℕ (length (ws .0)) (length ys))) (fsep ftrue (fsep ftrue (fsep (fsep (finally u8 δ′ (ws .1 .1 .1 .0)) (feq ℕ (length (ws .1 .1 .1 .0)) (length us))) (ftrue))))) ∷ []) ∵ fsplit ! $ move ! (1 ∷ []) $ fsplit ! $ lose ! $ fsplit ! $ lose ! $ fsplit ! $ move ! (1 ∷ []) $ lose ! $ move ! (1 ∷ 0 ∷ []) $ fjoin ! $ done !) (λ ν ν′ δ δ′ (a : Answer) (zs : List Stream) (us′ : List ℕ). CallMeets ys (arriving network (take (end - i) (drop i input)) us) (record { said = saidArrival a; table = zs; output = us′ })) (λ ν ν′ δ δ′ a ws. id⊢ 𝓤 _) (λ ν ν′ δ δ′. (and-then ! (load ! (from ! (stop !)) (look-cell ! 20 refl)) (and-then ! (load ! (from ! (stop !)) (look-cell ! 42 refl)) (and-then ! (load ! (from ! (stop !)) (look-cell ! 12 refl)) (and-then ! (load ! (from ! (stop !)) (look-cell ! 8 refl)) (no-more !)))))) (λ ν ν′ δ δ′ a zs us′ g-a len-zs len-us′ said. move ! (0 ∷ 1 ∷ 2 ∷ 7 ∷ 6 ∷ 3 ∷ 4 ∷ 5 ∷ []) $
+          move ! (3 ∷ []) $ use1 W (‵ (ShrSlice (named 1) κ₁ u8 .own (record { ptr = (b₁, o₁); name = γ₁; now = input }) (sliceVal (b₁, o₁) (length input) ∷ [])) ⊛ ‵ (ShrSlice (named 1) κ₁ u8 .own (record { ptr = (b₁, o₁); name = γ₁; now = input }) (sliceVal (b₁, o₁) (length input) ∷ []))) (shr-slice-copy 𝓤 H A W (named 1) κ₁ u8 .twice (record { ptr = (b₁, o₁); name = γ₁; now = input }) (sliceVal (b₁, o₁) (length input) ∷ [])) $ split ! $ move ! (0 ∷ 5 ∷ []) $ slice-part ! tt input b₁ o₁ i end w (λ ε. join ! $ move ! (2 ∷ 3 ∷ 4 ∷ 5 ∷ 6 ∷ 7 ∷ 0 ∷ 1 ∷ []) $ calls-mut-two {𝓤 = 𝓤} {H = H} {A = A} ! fm R ys b o g-ys u8 us b₂ o₂ g-us fn-arrival.ended (fn-arrival.clauses 𝓤 H A mem run) (known .arrival′) (λ ν ν′ δ δ′. (((ν ∷ [], (κ₁, (ν′ ∷ [], tt))), (fullShare, (q₁, (fullShare, tt))), tt, (record { ptr = (b, o); name = δ; now = ys }, (network, (record { ptr = (b₁, i + o₁); name = ε; now = take (end - i) (drop i input) }, (record { ptr = (b₂, o₂); name = δ′; now = us }, tt)))), (sliceVal (b, o) (length ys) ∷ [], (vint w8 network ∷ [], (sliceVal (b₁, i + o₁) (length (take (end - i) (drop i input))) ∷ [], (sliceVal (b₂, o₂) (length us) ∷ [], tt))))), tt)) (λ ν ν′ δ δ′. qed W ((‵ (flft (ν ∷ []) fullShare) ⊛ ‵ (mut-own R b o ν δ ys)) ∷ (‵ (flft (ν′ ∷ []) fullShare) ⊛ ‵ (mut-own u8 b₂ o₂ ν′ δ′ us)) ∷ (‵ (ShrSlice (named 1) κ₁ u8 .own (record { ptr = (b₁, i + o₁); name = ε; now = take (end - i) (drop i input) }) (sliceVal (b₁, i + o₁) (length (take (end - i) (drop i input))) ∷ [])) ⊛ ‵ (flft κ₁ q₁)) ∷ []) ∵ split ! $ move ! (2 ∷ []) $ split ! $ move ! (4 ∷ []) $ split ! $ nothing ! $ move ! (4 ∷ 0 ∷ []) $ fjoin ! $ move ! (1 ∷ 0 ∷ []) $ fjoin ! $ owned ! u8 (Is u8) (uint-makes 𝓤 H A W w8) network _ (refl, g-network) $ fjoin ! $ move ! (4 ∷ 0 ∷ []) $ fjoin ! $ nothing ! $ move ! (3 ∷ 0 ∷ []) $ join ! $ move ! (2 ∷ 0 ∷ []) $ join ! $ move ! (2 ∷ 0 ∷ []) $ join ! $ join ! $ frame ! $ done !) (‵ (flft κ₁ q₁)) (λ ν ν′ δ δ′. qed W ((‵ (flft (ν ∷ []) fullShare) ⊛ (‵ (flft (κ₁) q₁) ⊛ (‵ (flft (ν′ ∷ []) fullShare) ⊛ ‵ ftrue))) ∷ []) ∵ split ! $ frame ! $ split ! $ move ! (1 ∷ []) $ split ! $ frame ! $ lose ! $ done !) (λ ν ν′ δ δ′. answer-val) (λ ν ν′ δ δ′ a vs p. answer-tells a vs p) (λ ν ν′ δ δ′ ws. ws .0) (λ ν ν′ δ δ′ ws. ws .1 .1 .1 .0) (λ ν ν′ δ δ′ ws. qed W (‵ (fsep (fsep (finally R δ (ws .0)) (feq ℕ (length (ws .0)) (length ys))) (fsep ftrue (fsep ftrue (fsep (fsep (finally u8 δ′ (ws .1 .1 .1 .0)) (feq ℕ (length (ws .1 .1 .1 .0)) (length us))) (ftrue))))) ∷ []) ∵ fsplit ! $ move ! (1 ∷ []) $ fsplit ! $ lose ! $ fsplit ! $ lose ! $ fsplit ! $ move ! (1 ∷ []) $ lose ! $ move ! (1 ∷ 0 ∷ []) $ fjoin ! $ done !) (λ ν ν′ δ δ′ (a : Answer) (zs : List Stream) (us′ : List ℕ). CallMeets ys (arriving network (take (end - i) (drop i input)) us) (record { said = saidArrival a; table = zs; output = us′ })) (λ ν ν′ δ δ′ a ws. id⊢ 𝓤 _) (λ ν ν′ δ δ′. (and-then ! (load ! (from ! (stop !)) (look-cell ! 20 refl)) (and-then ! (load ! (from ! (stop !)) (look-cell ! 42 refl)) (and-then ! (load ! (from ! (stop !)) (look-cell ! 12 refl)) (and-then ! (load ! (from ! (stop !)) (look-cell ! 8 refl)) (no-more !)))))) (λ ν ν′ δ δ′ a zs us′ g-a len-zs len-us′ said. move ! (0 ∷ 1 ∷ 2 ∷ 7 ∷ 6 ∷ 3 ∷ 4 ∷ 5 ∷ []) $
           land ! (from ! (stop !)) (init ! 42 refl (answer-typed 𝓤 H A W a g-a)) $
           calls-value {𝓤 = 𝓤} {H = H} {A = A} ! fm fn-tell-arrival.ended (fn-tell-arrival.clauses 𝓤 H A mem run) (known .tell-arrival′) ((tt, tt, tt, (a, tt), (answer-val a ∷ [], tt)), tt) (qed W [] ∵ nothing ! $ answer-has ! a g-a $ fjoin ! $ nothing ! $ join ! $ frame ! $ done !) told-val (λ r vs p. told-tells r vs p) (λ (r : Told). r ≡ Told.Answered (Reply.Arrival a)) (λ r ws. id⊢ 𝓤 _) (and-then ! (load ! (from ! (stop !)) (look-cell ! 43 refl)) (no-more !)) (λ r g-r heard.
           land ! (from ! (stop !)) (init ! 74 refl (told-typed 𝓤 H A W r g-r)) $
