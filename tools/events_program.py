@@ -2,6 +2,7 @@
 import os
 import pathlib
 import subprocess
+import sys
 
 ROOT = pathlib.Path(__file__).resolve().parent.parent
 
@@ -10,7 +11,9 @@ def command():
     words = os.environ.get("EVENTS", "").split()
     if words:
         return words
-    shown = subprocess.run([ROOT / "tools/run-program", "--words", "events"], stdout=subprocess.PIPE, check=True)
+    shown = subprocess.run([ROOT / "tools/run-program", "--words", "events"], stdout=subprocess.PIPE, check=False)
+    if shown.returncode:
+        sys.exit(shown.returncode)
     return shown.stdout.decode().splitlines()
 
 
