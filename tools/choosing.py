@@ -26,6 +26,11 @@ def least_window(spread, spacing, losses):
     return max(WINDOW_LEAST, spread // spacing + losses + 2)
 
 
+def match_fits(spread, spacing):
+    """J, T: with the match rule, which knows only the last number, no twin comes behind the next frame."""
+    return spread < spacing
+
+
 def least_time(spread, tick):
     """J, and the least time between two ticks: the least R with which no twin comes behind a reset."""
     return max(TIME_LEAST, spread // tick + 2)
