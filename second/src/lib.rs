@@ -10,9 +10,11 @@
 
 pub mod event_file;
 pub mod frame;
+pub mod generate;
 pub mod random;
 pub mod stream;
 pub mod table;
+pub mod wrong;
 
 pub use frame::{take_tag, write_tag, Taken};
 pub use stream::Stream;
