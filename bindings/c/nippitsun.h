@@ -1,0 +1,257 @@
+/* Nippitsun for C and C++: a receiver for frames that arrive on two networks, and the redundancy tag in and out.
+ *
+ * The calls are the exported functions of the crate `port`, proved to do what document 01 says. This header is written by
+ * hand: bindings/c/test.c holds it to the compiled code, and bindings/check to the sources. C11 or C++11, x86-64;
+ * link with libport.a (docs/LINKING.md).
+ *
+ * What the caller owes. The proof takes it for granted, and no call can test it:
+ *
+ * - An area is a pointer and a number of ELEMENTS: records for a table, bytes for a frame and an output. So many are there,
+ *   and a table is aligned for its records. The pointer may be NULL where the number is 0.
+ * - The areas of one call lie apart: no byte of the table, the frame, the output or the destination belongs to another.
+ * - They are lent for the call alone. No call keeps a pointer, and nobody else reads a table or an output, or writes to any
+ *   of the areas, while the call runs.
+ * - So a table has one caller at a time. Two ports that share a table share a lock too, held for the whole call: the verdict
+ *   and its marking are one call, and two calls at once could hand a command up twice.
+ *
+ * Nothing else is asked for. Every value of every argument and every bit pattern of a record is taken, and a call that can't
+ * do its work refuses: it answers a number of enum nippitsun_refusal and changes nothing, no record, counter or output byte.
+ * Every call ends, allocates nothing and keeps no state of its own. */
+#ifndef NIPPITSUN_H
+#define NIPPITSUN_H
+
+#include <stddef.h>
+#include <stdint.h>
+
+#ifdef __cplusplus
+#define NIPPITSUN_ASSERT(what, why) static_assert(what, why)
+#define NIPPITSUN_ALIGNOF(type) alignof(type)
+#define NIPPITSUN_APART __restrict
+extern "C" {
+#else
+#define NIPPITSUN_ASSERT(what, why) _Static_assert(what, why)
+#define NIPPITSUN_ALIGNOF(type) _Alignof(type)
+#define NIPPITSUN_APART restrict
+#endif
+
+/* ---- sizes (document 01, "Sizes") */
+
+#define NIPPITSUN_SLOTS_MOST 64      /* slots in a table; 0 is allowed */
+#define NIPPITSUN_FRAME_MOST 2000    /* bytes in a frame */
+#define NIPPITSUN_UNTAGGED_MOST 1994 /* bytes in a frame before the tag is put in */
+#define NIPPITSUN_WINDOW_LEAST 2     /* the window L */
+#define NIPPITSUN_WINDOW_MOST 64
+#define NIPPITSUN_TIME_LEAST 1 /* the reset time R, in ticks */
+#define NIPPITSUN_TIME_MOST 65535
+#define NIPPITSUN_VLAN_MOST 4094 /* the VLAN id in a key; 0 is a frame with no VLAN tag */
+#define NIPPITSUN_TAG_LENGTH 6   /* bytes of the redundancy tag */
+
+/* The rule of a stream. */
+enum nippitsun_rule {
+    NIPPITSUN_RULE_VECTOR = 1,
+    NIPPITSUN_RULE_MATCH = 2
+};
+
+/* The verdict on an arrival. */
+enum nippitsun_verdict {
+    NIPPITSUN_VERDICT_NONE = 0, /* the call was refused */
+    NIPPITSUN_VERDICT_HANDED_UP = 1,
+    NIPPITSUN_VERDICT_DUPLICATE = 2,
+    NIPPITSUN_VERDICT_ROGUE = 3
+};
+
+/* Why a call was refused (document 01, "Calls and the order of checks"). Where several hold, a call answers the first in its
+ * own order, which stands beside its declaration. */
+enum nippitsun_refusal {
+    NIPPITSUN_REFUSED_NOT = 0,
+    NIPPITSUN_REFUSED_TABLE = 1,    /* the table has more than 64 slots */
+    NIPPITSUN_REFUSED_NETWORK = 2,  /* the network is not 0 or 1 */
+    NIPPITSUN_REFUSED_LONG = 3,     /* frame too long */
+    NIPPITSUN_REFUSED_SHORT = 4,    /* frame short */
+    NIPPITSUN_REFUSED_UNTAGGED = 5, /* no F1C1 at the type field */
+    NIPPITSUN_REFUSED_UNKNOWN = 6,  /* no slot in use has the key */
+    NIPPITSUN_REFUSED_DAMAGED = 7,  /* the record is damaged; for reset: its settings are out of range */
+    NIPPITSUN_REFUSED_ROOM = 8,     /* output too small */
+    NIPPITSUN_REFUSED_SETTING = 9,  /* a setting outside the sizes */
+    NIPPITSUN_REFUSED_TAKEN = 10,   /* a slot in use has the key */
+    NIPPITSUN_REFUSED_FULL = 11,    /* no free slot */
+    NIPPITSUN_REFUSED_SLOT = 12,    /* slot beyond the table or free */
+    NIPPITSUN_REFUSED_TAGGED = 13   /* the frame already carries F1C1 */
+};
+
+/* ---- the stream record
+ *
+ * A table is an array of these, made and kept by the caller. All bytes zero is a table of free slots. The fields may be read
+ * between two calls; a caller who writes to them may damage a record, which a call then refuses or a tick then counts. The
+ * three bytes behind `any` belong to no field, and a call that is not refused may leave anything there: compare records field
+ * by field. */
+
+/* What an arrival and a tick change. */
+typedef struct nippitsun_state {
+    uint64_t history;   /* bit k stands for the number anchor - k */
+    uint16_t anchor;    /* the number that differences are taken from */
+    uint16_t remaining; /* ticks left until the stream is reset */
+    uint8_t any;        /* take-any: 0 is no, every other value is yes; calls write 0 and 1 */
+} nippitsun_state;
+
+/* The counters. They wrap to zero after 2^64 - 1. */
+typedef struct nippitsun_counts {
+    uint64_t arrivals0; /* arrivals on network 0, whatever the verdict */
+    uint64_t arrivals1; /* arrivals on network 1 */
+    uint64_t passed;    /* handed up */
+    uint64_t discarded; /* duplicates */
+    uint64_t rogue;     /* outside the window */
+    uint64_t disorder;  /* handed up out of order */
+    uint64_t lost;      /* numbers that left the window and never came */
+    uint64_t resets;    /* times the stream became fresh, by ticks or by reset */
+} nippitsun_counts;
+
+typedef struct nippitsun_stream {
+    uint64_t dest;   /* the key's destination: its six bytes as one number, high byte first */
+    uint16_t vlan;   /* the key's VLAN id */
+    uint16_t window; /* the window L */
+    uint16_t time;   /* the reset time R, in ticks */
+    uint8_t rule;    /* enum nippitsun_rule */
+    uint8_t used;    /* 0 is a free slot, every other value a slot in use; calls write 0 and 1 */
+    nippitsun_state state;
+    nippitsun_counts counts;
+} nippitsun_stream;
+
+/* ---- the answers
+ *
+ * `refusal` is a number of enum nippitsun_refusal. Where it is not 0, every other field is 0. */
+
+/* Of an arrival. */
+typedef struct nippitsun_arrival_answer {
+    size_t slot;     /* the slot of the stream */
+    size_t length;   /* bytes written to the output: 0 but for a frame handed up */
+    uint16_t number; /* the number in the tag */
+    uint8_t verdict; /* enum nippitsun_verdict */
+    uint8_t refusal;
+} nippitsun_arrival_answer;
+
+/* Of an open. */
+typedef struct nippitsun_slot_answer {
+    size_t slot; /* the slot that was filled */
+    uint8_t refusal;
+} nippitsun_slot_answer;
+
+/* Of a tick. */
+typedef struct nippitsun_tick_answer {
+    uint64_t resets;  /* streams that this tick reset */
+    uint64_t damaged; /* records in use that are damaged */
+    uint8_t refusal;
+} nippitsun_tick_answer;
+
+/* Of a tag call. */
+typedef struct nippitsun_tag_answer {
+    size_t length;   /* bytes written to the output */
+    uint16_t number; /* the number in the tag */
+    uint8_t refusal;
+} nippitsun_tag_answer;
+
+/* ---- the calls on a table. Refusals are given in the order in which they stand here. */
+
+/* A frame came in on a network. Refusals 1, 2, 3, 4, 5, 6, 7, 8.
+ * The lowest slot in use with the frame's key has the arrival. Handed up: the frame without its tag stands at the start of
+ * the output, and the bytes after it keep their values. Duplicate and rogue write nothing to the output. The output must
+ * hold frame_bytes - 6 bytes for every verdict; NIPPITSUN_FRAME_MOST - 6 bytes are always enough. */
+nippitsun_arrival_answer nippitsun_arrival(nippitsun_stream *NIPPITSUN_APART table, size_t slots, uint8_t network,
+                                           const uint8_t *NIPPITSUN_APART frame, size_t frame_bytes,
+                                           uint8_t *NIPPITSUN_APART out, size_t out_bytes);
+
+/* Opens a stream: fills the lowest free slot with a fresh record, counters zero. Refusals 1, 9, 10, 11.
+ * `dest` points to the destination's six bytes, as they stand in a frame. */
+nippitsun_slot_answer nippitsun_open(nippitsun_stream *NIPPITSUN_APART table, size_t slots, const uint8_t *NIPPITSUN_APART dest,
+                                     uint16_t vlan, uint8_t rule, uint16_t window, uint16_t time);
+
+/* Closes a slot: it becomes free, and its other fields stay. A damaged record can be closed. Answers the refusal: 1, 12. */
+uint8_t nippitsun_close(nippitsun_stream *table, size_t slots, size_t slot);
+
+/* Resets a stream: fresh state, and resets rises. This mends a damaged record whose settings are in range. Answers the
+ * refusal: 1, 12, and 7 if the settings are out of range. */
+uint8_t nippitsun_reset(nippitsun_stream *table, size_t slots, size_t slot);
+
+/* One tick: takes 1 from remaining in every lawful record that has some left, and resets a stream where that gives 0.
+ * Damaged and free records stay as they are. Refusal 1. */
+nippitsun_tick_answer nippitsun_tick(nippitsun_stream *table, size_t slots);
+
+/* ---- the tag, with no table */
+
+/* Takes the tag out and writes the frame without it to the start of the output; the bytes after it keep their values.
+ * Refusals 3, 4, 5, 8. */
+nippitsun_tag_answer nippitsun_take_tag(const uint8_t *NIPPITSUN_APART frame, size_t frame_bytes, uint8_t *NIPPITSUN_APART out,
+                                        size_t out_bytes);
+
+/* Puts a tag with this number into the frame and writes the tagged frame to the start of the output; the bytes after it keep
+ * their values. Refusals 3 (above NIPPITSUN_UNTAGGED_MOST), 4, 13, 8. */
+nippitsun_tag_answer nippitsun_write_tag(const uint8_t *NIPPITSUN_APART frame, size_t frame_bytes, uint16_t number,
+                                         uint8_t *NIPPITSUN_APART out, size_t out_bytes);
+
+/* ---- the layout, as crates/record/src/lib.rt and crates/port/src/lib.rt have it */
+
+#define NIPPITSUN_TYPE(type, size) \
+    NIPPITSUN_ASSERT(sizeof(type) == (size) && NIPPITSUN_ALIGNOF(type) == 8, "layout of " #type)
+#define NIPPITSUN_FIELD(type, field, at, size) \
+    NIPPITSUN_ASSERT(offsetof(type, field) == (at) && sizeof(((type *)0)->field) == (size), "layout of " #type ", " #field)
+
+NIPPITSUN_TYPE(size_t, 8);
+
+NIPPITSUN_TYPE(nippitsun_state, 16);
+NIPPITSUN_FIELD(nippitsun_state, history, 0, 8);
+NIPPITSUN_FIELD(nippitsun_state, anchor, 8, 2);
+NIPPITSUN_FIELD(nippitsun_state, remaining, 10, 2);
+NIPPITSUN_FIELD(nippitsun_state, any, 12, 1);
+
+NIPPITSUN_TYPE(nippitsun_counts, 64);
+NIPPITSUN_FIELD(nippitsun_counts, arrivals0, 0, 8);
+NIPPITSUN_FIELD(nippitsun_counts, arrivals1, 8, 8);
+NIPPITSUN_FIELD(nippitsun_counts, passed, 16, 8);
+NIPPITSUN_FIELD(nippitsun_counts, discarded, 24, 8);
+NIPPITSUN_FIELD(nippitsun_counts, rogue, 32, 8);
+NIPPITSUN_FIELD(nippitsun_counts, disorder, 40, 8);
+NIPPITSUN_FIELD(nippitsun_counts, lost, 48, 8);
+NIPPITSUN_FIELD(nippitsun_counts, resets, 56, 8);
+
+NIPPITSUN_TYPE(nippitsun_stream, 96);
+NIPPITSUN_FIELD(nippitsun_stream, dest, 0, 8);
+NIPPITSUN_FIELD(nippitsun_stream, vlan, 8, 2);
+NIPPITSUN_FIELD(nippitsun_stream, window, 10, 2);
+NIPPITSUN_FIELD(nippitsun_stream, time, 12, 2);
+NIPPITSUN_FIELD(nippitsun_stream, rule, 14, 1);
+NIPPITSUN_FIELD(nippitsun_stream, used, 15, 1);
+NIPPITSUN_FIELD(nippitsun_stream, state, 16, 16);
+NIPPITSUN_FIELD(nippitsun_stream, counts, 32, 64);
+
+NIPPITSUN_TYPE(nippitsun_arrival_answer, 24);
+NIPPITSUN_FIELD(nippitsun_arrival_answer, slot, 0, 8);
+NIPPITSUN_FIELD(nippitsun_arrival_answer, length, 8, 8);
+NIPPITSUN_FIELD(nippitsun_arrival_answer, number, 16, 2);
+NIPPITSUN_FIELD(nippitsun_arrival_answer, verdict, 18, 1);
+NIPPITSUN_FIELD(nippitsun_arrival_answer, refusal, 19, 1);
+
+NIPPITSUN_TYPE(nippitsun_slot_answer, 16);
+NIPPITSUN_FIELD(nippitsun_slot_answer, slot, 0, 8);
+NIPPITSUN_FIELD(nippitsun_slot_answer, refusal, 8, 1);
+
+NIPPITSUN_TYPE(nippitsun_tick_answer, 24);
+NIPPITSUN_FIELD(nippitsun_tick_answer, resets, 0, 8);
+NIPPITSUN_FIELD(nippitsun_tick_answer, damaged, 8, 8);
+NIPPITSUN_FIELD(nippitsun_tick_answer, refusal, 16, 1);
+
+NIPPITSUN_TYPE(nippitsun_tag_answer, 16);
+NIPPITSUN_FIELD(nippitsun_tag_answer, length, 0, 8);
+NIPPITSUN_FIELD(nippitsun_tag_answer, number, 8, 2);
+NIPPITSUN_FIELD(nippitsun_tag_answer, refusal, 10, 1);
+
+#undef NIPPITSUN_TYPE
+#undef NIPPITSUN_FIELD
+#undef NIPPITSUN_ASSERT
+#undef NIPPITSUN_ALIGNOF
+#undef NIPPITSUN_APART
+
+#ifdef __cplusplus
+}
+#endif
+
+#endif

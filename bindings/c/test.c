@@ -1,0 +1,516 @@
+/* Holds nippitsun.h to the compiled calls: every function, verdict and refusal number, and every field of a record in both
+ * directions. A refused call must leave every byte of table and output as it was, and answer 0 but for the number.
+ *
+ * All areas are blocks of the heap of their exact size, so that bindings/c/memcheck sees an access behind their end. */
+#include "nippitsun.h"
+
+/* The C library's, declared here: the kit has no headers for the x86-64 build (tools/x86-64). */
+int printf(const char *, ...);
+void *malloc(size_t);
+void free(void *);
+void *memcpy(void *, const void *, size_t);
+int memcmp(const void *, const void *, size_t);
+
+static unsigned checks, failures;
+
+static void check(int holds, const char *what, int line) {
+    checks++;
+    if (!holds) {
+        failures++;
+        printf("FAILED at line %d: %s\n", line, what);
+    }
+}
+#define CHECK(what) check((what) != 0, #what, __LINE__)
+
+/* ---- the areas, and a copy of each from before the call */
+
+static nippitsun_stream *table, *table_before;
+static uint8_t *out, *out_before;
+static size_t slots, room;
+
+static void *block(size_t bytes) { return bytes ? malloc(bytes) : NULL; }
+
+static void copy(void *to, const void *from, size_t bytes) {
+    if (bytes) memcpy(to, from, bytes);
+}
+
+static int equal(const void *a, const void *b, size_t bytes) { return bytes == 0 || memcmp(a, b, bytes) == 0; }
+
+static void fill(void *to, size_t bytes, unsigned from) {
+    for (size_t i = 0; i < bytes; i++) ((uint8_t *)to)[i] = (uint8_t)(from + 37 * i);
+}
+
+/* A table whose slots are free and hold something else in every other byte. */
+static void make_table(size_t n) {
+    free(table);
+    free(table_before);
+    slots = n;
+    table = block(n * sizeof *table);
+    table_before = block(n * sizeof *table);
+    fill(table, n * sizeof *table, 11);
+    for (size_t i = 0; i < n; i++) table[i].used = 0;
+}
+
+static void make_out(size_t n) {
+    free(out);
+    free(out_before);
+    room = n;
+    out = block(n);
+    out_before = block(n);
+    fill(out, n, 201);
+}
+
+/* What a call leaves in a record's padding is nobody's. It is written anew, so that every byte can be compared after. */
+static void begin(void) {
+    for (size_t i = 0; i < slots; i++) {
+        size_t used = offsetof(nippitsun_state, any) + 1;
+        fill((uint8_t *)&table[i].state + used, sizeof table[i].state - used, 91);
+    }
+    copy(table_before, table, slots * sizeof *table);
+    copy(out_before, out, room);
+}
+
+static int table_same(void) { return equal(table, table_before, slots * sizeof *table); }
+
+static int out_same_from(size_t from) { return from == room || equal(out + from, out_before + from, room - from); }
+
+static int others_same(size_t slot) {
+    for (size_t i = 0; i < slots; i++)
+        if (i != slot && !equal(table + i, table_before + i, sizeof *table)) return 0;
+    return 1;
+}
+
+/* ---- the calls. What is promised of every call is checked here. */
+
+static unsigned refused[256], verdicts[256];
+
+static void end(uint8_t refusal) {
+    refused[refusal]++;
+    if (refusal) CHECK(table_same() && out_same_from(0));
+}
+
+static nippitsun_arrival_answer arrive(uint8_t network, const uint8_t *frame, size_t n) {
+    uint8_t *f = block(n);
+    copy(f, frame, n);
+    begin();
+    nippitsun_arrival_answer a = nippitsun_arrival(table, slots, network, f, n, out, room);
+    end(a.refusal);
+    verdicts[a.verdict]++;
+    CHECK(equal(f, frame, n));
+    CHECK((a.refusal == NIPPITSUN_REFUSED_NOT) == (a.verdict != NIPPITSUN_VERDICT_NONE));
+    if (a.refusal) CHECK(a.slot == 0 && a.length == 0 && a.number == 0);
+    else CHECK(others_same(a.slot));
+    if (a.verdict != NIPPITSUN_VERDICT_HANDED_UP) CHECK(a.length == 0);
+    CHECK(out_same_from(a.length));
+    free(f);
+    return a;
+}
+
+static nippitsun_slot_answer opened(const uint8_t *six, uint16_t vlan, uint8_t rule, uint16_t window, uint16_t time) {
+    uint8_t *dest = block(6);
+    copy(dest, six, 6);
+    begin();
+    nippitsun_slot_answer a = nippitsun_open(table, slots, dest, vlan, rule, window, time);
+    end(a.refusal);
+    CHECK(equal(dest, six, 6) && out_same_from(0));
+    if (a.refusal) CHECK(a.slot == 0);
+    else CHECK(others_same(a.slot));
+    free(dest);
+    return a;
+}
+
+static uint8_t closed(size_t slot) {
+    begin();
+    uint8_t refusal = nippitsun_close(table, slots, slot);
+    end(refusal);
+    CHECK(others_same(slot));
+    return refusal;
+}
+
+static uint8_t reset(size_t slot) {
+    begin();
+    uint8_t refusal = nippitsun_reset(table, slots, slot);
+    end(refusal);
+    CHECK(others_same(slot));
+    return refusal;
+}
+
+static nippitsun_tick_answer ticked(void) {
+    begin();
+    nippitsun_tick_answer a = nippitsun_tick(table, slots);
+    end(a.refusal);
+    if (a.refusal) CHECK(a.resets == 0 && a.damaged == 0);
+    return a;
+}
+
+static nippitsun_tag_answer taken(const uint8_t *frame, size_t n) {
+    uint8_t *f = block(n);
+    copy(f, frame, n);
+    begin();
+    nippitsun_tag_answer a = nippitsun_take_tag(f, n, out, room);
+    end(a.refusal);
+    CHECK(equal(f, frame, n) && out_same_from(a.length));
+    if (a.refusal) CHECK(a.length == 0 && a.number == 0);
+    free(f);
+    return a;
+}
+
+static nippitsun_tag_answer written(const uint8_t *frame, size_t n, uint16_t number) {
+    uint8_t *f = block(n);
+    copy(f, frame, n);
+    begin();
+    nippitsun_tag_answer a = nippitsun_write_tag(f, n, number, out, room);
+    end(a.refusal);
+    CHECK(equal(f, frame, n) && out_same_from(a.length));
+    if (a.refusal) CHECK(a.length == 0 && a.number == 0);
+    free(f);
+    return a;
+}
+
+/* ---- records, field by field: what stands in the padding is nobody's */
+
+static int same_state(nippitsun_state a, nippitsun_state b) {
+    return a.history == b.history && a.anchor == b.anchor && a.remaining == b.remaining && a.any == b.any;
+}
+
+static int same_counts(nippitsun_counts a, nippitsun_counts b) {
+    return a.arrivals0 == b.arrivals0 && a.arrivals1 == b.arrivals1 && a.passed == b.passed && a.discarded == b.discarded
+        && a.rogue == b.rogue && a.disorder == b.disorder && a.lost == b.lost && a.resets == b.resets;
+}
+
+static int same(nippitsun_stream a, nippitsun_stream b) {
+    return a.dest == b.dest && a.vlan == b.vlan && a.window == b.window && a.time == b.time && a.rule == b.rule
+        && a.used == b.used && same_state(a.state, b.state) && same_counts(a.counts, b.counts);
+}
+
+static const nippitsun_state fresh = {.history = 0, .anchor = 65535, .remaining = 0, .any = 1};
+static const nippitsun_counts zero = {0, 0, 0, 0, 0, 0, 0, 0};
+
+/* A distinct value in each field, all bytes of it distinct where it has several. */
+static const nippitsun_stream distinct = {
+    .dest = 0x0102030405060708,
+    .vlan = 0x1112,
+    .window = 0x1314,
+    .time = 0x1516,
+    .rule = 0x17,
+    .used = 0x18,
+    .state = {.history = 0x2122232425262728, .anchor = 0x292A, .remaining = 0x2B2C, .any = 0x2D},
+    .counts = {
+        .arrivals0 = 0x3132333435363738,
+        .arrivals1 = 0x4142434445464748,
+        .passed = 0x5152535455565758,
+        .discarded = 0x6162636465666768,
+        .rogue = 0x7172737475767778,
+        .disorder = 0x8182838485868788,
+        .lost = 0x9192939495969798,
+        .resets = 0xA1A2A3A4A5A6A7A8,
+    },
+};
+
+/* A lawful record of the vector rule: window 4, time 9, the numbers 100 and 98 came. Its counters are distinct. */
+static nippitsun_stream running(void) {
+    nippitsun_stream s = distinct;
+    s.dest = 0x020304050607;
+    s.vlan = 0;
+    s.window = 4;
+    s.time = 9;
+    s.rule = NIPPITSUN_RULE_VECTOR;
+    s.used = 1;
+    s.state = (nippitsun_state){.history = 5, .anchor = 100, .remaining = 6, .any = 0};
+    return s;
+}
+
+/* ---- frames */
+
+static const uint8_t running_dest[6] = {2, 3, 4, 5, 6, 7};
+static uint8_t frame_bytes[2100];
+
+/* A frame of n bytes to running_dest with a redundancy tag, behind a VLAN tag if vlan is not 0. */
+static const uint8_t *tagged(size_t n, uint16_t vlan, uint16_t number) {
+    size_t at = 12;
+    fill(frame_bytes, n, 3);
+    memcpy(frame_bytes, running_dest, 6);
+    if (vlan) {
+        memcpy(frame_bytes + 12, (uint8_t[]){0x81, 0x00, (uint8_t)(0xA0 | vlan >> 8), (uint8_t)vlan}, 4);
+        at = 16;
+    }
+    memcpy(frame_bytes + at, (uint8_t[]){0xF1, 0xC1, 0xEE, 0xDD, (uint8_t)(number >> 8), (uint8_t)number}, 6);
+    return frame_bytes;
+}
+
+static const uint8_t *untagged(size_t n) {
+    fill(frame_bytes, n, 3);
+    return frame_bytes;
+}
+
+/* Is the output the frame without the six bytes at this place? */
+static int without(size_t n, size_t at) {
+    return equal(out, frame_bytes, at) && equal(out + at, frame_bytes + at + 6, n - at - 6);
+}
+
+/* ---- the tests */
+
+/* One verdict after the other on one record: each changes exactly the fields that document 01 names. */
+static void arrivals(void) {
+    make_table(3);
+    make_out(100);
+    table[0] = distinct;
+    table[1] = running();
+    nippitsun_stream want = running();
+
+    nippitsun_arrival_answer a = arrive(0, tagged(60, 0, 100), 60);
+    CHECK(a.slot == 1 && a.number == 100 && a.verdict == NIPPITSUN_VERDICT_DUPLICATE && a.refusal == 0);
+    want.counts.arrivals0++;
+    want.counts.discarded++;
+    CHECK(same(table[1], want) && same(table[0], distinct));
+
+    a = arrive(1, tagged(60, 0, 104), 60);
+    CHECK(a.slot == 1 && a.number == 104 && a.verdict == NIPPITSUN_VERDICT_ROGUE);
+    want.counts.arrivals1++;
+    want.counts.rogue++;
+    CHECK(same(table[1], want));
+
+    /* Behind the anchor and new: out of order, and remaining is renewed. */
+    a = arrive(1, tagged(60, 0, 99), 60);
+    CHECK(a.slot == 1 && a.number == 99 && a.verdict == NIPPITSUN_VERDICT_HANDED_UP && a.length == 54 && without(60, 12));
+    want.counts.arrivals1++;
+    want.counts.passed++;
+    want.counts.disorder++;
+    want.state.history = 7;
+    want.state.remaining = 9;
+    CHECK(same(table[1], want));
+
+    /* Two places up: 97 and 98 leave the window, and 97 never came. */
+    a = arrive(0, tagged(61, 0, 102), 61);
+    CHECK(a.verdict == NIPPITSUN_VERDICT_HANDED_UP && a.length == 55 && without(61, 12));
+    want.counts.arrivals0++;
+    want.counts.passed++;
+    want.counts.disorder++;
+    want.counts.lost++;
+    want.state.history = 13;
+    want.state.anchor = 102;
+    CHECK(same(table[1], want));
+
+    /* The longest frame, with a VLAN tag, into an output that just holds it. Every number is taken, 0xFEDC too. */
+    table[1].vlan = want.vlan = 0xABC;
+    table[1].state = want.state = fresh;
+    make_out(NIPPITSUN_FRAME_MOST - NIPPITSUN_TAG_LENGTH);
+    a = arrive(0, tagged(NIPPITSUN_FRAME_MOST, 0xABC, 0xFEDC), NIPPITSUN_FRAME_MOST);
+    CHECK(a.slot == 1 && a.number == 0xFEDC && a.verdict == NIPPITSUN_VERDICT_HANDED_UP && a.length == 1994 && without(2000, 16));
+    want.state = (nippitsun_state){.history = 1, .anchor = 0xFEDC, .remaining = 9, .any = 0};
+    want.counts.arrivals0++;
+    want.counts.passed++;
+    CHECK(same(table[1], want) && same(table[0], distinct));
+
+    /* The match rule: no rogue, and no history. */
+    table[1].rule = want.rule = NIPPITSUN_RULE_MATCH;
+    table[1].state.history = want.state.history = 0;
+    a = arrive(1, tagged(60, 0xABC, 5), 60);
+    CHECK(a.verdict == NIPPITSUN_VERDICT_HANDED_UP && a.number == 5);
+    want.state.anchor = 5;
+    want.counts.arrivals1++;
+    want.counts.passed++;
+    want.counts.disorder++;
+    CHECK(same(table[1], want));
+
+    /* A frame and an output at odd addresses. */
+    make_out(101);
+    uint8_t *f = block(61);
+    copy(f + 1, tagged(60, 0xABC, 6), 60);
+    begin();
+    a = nippitsun_arrival(table, slots, 1, f + 1, 60, out + 1, room - 1);
+    CHECK(a.verdict == NIPPITSUN_VERDICT_HANDED_UP && a.length == 54 && a.number == 6);
+    CHECK(equal(out + 1, f + 1, 16) && equal(out + 17, f + 23, 38) && out[0] == out_before[0] && out_same_from(55));
+    free(f);
+}
+
+/* Open writes every field of a record that had another value in each. */
+static void opens(void) {
+    static const uint8_t dest[6] = {0xC1, 0xC2, 0xC3, 0xC4, 0xC5, 0xC6};
+    make_table(2);
+    make_out(0);
+    table[0] = table[1] = distinct;
+    table[1].used = 0;
+    nippitsun_slot_answer a = opened(dest, 0x0321, NIPPITSUN_RULE_MATCH, 63, 0xB1B2);
+    nippitsun_stream want = {.dest = 0xC1C2C3C4C5C6, .vlan = 0x0321, .window = 63, .time = 0xB1B2, .rule = 2, .used = 1,
+                             .state = fresh, .counts = zero};
+    CHECK(a.refusal == 0 && a.slot == 1 && same(table[1], want) && same(table[0], distinct));
+
+    /* The bounds of the settings. */
+    struct { uint16_t vlan; uint8_t rule; uint16_t window, time; int taken; } cases[] = {
+        {0, 1, NIPPITSUN_WINDOW_LEAST, NIPPITSUN_TIME_LEAST, 1},
+        {NIPPITSUN_VLAN_MOST, 2, NIPPITSUN_WINDOW_MOST, NIPPITSUN_TIME_MOST, 1},
+        {NIPPITSUN_VLAN_MOST + 1, 1, 4, 3, 0},
+        {65535, 1, 4, 3, 0},
+        {0, 0, 4, 3, 0},
+        {0, 3, 4, 3, 0},
+        {0, 255, 4, 3, 0},
+        {0, 1, NIPPITSUN_WINDOW_LEAST - 1, 3, 0},
+        {0, 1, NIPPITSUN_WINDOW_MOST + 1, 3, 0},
+        {0, 1, 256 + 4, 3, 0},
+        {0, 1, 4, NIPPITSUN_TIME_LEAST - 1, 0},
+    };
+    for (size_t i = 0; i < sizeof cases / sizeof *cases; i++) {
+        make_table(1);
+        a = opened(dest, cases[i].vlan, cases[i].rule, cases[i].window, cases[i].time);
+        CHECK(a.slot == 0 && a.refusal == (cases[i].taken ? NIPPITSUN_REFUSED_NOT : NIPPITSUN_REFUSED_SETTING));
+        if (cases[i].taken) CHECK(table[0].window == cases[i].window && table[0].time == cases[i].time && table[0].vlan == cases[i].vlan);
+    }
+
+    make_table(2);
+    CHECK(opened(dest, 7, 1, 4, 3).slot == 0);
+    CHECK(opened(dest, 7, 1, 4, 3).refusal == NIPPITSUN_REFUSED_TAKEN);
+    CHECK(opened(dest, 8, 1, 4, 3).slot == 1);
+    CHECK(opened(dest, 9, 1, 4, 3).refusal == NIPPITSUN_REFUSED_FULL);
+}
+
+static void closes_resets_and_ticks(void) {
+    make_table(3);
+    make_out(0);
+
+    /* Close keeps every other field. */
+    table[1] = distinct;
+    nippitsun_stream want = distinct;
+    want.used = 0;
+    CHECK(closed(1) == 0 && same(table[1], want));
+    CHECK(closed(1) == NIPPITSUN_REFUSED_SLOT);
+    CHECK(closed(3) == NIPPITSUN_REFUSED_SLOT);
+    CHECK(closed(SIZE_MAX) == NIPPITSUN_REFUSED_SLOT);
+
+    /* Reset gives the fresh state. A damaged state is mended, settings out of range are not. */
+    CHECK(reset(1) == NIPPITSUN_REFUSED_SLOT);
+    CHECK(reset(3) == NIPPITSUN_REFUSED_SLOT);
+    table[1] = distinct;
+    CHECK(reset(1) == NIPPITSUN_REFUSED_DAMAGED);
+    table[1] = running();
+    table[1].state = distinct.state;
+    want = running();
+    want.state = fresh;
+    want.counts.resets++;
+    CHECK(reset(1) == 0 && same(table[1], want));
+
+    /* A tick: one stream is reset, one loses a tick, one is damaged, one is free. */
+    make_table(4);
+    table[0] = running();
+    table[1] = distinct;
+    table[2] = running();
+    table[2].state.remaining = 1;
+    nippitsun_stream reset_one = table[2], older = table[0];
+    nippitsun_tick_answer a = ticked();
+    CHECK(a.resets == 1 && a.damaged == 1 && a.refusal == 0);
+    older.state.remaining--;
+    reset_one.state = fresh;
+    reset_one.counts.resets++;
+    CHECK(same(table[0], older) && same(table[1], distinct) && same(table[2], reset_one) && same(table[3], table_before[3]));
+
+    /* Counts that do not fit into a byte's half: 40 reset, 24 damaged. */
+    make_table(64);
+    for (size_t i = 0; i < 64; i++) {
+        table[i] = i < 40 ? running() : distinct;
+        table[i].state.remaining = 1;
+    }
+    a = ticked();
+    CHECK(a.resets == 40 && a.damaged == 24);
+}
+
+static void refusals(void) {
+    static const size_t sizes[] = {0, 13, 14, 19, 20, 23, 24, 60};
+
+    /* 1 comes before everything else, also where everything else is wrong. */
+    make_table(NIPPITSUN_SLOTS_MOST + 1);
+    make_out(0);
+    table[0] = distinct;
+    CHECK(arrive(9, tagged(2001, 0, 1), 2001).refusal == NIPPITSUN_REFUSED_TABLE);
+    CHECK(opened(running_dest, 65535, 9, 0, 0).refusal == NIPPITSUN_REFUSED_TABLE);
+    CHECK(closed(99) == NIPPITSUN_REFUSED_TABLE);
+    CHECK(reset(99) == NIPPITSUN_REFUSED_TABLE);
+    CHECK(ticked().refusal == NIPPITSUN_REFUSED_TABLE);
+    make_table(NIPPITSUN_SLOTS_MOST);
+    table[63] = running();
+    make_out(100);
+    nippitsun_arrival_answer last = arrive(0, tagged(60, 0, 101), 60);
+    CHECK(last.slot == 63 && last.verdict == NIPPITSUN_VERDICT_HANDED_UP);
+
+    /* An arrival's others, each with all the later ones wrong too. */
+    make_table(1);
+    make_out(13);
+    table[0] = running();
+    table[0].rule = 3;
+    CHECK(arrive(2, tagged(2001, 0, 1), 2001).refusal == NIPPITSUN_REFUSED_NETWORK);
+    CHECK(arrive(255, tagged(2001, 0, 1), 2001).refusal == NIPPITSUN_REFUSED_NETWORK);
+    CHECK(arrive(1, tagged(2001, 0, 1), 2001).refusal == NIPPITSUN_REFUSED_LONG);
+    CHECK(arrive(1, untagged(13), 13).refusal == NIPPITSUN_REFUSED_SHORT);
+    CHECK(arrive(1, tagged(19, 0, 1), 19).refusal == NIPPITSUN_REFUSED_SHORT);
+    CHECK(arrive(1, tagged(23, 5, 1), 23).refusal == NIPPITSUN_REFUSED_SHORT);
+    CHECK(arrive(1, untagged(60), 60).refusal == NIPPITSUN_REFUSED_UNTAGGED);
+    CHECK(arrive(1, tagged(60, 5, 1), 60).refusal == NIPPITSUN_REFUSED_UNKNOWN);
+    CHECK(arrive(1, tagged(60, 0, 1), 60).refusal == NIPPITSUN_REFUSED_DAMAGED);
+    table[0].rule = 1;
+    CHECK(arrive(1, tagged(20, 0, 1), 20).refusal == NIPPITSUN_REFUSED_ROOM);
+    /* 8 is given for a duplicate too. */
+    CHECK(arrive(1, tagged(20, 0, 100), 20).refusal == NIPPITSUN_REFUSED_ROOM);
+
+    /* The tag calls. */
+    make_out(NIPPITSUN_FRAME_MOST);
+    nippitsun_tag_answer t = written(untagged(NIPPITSUN_UNTAGGED_MOST), NIPPITSUN_UNTAGGED_MOST, 0xABCD);
+    CHECK(t.refusal == 0 && t.length == 2000 && t.number == 0xABCD && equal(out, frame_bytes, 12) && equal(out + 18, frame_bytes + 12, 1982));
+    CHECK(equal(out + 12, (uint8_t[]){0xF1, 0xC1, 0, 0, 0xAB, 0xCD}, 6));
+    CHECK(written(untagged(1995), 1995, 1).refusal == NIPPITSUN_REFUSED_LONG);
+    CHECK(written(untagged(13), 13, 1).refusal == NIPPITSUN_REFUSED_SHORT);
+    CHECK(written(tagged(14, 0, 1), 14, 1).refusal == NIPPITSUN_REFUSED_TAGGED);
+    make_out(65);
+    CHECK(written(untagged(60), 60, 1).refusal == NIPPITSUN_REFUSED_ROOM);
+    make_out(67);
+    t = written(untagged(60), 60, 1);
+    CHECK(t.refusal == 0 && t.length == 66 && t.number == 1);
+
+    make_out(55);
+    CHECK(taken(untagged(2001), 2001).refusal == NIPPITSUN_REFUSED_LONG);
+    CHECK(taken(tagged(19, 0, 1), 19).refusal == NIPPITSUN_REFUSED_SHORT);
+    CHECK(taken(untagged(60), 60).refusal == NIPPITSUN_REFUSED_UNTAGGED);
+    CHECK(taken(tagged(62, 0, 1), 62).refusal == NIPPITSUN_REFUSED_ROOM);
+    t = taken(tagged(60, 5, 0xBEEF), 60);
+    CHECK(t.refusal == 0 && t.length == 54 && t.number == 0xBEEF && without(60, 16));
+
+    /* Nothing behind the end of a frame is read: memcheck sees it. */
+    for (size_t i = 0; i < sizeof sizes / sizeof *sizes; i++) {
+        taken(tagged(sizes[i], 0, 1), sizes[i]);
+        taken(tagged(sizes[i], 5, 1), sizes[i]);
+        written(untagged(sizes[i]), sizes[i], 1);
+    }
+}
+
+/* NULL with length 0, for each area of each call. */
+static void nothing(void) {
+    make_table(0);
+    make_out(0);
+    CHECK(table == NULL && out == NULL);
+    CHECK(arrive(0, NULL, 0).refusal == NIPPITSUN_REFUSED_SHORT);
+    CHECK(arrive(0, tagged(60, 0, 1), 60).refusal == NIPPITSUN_REFUSED_UNKNOWN);
+    CHECK(opened(running_dest, 0, 1, 4, 3).refusal == NIPPITSUN_REFUSED_FULL);
+    CHECK(closed(0) == NIPPITSUN_REFUSED_SLOT);
+    CHECK(reset(0) == NIPPITSUN_REFUSED_SLOT);
+    nippitsun_tick_answer a = ticked();
+    CHECK(a.resets == 0 && a.damaged == 0 && a.refusal == 0);
+    CHECK(taken(NULL, 0).refusal == NIPPITSUN_REFUSED_SHORT);
+    CHECK(taken(tagged(60, 0, 1), 60).refusal == NIPPITSUN_REFUSED_ROOM);
+    CHECK(written(NULL, 0, 1).refusal == NIPPITSUN_REFUSED_SHORT);
+    CHECK(written(untagged(60), 60, 1).refusal == NIPPITSUN_REFUSED_ROOM);
+    make_table(1);
+    table[0] = running();
+    CHECK(arrive(0, tagged(60, 0, 101), 60).refusal == NIPPITSUN_REFUSED_ROOM);
+}
+
+int main(void) {
+    arrivals();
+    opens();
+    closes_resets_and_ticks();
+    refusals();
+    nothing();
+    make_table(0);
+    make_out(0);
+    for (int n = 1; n <= 13; n++) CHECK(refused[n] > 0);
+    for (int v = 1; v <= 3; v++) CHECK(verdicts[v] > 0);
+    printf("%u checks of the C calls, %u failed: every verdict, refusals 1 to 13, every field of a record\n", checks, failures);
+    return failures != 0;
+}
