@@ -101,13 +101,21 @@ class Steps(Frame):
         prime = {i: '′' * n for n, i in enumerate(lent)}
         if one is not None:
             k = by[given[one][1]]
-            κ, q = self.names(k)[:2]
+            κ, q, b, o, _ = self.names(k)
             own, p = self.owner(k), self.refs()[k][1]
+            reference, value = self.reference(k), self.value(p)
             # the & is Copy: one is handed over with its token, one stays
             move([have.index(('own', k))])
-            out.append(f'use1 W (‵ ({own}) ⊛ ‵ ({own})) ({"shr" if self.lone(p) else "shr-slice"}-copy 𝓤 H A W (named {k}) {κ} {self.element(p)} .twice ({self.reference(k)}) ({self.value(p)} ∷ [])) $ split ! $')
+            out.append(f'use1 W (‵ ({own}) ⊛ ‵ ({own})) ({"shr" if self.lone(p) else "shr-slice"}-copy 𝓤 H A W (named {k}) {κ} {self.element(p)} .twice ({reference}) ({value} ∷ [])) $ split ! $')
             have[0:1] = ['given', ('own', k)]
-            move([0, have.index(('tok', k))]); out.append('join ! $'); have[0:2] = ['given']
+            move([0, have.index(('tok', k))])
+            if given[one][0] == '&part':
+                _, xs, first, end, within, _ = given[one]
+                out.append(f'slice-part ! tt {xs} {b} {o} {first} {end} {within} (λ ε.')
+                now = f'take ({end} - {first}) (drop {first} {xs})'
+                reference, value = f'record {{ ptr = ({b}, {first} + {o}); name = ε; now = {now} }}', f'sliceVal ({b}, {first} + {o}) (length ({now}))'
+                own = f'{self.row(p)} .own ({reference}) ({value} ∷ [])'
+            out.append('join ! $'); have[0:2] = ['given']
         first = [(e, by[given[i][1]]) for i in lent for e in ('obs', 'bor', 'tok')] + (['given'] if one is not None else [])
         move([have.index(e) for e in first + [e for e in self.front() if e in have and e not in first]])
         # what the callee binds: lifetimes in the order of its references
@@ -118,7 +126,7 @@ class Steps(Frame):
                 _, _, base, offset, _ = self.names(by[a[1]])
                 xs.append(self.reference(by[a[1]], a[2], 'δ' + prime[i])); vs.append(f'sliceVal ({base}, {offset}) (length {a[2]}) ∷ []')
             elif i == one:
-                xs.append(self.reference(k)); vs.append(self.value(p) + ' ∷ []')
+                xs.append(reference); vs.append(value + ' ∷ []')
             else:
                 xs.append(a[1]); vs.append(Type(a[0]).val(a[1]) + ' ∷ []')
         y = f'(({nest([life[i][0] for i in refs], "tt")}, {nest([life[i][1] for i in refs], "tt")}, tt, {nest(xs, "tt")}, {nest(vs, "tt")}), tt)'

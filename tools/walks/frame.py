@@ -57,13 +57,13 @@ class Frame:
 
     def stays(self, p):
         if p[1].startswith('&mut'):
-            return f'{"gave" if p[2:] else "stay"}-slice ({self.ref(p)} ∷ []) tt (plain (λ _. {self.element(p)}))'
+            return f'{"gave" if "given" in p[2:] else "stay"}-slice ({self.ref(p)} ∷ []) tt (plain (λ _. {self.element(p)}))'
         return f'stay-dropped ({self.slot(p)}) yes'
 
     def goes(self, p):
         many = len(self.refs())
         if p[1].startswith('&mut'):
-            return f'goes-{"gave-" if p[2:] else ""}slice 𝓤 H A W {many} {self.ref(p)} tt (plain (λ _. {self.element(p)}))'
+            return f'goes-{"gave-" if "given" in p[2:] else ""}slice 𝓤 H A W {many} {self.ref(p)} tt (plain (λ _. {self.element(p)}))'
         return f'goes-dropped 𝓤 H A W {many} ({self.slot(p)}) yes (λ κs x f. refl)'
 
     def value(self, p):
@@ -147,7 +147,7 @@ class Frame:
         for k, p in muts:
             _, _, b, o, _ = self.names(k)
             move(have.index(('obs', k)), have.index(('bor', k)))
-            out.append(self.settles(k, last[k]) if 'settled' in p[2:] else f'owns-slice ! {self.element(p)} (named {k}) {p[0]} {last[k]} {b} {o} len-{p[0]} g-{p[0]} $'); have[0:2] = [('own', k)]
+            out.append(f'owns-slice ! {self.element(p)} (named {k}) {p[0]} {last[k]} {b} {o} len-{p[0]} g-{p[0]} $'); have[0:2] = [('own', k)]
         out.append('nothing ! $'); have.insert(0, 'acc')
         for p in reversed(self.params):
             if p[1].startswith('&mut'):
@@ -163,13 +163,6 @@ class Frame:
       suffices ! _ (ends-at 𝓤 H A fn.ended stayed (fn.clauses 𝓤 H A mem run) W {self.ghost()} ({r.val('r')}) r {at} {lens}) $ says ! said $
       {' '.join(out)} frame ! $ {r.owned('r', 'g')} $ done !
 '''
-
-    # [observation; borrow; ..] to what says that the last list is this
-    def settles(self, k, now):
-        κ, _, _, _, γ = self.names(k)
-        R = self.element(self.refs()[k][1])
-        code = f'(codedHoleys {R} .code (heres {R} {now}))'
-        return f'use1 W (‵ (fres {γ} {code})) (W .names .obs-res {γ} {code}) $ use1 W (‵ (finally {R} {γ} {now})) (res-finally 𝓤 H A W (named {k}) {κ} {R} {γ} {now}) $ move ! (1 ∷ []) $ lose ! $'
 
     def stayed(self):
         return f'abbrev stayed : Stays (fn.ended .signature .params) (fn.ended .kept)\nstayed = {nest([self.stays(p) for p in self.params], "tt")}\n\n'

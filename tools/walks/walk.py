@@ -12,8 +12,7 @@ Of the function:
   %about TEXT               the file's first comment
   %param NAME TYPE          a parameter, in order: &[Stream], &mut [Stream], &[u8], &mut [u8], a number, bool, Stream, a type of Values.antt or Enums.antt, or a & to one of these (&Six).
                             NAME is its value (of a slice: its list; the table is ys), g-NAME the fact that it fits
-                            `given` behind a &mut says that it is handed on for good: %walk then leaves [..; tokens; what the parameters own] together;
-                            `settled` that it may be: at the end the walk has what says its last list, be it the callee's, and `exits` makes it of what was kept
+                            `given` behind a &mut says that it is handed on for good: %walk then leaves [..; tokens; what the parameters own] together
   %result TYPE              what it returns; () for nothing
   %requires FACT            over the parameters' names; `given` is the proof of it
   %calls CRATE::G ..        the callees; known .g′ is the theorem of each
@@ -38,6 +37,7 @@ Statements of the MIR, on lines that begin with a colon. An operand is a local 3
   : 6 := 5 cmp 3                            a comparison                : 3 <- 3 plus ; fits FACT       plus 1
   : place 8 := 1[3] via := 5 ; FACT         local 8 points to record number _3 of the slice _1; _5 is its distance, of which FACT says that it fits
   : 9 := *8 ; EVIDENCE                      a record is read            : *8 := 4.0 ; EVIDENCE          a record is stored
+  : part 9 := 2[5..4] via 6 7 8 ; LIST FIRST END WITHIN FACT      local 9 is the part of the slice _2 from number _5 up to _4, which are FIRST and END: WITHIN says that it is one, FACT that END fits
   : reborrow 8 := 1 via 7 ; FACT            local 8 is the slice _1 once more, of which FACT says that its length fits; _7 is its place
 Calls leave a bracket open. r is the result, g-r that it fits, `said` the FACT of it. An argument is `TYPE VALUE FACT OPERAND`; `| given PROOF` shows a `requires`.
   : call CRATE::G | .. | .. -> TYPE r said. FACT                by value
@@ -45,6 +45,8 @@ Calls leave a bracket open. r is the result, g-r that it fits, `said` the FACT o
   : lend mut CRATE::G 8 LIST FACT | .. -> TYPE r zs said. FACT  as a &mut [Stream]; zs is the list that it leaves, `len` that it is as long
   : read CRATE::G | & NAME OPERAND | .. -> TYPE r said. FACT    handed a & parameter; and with `| &lent NAME LIST FACT OPERAND` lent a &mut one as a &
   : write CRATE::G | & NAME OPERAND | &mut NAME LIST FACT OPERAND | .. -> TYPE r vs said. FACT      and lent a &mut one; vs is what it leaves, len-vs that it is as long
+                            (handed a part of a & parameter: `| &part LIST FIRST END WITHIN OPERAND`, as `: part` has them; it leaves a second bracket open)
+                            (without the &: only lent one. With two &mut, in whatever order: lent both, and two names stand behind r, `-> TYPE r zs vs said.`)
                             (of a callee with two `ensures` that is handed references FACT is `(FACT) ∗ (FACT)`)
   : lands := 7 ; EVIDENCE                   where the result goes
 """
@@ -88,11 +90,13 @@ class Walk(Steps):
         if m:
             d, sl, i, e, p, n, r = m.groups()
             xs, first, end, within, room = self.arguments('|' + ev)[0][0]
+            _, _, b, o, _ = self.names(self.ref(self.params[int(sl) - 1]))
+            fits = f'record {{ fits = lt-of-le-of-lt (sub-le {end} {first}) {room} }}'
             return (f'{ind}assigns ! (bin ! {self.opd(sl + ".0")} {self.opd(i)} tt) {self.cell(":=", p, "(tt, tt)")} $\n'
-                    f'{ind}assigns ! (bin ! {self.opd(e)} {self.opd(i)} ({within} .0)) {self.cell(":=", n, f"(tt, record {{ fits = lt-of-le-of-lt (sub-le {end} {first}) {room} }})")} $\n'
+                    f'{ind}assigns ! (bin ! {self.opd(e)} {self.opd(i)} ({within} .0)) {self.cell(":=", n, f"(tt, {fits})")} $\n'
                     f'{ind}assigns ! (addr ! (from ! (hop ! (look-cell ! {self.pos(p)} refl) (stop !)))) {self.cell(":=", r, "(tt, tt)")} $\n'
-                    f'{ind}assigns ! (agg ! (and-then ! {self.opd(r)} (and-then ! {self.opd(n)} (no-more !)))) {self.cell(":=", d, f"(tt, (tt, (record {{ fits = lt-of-le-of-lt (sub-le {end} {first}) {room} }}, tt)))")} $\n'
-                    f'{ind}rewrite ! {self.pos(d)} (λ (m : ℕ). ‵ (fat fullShare {paren(self.ty[int(d)])} {local(d)} 0 (vstruct (vcons (vptr b₁ ({first} + o₁)) (vcons (vint w64 m) vnil))))) (part-count {xs} {first} {end} {within}) refl $')
+                    f'{ind}assigns ! (agg ! (and-then ! {self.opd(r)} (and-then ! {self.opd(n)} (no-more !)))) {self.cell(":=", d, f"(tt, (tt, ({fits}, tt)))")} $\n'
+                    f'{ind}rewrite ! {self.pos(d)} (λ (m : ℕ). ‵ (fat fullShare {paren(self.ty[int(d)])} {local(d)} 0 (sliceVal ({b}, {first} + {o}) m))) (part-count {xs} {first} {end} {within}) refl $')
         last = body.startswith('last ')
         step = 'assigns-last' if last else 'assigns'
         body = body[5:] if last else body
@@ -173,7 +177,8 @@ class Walk(Steps):
                 if key == 'about': self.about = rest
                 elif key == 'param':
                     name, kind = rest.split(' ', 1)
-                    self.params.append([name] + re.fullmatch(r'(.*?)(?: (given|settled))?', kind).expand(r'\1|\2').rstrip('|').split('|'))
+                    given = kind.endswith(' given')
+                    self.params.append([name, kind[:-6] if given else kind] + (['given'] if given else []))
                 elif key == 'result': self.result = rest
                 elif key == 'requires': self.requires = rest
                 elif key == 'calls': self.calls += rest.split()

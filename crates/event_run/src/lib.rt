@@ -9,7 +9,7 @@ use event_file::reader::Event;
 use event_file::reader::Read;
 use record::Stream;
 ghost use mathlib.Core.Path.{_≡_};
-ghost use Prim.Native.Nat.{_+_, _-_, _≤_, _<_};
+ghost use Prim.Native.Nat.{_+_, _-_, _^_, _≤_, _<_};
 ghost use lib.ListN.{length, take, drop};
 ghost use Rattle.event_file.specs.Records.{eventOf, destinationOf};
 ghost use Rattle.event_run.specs.Run.{nextOf, Handled, Noted, Drained};
@@ -69,8 +69,8 @@ fn destination_at(input: &[u8], start: usize, end: usize) -> [u8; 6]
 }
 
 // Where the frame of an arrival starts: behind the kind and the network.
-fn frame_at(start: usize, end: usize) -> usize
-    requires { ⌜ start + 2 ≤ end ⌝ }
+fn frame_at(start: usize) -> usize
+    requires { ⌜ start + 2 < 2 ^ 64 ⌝ }
     ensures { λ r. ⌜ r ≡ start + 2 ⌝ }
 {
     start + 2
@@ -131,7 +131,7 @@ fn handle(table: &mut [Stream], input: &[u8], start: usize, end: usize, out: &mu
             return tell_reset(a);
         }
         Event::Arrival(network) => {
-            let from = frame_at(start, end);
+            let from = frame_at(start);
             let a = receiver::arrival(table, network, &input[from..end], out);
             return tell_arrival(a);
         }

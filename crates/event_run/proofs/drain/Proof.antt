@@ -46,12 +46,12 @@ use Rattle.event_file.specs.declared.reader.Read.{Read}
 use Rattle.event_file.specs.declared.line.Told.{Told}
 use Rattle.event_run.specs.declared.Place.{Place}
 use Rattle.event_run.specs.Run.{nextOf, Handled, Noted, Kept, Drained}
+use Rattle.receiver.proofs.Both.{calls-mut-two}
 use Rattle.receiver.proofs.Calling.{calls-with}
 use Rattle.receiver.proofs.Handing.{owns-slice}
 use Rattle.receiver.proofs.Lending.{mut-own, calls-mut}
 use Rattle.receiver.proofs.Pieces.{after, arm-of}
 use Rattle.receiver.proofs.Rows.{R, mutTy, has}
-use Rattle.event_run.proofs.Both.{calls-mut-two}
 use Rattle.event_run.proofs.Dues.{Found, found, kept-step, kept-start}
 use Rattle.event_run.proofs.Enums.{read-ty, read-val, read-tells, read-ok, read-typed, told-ty, told-val, told-tells, told-typed, told-has}
 use Rattle.event_run.proofs.Values.{place-row, place-ty, place-val, place-spells, place-tells, place-ok, place-typed, place-has}

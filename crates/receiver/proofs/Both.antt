@@ -1,7 +1,7 @@
 -- A call that is lent two slices, of R's and of R′'s, by a caller that keeps both, and handed the item i, as a `&[u8]` at its own lifetime with that lifetime's token. The token comes back as j.
--- (`Handing` of the receiver is the same with one slice.) It says nothing of the record.
+-- (`Handing` is the same with one slice.) It says nothing of the record.
 --     calls-mut-two    [obs; the borrow; the token; obs′; the borrow′; the token′; i; Γ] to the same at the last lists, and j in the place of i;  where the operands are read, three entries stand before Γ
--- Each of the two is lent again (`Again` of the receiver) for a lifetime of its own, ν and ν′, under a name of its own, δ and δ′. y is what the callee's triple binds outside.
+-- Each of the two is lent again (`Again`) for a lifetime of its own, ν and ν′, under a name of its own, δ and δ′. y is what the callee's triple binds outside.
 -- Assumes `Given`.
 use mathlib.Core.Path.{_≡_, refl, sym, subst}
 use Prim.Native.Nat.{ℕ}

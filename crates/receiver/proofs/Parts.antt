@@ -1,5 +1,5 @@
 -- A part of a `&[u8]` at the slice's own lifetime, as `&s[a..e]` makes it: what the slice owns becomes what the part owns.
---     parts            [what a `&κ [u8]` owns; the token; …] to [what a `&κ [u8]` on its bytes from a up to e owns, under a new name; the token; …]
+--     slice-part       [what a `&κ [u8]` owns; the token; …] to [what a `&κ [u8]` on its bytes from a up to e owns, under a new name; the token; …]
 -- Assumes `Given`.
 use mathlib.Core.Path.{_≡_, refl, ap, _∙_, subst}
 use Prim.Native.Nat.{ℕ, _+_, _-_, _≤_}
@@ -24,10 +24,10 @@ use borrow.Table.Copies.{cRf, halved}
 use borrow.Rule.Slice.Prefix.{shs-part-same}
 
 module _ {M : Type 1} {𝓤 : URA M} {H : Heap 𝓤} {A : Atoms 𝓤} {K : Type 0} {W : Given 𝓤 H A} {Γ : List (Item 𝓤)} {G : Goal 𝓤 H} where
-  pub parts : K → Soaks G → {κ : Lft} {q : Share} {γ : GName} (xs : List ℕ) (b o a e : ℕ) → (a ≤ e) × (e ≤ length xs)
+  pub slice-part : K → Soaks G → {κ : Lft} {q : Share} {γ : GName} (xs : List ℕ) (b o a e : ℕ) → (a ≤ e) × (e ≤ length xs)
       → ((δ : GName) → Seq K W (‵ (ShrSlice erased κ u8 .own (record { ptr = (b, a + o); name = δ; now = take (e - a) (drop-list a xs) }) (sliceVal (b, a + o) (length (take (e - a) (drop-list a xs))) ∷ [])) ∷ ‵ (flft κ q) ∷ Γ) G)
       → Seq K W (‵ (ShrSlice erased κ u8 .own (record { ptr = (b, o); name = γ; now = xs }) (sliceVal (b, o) (length xs) ∷ [])) ∷ ‵ (flft κ q) ∷ Γ) G
-  parts t z {κ} {q} {γ} xs b o a e h k =
+  slice-part t z {κ} {q} {γ} xs b o a e h k =
       fsplit t $ fsplit t $ drop t $ fjoin t $
       use2 W (later (some (λ (δ : GName). ‵ (Shared erased κ u8 .own (record { ptr = (b, a + o); name = δ; now = take (e - a) (drop-list a xs) })) ⊛ ‵ (flft κ q)))) part $ await t z $ pick t (λ δ. split t $
       fsplit t $ feqI t (List Val) (sliceVal (b, a + o) (length (take (e - a) (drop-list a xs))) ∷ []) (sliceVal (b, a + o) (length (take (e - a) (drop-list a xs))) ∷ []) refl $ fjoin t $ fjoin t $ k δ)
