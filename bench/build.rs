@@ -1,5 +1,5 @@
-// Links the archives of the proved crates, which tools/archive makes. NIPPITSUN_ARCHIVES names their folder, if it is not
-// the repository's own.
+// Links the archives that only the benchmark calls, which tools/archive makes. The crate nippitsun links the other one.
+// NIPPITSUN_ARCHIVES names their folder, if it is not the repository's own.
 use std::env;
 use std::path::PathBuf;
 
@@ -10,7 +10,7 @@ fn main() {
         Err(_) => PathBuf::from(env::var("CARGO_MANIFEST_DIR").unwrap()).join("../target/native"),
     };
     println!("cargo:rustc-link-search=native={}", folder.display());
-    for name in ["port", "timing", "timing_row"] {
+    for name in ["timing", "timing_row"] {
         println!("cargo:rerun-if-changed={}", folder.join(format!("lib{}.a", name)).display());
         println!("cargo:rustc-link-lib=static={}", name);
     }

@@ -3,6 +3,7 @@
 
 use std::io::{self, ErrorKind, Read, Write};
 
+use crate::wrong::rule;
 use crate::{arrival, close, open, reset, tick, Refusal, Settings, Stream, Verdict};
 
 /// The version byte of an event file.
@@ -139,13 +140,14 @@ pub fn run<R: Read, W: Write>(input: &mut R, lines: &mut W) -> Result<(), Failur
         let mut length = [0; 2];
         let last_line = match fill(input, &mut length)? {
             0 => Some("end"),
-            1 => Some("cut"),
+            1 => Some(rule!("cut", CutLengthEnds: "end")),
             _ => None,
         };
         if let Some(last_line) = last_line {
             return writeln!(lines, "{last_line}").map_err(Failure::Write);
         }
-        let body = &mut body[..usize::from(u16::from_be_bytes(length))];
+        let length = u16::from_be_bytes(length) & rule!(u16::MAX, LengthOf15Bits: 0x7FFF);
+        let body = &mut body[..usize::from(length)];
         if fill(input, body)? < body.len() {
             return writeln!(lines, "cut").map_err(Failure::Write);
         }
@@ -153,5 +155,13 @@ pub fn run<R: Read, W: Write>(input: &mut R, lines: &mut W) -> Result<(), Failur
         receiver
             .record(number, body, lines)
             .map_err(Failure::Write)?;
+        let stop = rule!(
+            false,
+            UnknownKindEnds: matches!(*body, [0 | 6.., ..]),
+            EmptyBodyEnds: body.is_empty()
+        );
+        if stop {
+            return writeln!(lines, "end").map_err(Failure::Write);
+        }
     }
 }

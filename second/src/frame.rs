@@ -2,6 +2,7 @@
 //! out. Document 01: "The frame" and the last two calls of "Calls and the order
 //! of checks".
 
+use crate::wrong::{rule, vlan_behind_tag};
 use crate::{Refusal, Stream};
 
 /// Bytes of the redundancy tag.
@@ -53,47 +54,59 @@ fn header(frame: &[u8]) -> Result<Header, Refusal> {
     if frame[AFTER_ADDRESSES..AFTER_ADDRESSES + 2] != VLAN_MARK {
         return Ok(Header {
             destination,
-            vlan: 0,
+            vlan: rule!(0, VlanBehindTag: vlan_behind_tag(frame)),
             type_place: AFTER_ADDRESSES,
         });
     }
     if frame.len() < AFTER_VLAN + 2 {
-        return Err(Refusal::FrameShort);
+        return Err(rule!(
+            Refusal::FrameShort,
+            ShortAt17: if frame.len() == 17 { Refusal::NoTag } else { Refusal::FrameShort }
+        ));
     }
     // The four high bits are no part of the id.
-    let vlan = u16::from_be_bytes([frame[14], frame[15]]) & 0x0FFF;
+    let vlan = u16::from_be_bytes([frame[14], frame[15]]) & rule!(0x0FFF, VlanUnmasked: 0xFFFF);
     Ok(Header {
         destination,
-        vlan,
+        vlan: rule!(vlan, VlanZeroApart: if vlan == 0 { 4095 } else { vlan }),
         type_place: AFTER_VLAN,
     })
 }
 
 /// Does F1C1 stand at the type field?
 fn carries_tag(frame: &[u8], header: Header) -> bool {
-    frame[header.type_place..header.type_place + 2] == TAG_MARK
+    let place = header.type_place;
+    let reserved = frame.get(place + 2..place + 4);
+    frame[place..place + 2] == TAG_MARK && rule!(true, ReservedRead: reserved == Some(&[0, 0]))
+}
+
+/// Refusal 3 of an arrival and of taking a tag out.
+pub(crate) fn check_length(frame: &[u8]) -> Result<(), Refusal> {
+    if frame.len() > rule!(Stream::MAX_FRAME, Longest1999: 1999) {
+        Err(Refusal::FrameTooLong)
+    } else {
+        Ok(())
+    }
 }
 
 /// Reads a frame that should carry a tag: refusals 3, 4, 5 in this order.
 pub(crate) fn read_tagged(frame: &[u8]) -> Result<Tagged, Refusal> {
-    if frame.len() > Stream::MAX_FRAME {
-        return Err(Refusal::FrameTooLong);
-    }
+    check_length(frame)?;
     let header = header(frame)?;
     let place = header.type_place;
     if !carries_tag(frame, header) {
         return Err(Refusal::NoTag);
     }
     // Once the mark is found, the tag and the former type field must be whole.
-    if frame.len() < place + TAG_LENGTH + 2 {
+    if frame.len() < place + TAG_LENGTH + rule!(2, ShortBehindTag: 0) {
         return Err(Refusal::FrameShort);
     }
     // The reserved bytes at place + 2 and place + 3 are not looked at.
-    let number = u16::from_be_bytes([frame[place + 4], frame[place + 5]]);
+    let number = [frame[place + 4], frame[place + 5]];
     Ok(Tagged {
         destination: header.destination,
         vlan: header.vlan,
-        number,
+        number: rule!(u16::from_be_bytes(number), NumberLowFirst: u16::from_le_bytes(number)),
         tag_place: place,
     })
 }
@@ -113,6 +126,7 @@ pub(crate) fn write_without_tag(frame: &[u8], tagged: Tagged, output: &mut [u8])
     let length = frame.len() - TAG_LENGTH;
     output[..place].copy_from_slice(&frame[..place]);
     output[place..length].copy_from_slice(&frame[place + TAG_LENGTH..]);
+    rule!((), ClearsRest: output[length..].fill(0));
     length
 }
 
@@ -124,11 +138,12 @@ pub fn write_tag(frame: &[u8], number: u16, output: &mut [u8]) -> Result<usize, 
         return Err(Refusal::FrameTooLong);
     }
     let header = header(frame)?;
-    if carries_tag(frame, header) {
+    let length = frame.len() + TAG_LENGTH;
+    let room = output.len() >= length;
+    if carries_tag(frame, header) && rule!(true, RoomBeforeTagged: room) {
         return Err(Refusal::AlreadyTagged);
     }
-    let length = frame.len() + TAG_LENGTH;
-    if output.len() < length {
+    if !room {
         return Err(Refusal::OutputTooSmall);
     }
     let place = header.type_place;

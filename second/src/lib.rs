@@ -13,6 +13,7 @@ pub mod frame;
 pub mod random;
 pub mod stream;
 pub mod table;
+pub mod wrong;
 
 pub use frame::{take_tag, write_tag, Taken};
 pub use stream::Stream;

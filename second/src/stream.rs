@@ -1,6 +1,8 @@
 //! The stream record, when it is lawful, and the decision on one record.
 //! Document 01: "Sizes", "The stream record", "Decisions".
 
+use crate::wrong::rule;
+
 /// One slot of a table.
 ///
 /// The fields are open to the caller, so any value may stand in them. A record
@@ -114,7 +116,9 @@ impl Stream {
 
     /// Is this slot in use with this key?
     pub fn has_key(&self, destination: [u8; 6], vlan: u16) -> bool {
-        self.is_in_use() && self.destination == destination && self.vlan == vlan
+        self.is_in_use()
+            && self.destination == destination
+            && rule!(self.vlan == vlan, KeyWithoutVlan: true)
     }
 
     /// Are rule, L, R and VLAN id within the sizes?
@@ -123,7 +127,7 @@ impl Stream {
             && self.window >= Stream::MIN_WINDOW
             && self.window <= Stream::MAX_WINDOW
             && self.reset_time >= Stream::MIN_RESET_TIME
-            && self.vlan <= Stream::MAX_VLAN
+            && self.vlan <= rule!(Stream::MAX_VLAN, Opens4095: 4095)
     }
 
     /// Is this record, taken as one in use, lawful? "The stream record" has
@@ -150,7 +154,7 @@ impl Stream {
     /// apart. Only for records with L in range.
     fn window_mask(&self) -> u64 {
         if self.window >= 64 {
-            u64::MAX
+            rule!(u64::MAX, EmptyWindow64: 0)
         } else {
             (1u64 << self.window) - 1
         }
@@ -167,14 +171,15 @@ impl Stream {
     /// A reset: the fresh state, and resets rises.
     pub(crate) fn restart(&mut self) {
         self.refresh();
-        rise(&mut self.resets);
+        rule!(rise(&mut self.resets), ResetsUncounted: ());
     }
 
     /// The decision on one lawful record, by value. `second_network` says
     /// which arrival counter rises.
     pub(crate) fn decide(mut self, second_network: bool, number: u16) -> (Stream, Decision) {
         // Every verdict counts the arrival ("Decisions").
-        rise(&mut self.arrivals[usize::from(second_network)]);
+        let network = usize::from(second_network);
+        rise(&mut self.arrivals[rule!(network, NetworkZeroCounts: 0)]);
         let decision = if self.takes_any() {
             self.take_any = 0;
             self.anchor = number;
@@ -184,7 +189,10 @@ impl Stream {
         } else {
             // Modulo 65536, then read as signed. Comparing the numbers as
             // plain numbers is one of the "Errors that look right".
-            let d = i32::from(number.wrapping_sub(self.anchor) as i16);
+            let d = rule!(
+                i32::from(number.wrapping_sub(self.anchor) as i16),
+                PlainComparison: i32::from(number) - i32::from(self.anchor)
+            );
             if self.rule == Stream::VECTOR {
                 self.decide_vector(d, number)
             } else {
@@ -194,42 +202,52 @@ impl Stream {
         match decision {
             Decision::HandedUp => {
                 rise(&mut self.passed);
-                self.remaining = self.reset_time;
+                self.remaining = rule!(self.reset_time, ResetsEarly: (self.reset_time - 1).max(1));
             }
             // A discard of either kind leaves the ticks alone. Otherwise a
             // restarted sender never gets through.
-            Decision::Duplicate => rise(&mut self.discarded),
-            Decision::Rogue => rise(&mut self.rogue),
+            Decision::Duplicate => {
+                rise(&mut self.discarded);
+                rule!((), DuplicateRenews: self.remaining = self.reset_time);
+            }
+            Decision::Rogue => {
+                rise(&mut self.rogue);
+                rule!((), RogueRenews: self.remaining = self.reset_time);
+            }
         }
         (self, decision)
     }
 
     fn decide_vector(&mut self, d: i32, number: u16) -> Decision {
         let window = i32::from(self.window);
-        if d >= window || d <= -window {
+        if d >= rule!(window, TakesL: window + 1) || d <= rule!(-window, TakesMinusL: -window - 1) {
             return Decision::Rogue;
         }
         if d <= 0 {
-            let bit = 1u64 << -d;
+            let bit = rule!(1u64 << -d, TakesMinusL: self.window_mask() & (1u128 << -d) as u64);
             if self.history & bit != 0 {
                 return Decision::Duplicate;
             }
-            self.history |= bit;
+            self.history |= rule!(bit, LateUnmarked: 0);
+            rule!((), AnchorGoesBack: self.anchor = number);
             rise(&mut self.out_of_order);
             return Decision::HandedUp;
         }
-        if d != 1 {
+        if d != 1 || rule!(false, OneOutOfOrder: true) {
             rise(&mut self.out_of_order);
         }
         let top = 1u64 << (self.window - 1);
         let mask = self.window_mask();
+        let lost_before = self.lost;
+        let lost_bit = rule!(0, LostCountsMarked: top);
         // One place at a time, so that each zero that leaves is one loss.
-        for _ in 0..d {
-            if self.history & top == 0 {
+        for _ in 0..rule!(d, HistoryStays: 0) {
+            if self.history & top == lost_bit {
                 rise(&mut self.lost);
             }
             self.history = (self.history << 1) & mask;
         }
+        rule!((), OneLossAMove: self.lost = self.lost.min(lost_before.wrapping_add(1)));
         self.history |= 1;
         self.anchor = number;
         Decision::HandedUp
@@ -238,6 +256,9 @@ impl Stream {
     fn decide_match(&mut self, d: i32, number: u16) -> Decision {
         if d == 0 {
             return Decision::Duplicate;
+        }
+        if rule!(false, MatchHasRogue: d.abs() >= i32::from(self.window)) {
+            return Decision::Rogue;
         }
         if d != 1 {
             rise(&mut self.out_of_order);

@@ -6,6 +6,7 @@
 
 use crate::frame;
 use crate::stream::Decision;
+use crate::wrong::{self, rule};
 use crate::{Refusal, Stream};
 
 /// What an arrival that was not refused answers.
@@ -91,24 +92,31 @@ pub fn arrival(
     output: &mut [u8],
 ) -> Result<Arrival, Refusal> {
     check_table(table)?;
+    rule!(Ok(()), LengthBeforeNetwork: frame::check_length(frame))?;
     if network > 1 {
         return Err(Refusal::NoSuchNetwork);
     }
     let tagged = frame::read_tagged(frame)?;
     let slot = find(table, tagged.destination, tagged.vlan).ok_or(Refusal::NoStream)?;
     let stream = table[slot];
+    let room = frame::check_room(frame, output);
+    rule!(Ok(()), RoomBeforeDamage: room)?;
     if !stream.is_lawful() {
         return Err(Refusal::Damaged);
     }
-    frame::check_room(frame, output)?;
+    rule!(room, MarksBeforeRoom: Ok(()))?;
 
     let (after, decision) = stream.decide(network == 1, tagged.number);
     table[slot] = after;
+    rule!(Ok(()), MarksBeforeRoom: room)?;
     let verdict = match decision {
         Decision::HandedUp => Verdict::HandedUp {
             length: frame::write_without_tag(frame, tagged, output),
         },
-        Decision::Duplicate => Verdict::Duplicate,
+        Decision::Duplicate => {
+            rule!(0, DuplicateWrites: frame::write_without_tag(frame, tagged, output));
+            Verdict::Duplicate
+        }
         Decision::Rogue => Verdict::Rogue,
     };
     Ok(Arrival {
@@ -132,17 +140,29 @@ pub fn open(table: &mut [Stream], settings: Settings) -> Result<usize, Refusal> 
         reset_time: settings.reset_time,
         ..Stream::FREE
     };
+    let key = match find(table, settings.destination, settings.vlan) {
+        Some(_) => Err(Refusal::KeyInUse),
+        None => Ok(()),
+    };
+    let mut slots = table.iter();
+    let free = rule!(
+        slots.position(|s| !s.is_in_use()),
+        OpensHighest: slots.rposition(|s| !s.is_in_use())
+    )
+    .ok_or(Refusal::NoFreeSlot);
+
+    rule!(Ok(()), KeyBeforeSettings: key)?;
     if !stream.settings_in_range() {
         return Err(Refusal::BadSetting);
     }
-    if find(table, settings.destination, settings.vlan).is_some() {
-        return Err(Refusal::KeyInUse);
-    }
-    let slot = table
-        .iter()
-        .position(|s| !s.is_in_use())
-        .ok_or(Refusal::NoFreeSlot)?;
-    table[slot] = stream;
+    rule!(Ok(0), FullBeforeKey: free)?;
+    key?;
+    let slot = free?;
+    table[slot] = rule!(
+        stream,
+        ReopenKeepsState: wrong::keep_state(stream, table[slot]),
+        OpenKeepsCounters: wrong::keep_counters(stream, table[slot])
+    );
     Ok(slot)
 }
 
@@ -150,7 +170,9 @@ pub fn open(table: &mut [Stream], settings: Settings) -> Result<usize, Refusal> 
 /// Refusals 1, 12.
 pub fn close(table: &mut [Stream], slot: usize) -> Result<(), Refusal> {
     check_table(table)?;
-    slot_in_use(table, slot)?.in_use = 0;
+    let stream = slot_in_use(table, slot)?;
+    rule!((), CloseClears: *stream = Stream::FREE);
+    rule!(stream.in_use = 0, ClosesLowest: wrong::close_lowest(table));
     Ok(())
 }
 
@@ -160,10 +182,10 @@ pub fn close(table: &mut [Stream], slot: usize) -> Result<(), Refusal> {
 pub fn reset(table: &mut [Stream], slot: usize) -> Result<(), Refusal> {
     check_table(table)?;
     let stream = slot_in_use(table, slot)?;
-    if !stream.settings_in_range() {
+    if !rule!(stream.settings_in_range(), ResetRefusesDamage: stream.is_lawful()) {
         return Err(Refusal::Damaged);
     }
-    stream.restart();
+    rule!(stream.restart(), ResetForgotten: ());
     Ok(())
 }
 
@@ -177,9 +199,11 @@ pub fn tick(table: &mut [Stream]) -> Result<Ticked, Refusal> {
     for stream in table.iter_mut().filter(|s| s.is_in_use()) {
         if !stream.is_lawful() {
             ticked.damaged += 1;
+            rule!((), TickAgesDamage: stream.remaining = stream.remaining.saturating_sub(1));
         } else if stream.remaining == 1 {
             stream.restart();
             ticked.reset += 1;
+            rule!((), TickStopsAtReset: break);
         } else {
             // A fresh stream has nothing left and stays as it is.
             stream.remaining = stream.remaining.saturating_sub(1);

@@ -1,0 +1,198 @@
+//! The calls of the archive as they are: a table is a slice that the caller lends, and an answer has plain numbers.
+//!
+//! [`Receiver`](crate::Receiver) and [`tag`](crate::tag) say the same with Rust's own types, and are what a program needs.
+//!
+//! This is the only module with unsafe code. The proof of a call takes for granted that its areas are there in their whole
+//! length, lie apart, and belong to the call while it runs. `&` and `&mut` on slices give just that, so the functions are
+//! safe: the areas are slices, no two of which overlap if one is `&mut`; no call keeps a pointer; every length is below
+//! `isize::MAX`; and every bit pattern is a value of [`Stream`] and of the answers, which hold only integers.
+#![allow(unsafe_code)]
+
+use crate::record::Stream;
+use std::mem::{align_of, size_of};
+
+/// What an arrival answers. Where it is refused, `refusal` is the number and the rest is 0.
+#[repr(C)]
+#[derive(Clone, Copy, Debug, Default, PartialEq, Eq)]
+pub struct ArrivalAnswer {
+    /// The slot of the stream.
+    pub slot: usize,
+    /// Bytes written to the output, 0 but for a frame handed up.
+    pub length: usize,
+    /// The number in the tag.
+    pub number: u16,
+    /// [`HANDED_UP`], [`DUPLICATE`] or [`ROGUE`].
+    pub verdict: u8,
+    /// 0, or why the call was refused.
+    pub refusal: u8,
+}
+
+/// What an open answers. Where it is refused, `refusal` is the number and the rest is 0.
+#[repr(C)]
+#[derive(Clone, Copy, Debug, Default, PartialEq, Eq)]
+pub struct SlotAnswer {
+    /// The slot that was filled.
+    pub slot: usize,
+    /// 0, or why the call was refused.
+    pub refusal: u8,
+}
+
+/// What a tick answers. Where it is refused, `refusal` is the number and the rest is 0.
+#[repr(C)]
+#[derive(Clone, Copy, Debug, Default, PartialEq, Eq)]
+pub struct TickAnswer {
+    /// Streams that this tick reset.
+    pub resets: u64,
+    /// Records in use that are damaged.
+    pub damaged: u64,
+    /// 0, or why the call was refused.
+    pub refusal: u8,
+}
+
+/// What a tag call answers. Where it is refused, `refusal` is the number and the rest is 0.
+#[repr(C)]
+#[derive(Clone, Copy, Debug, Default, PartialEq, Eq)]
+pub struct TagAnswer {
+    /// Bytes written to the output.
+    pub length: usize,
+    /// The number in the tag.
+    pub number: u16,
+    /// 0, or why the call was refused.
+    pub refusal: u8,
+}
+
+/// The verdict handed up.
+pub const HANDED_UP: u8 = 1;
+/// The verdict duplicate.
+pub const DUPLICATE: u8 = 2;
+/// The verdict rogue.
+pub const ROGUE: u8 = 3;
+
+const _: () = assert!(size_of::<ArrivalAnswer>() == 24 && align_of::<ArrivalAnswer>() == 8);
+const _: () = assert!(size_of::<SlotAnswer>() == 16 && align_of::<SlotAnswer>() == 8);
+const _: () = assert!(size_of::<TickAnswer>() == 24 && align_of::<TickAnswer>() == 8);
+const _: () = assert!(size_of::<TagAnswer>() == 16 && align_of::<TagAnswer>() == 8);
+
+// A slice crosses as a pointer and a number of elements. bindings/check holds these to crates/port/src/lib.rt.
+extern "C" {
+    fn nippitsun_arrival(
+        table: *mut Stream,
+        table_len: usize,
+        network: u8,
+        frame: *const u8,
+        frame_len: usize,
+        out: *mut u8,
+        out_len: usize,
+    ) -> ArrivalAnswer;
+    fn nippitsun_open(
+        table: *mut Stream,
+        table_len: usize,
+        dest: *const [u8; 6],
+        vlan: u16,
+        rule: u8,
+        window: u16,
+        time: u16,
+    ) -> SlotAnswer;
+    fn nippitsun_close(table: *mut Stream, table_len: usize, slot: usize) -> u8;
+    fn nippitsun_reset(table: *mut Stream, table_len: usize, slot: usize) -> u8;
+    fn nippitsun_tick(table: *mut Stream, table_len: usize) -> TickAnswer;
+    fn nippitsun_take_tag(
+        frame: *const u8,
+        frame_len: usize,
+        out: *mut u8,
+        out_len: usize,
+    ) -> TagAnswer;
+    fn nippitsun_write_tag(
+        frame: *const u8,
+        frame_len: usize,
+        number: u16,
+        out: *mut u8,
+        out_len: usize,
+    ) -> TagAnswer;
+}
+
+/// Arrival.
+#[inline(always)]
+pub fn arrival(table: &mut [Stream], network: u8, frame: &[u8], out: &mut [u8]) -> ArrivalAnswer {
+    let (table, table_len) = (table.as_mut_ptr(), table.len());
+    let (out, out_len) = (out.as_mut_ptr(), out.len());
+    // SAFETY: three slices, two of them `&mut`, so they are whole and lie apart; they are borrowed until the call ends.
+    unsafe {
+        nippitsun_arrival(
+            table,
+            table_len,
+            network,
+            frame.as_ptr(),
+            frame.len(),
+            out,
+            out_len,
+        )
+    }
+}
+
+/// Open.
+#[inline(always)]
+pub fn open(
+    table: &mut [Stream],
+    dest: &[u8; 6],
+    vlan: u16,
+    rule: u8,
+    window: u16,
+    time: u16,
+) -> SlotAnswer {
+    // SAFETY: the table is a `&mut` slice, so it is whole and no part of it is `dest`; both are borrowed until the call ends.
+    unsafe {
+        nippitsun_open(
+            table.as_mut_ptr(),
+            table.len(),
+            dest,
+            vlan,
+            rule,
+            window,
+            time,
+        )
+    }
+}
+
+/// Close. Answers the refusal, or 0.
+#[inline(always)]
+pub fn close(table: &mut [Stream], slot: usize) -> u8 {
+    // SAFETY: the table is a `&mut` slice, whole and borrowed until the call ends; any `slot` is taken.
+    unsafe { nippitsun_close(table.as_mut_ptr(), table.len(), slot) }
+}
+
+/// Reset. Answers the refusal, or 0.
+#[inline(always)]
+pub fn reset(table: &mut [Stream], slot: usize) -> u8 {
+    // SAFETY: the table is a `&mut` slice, whole and borrowed until the call ends; any `slot` is taken.
+    unsafe { nippitsun_reset(table.as_mut_ptr(), table.len(), slot) }
+}
+
+/// Tick.
+#[inline(always)]
+pub fn tick(table: &mut [Stream]) -> TickAnswer {
+    // SAFETY: the table is a `&mut` slice, whole and borrowed until the call ends.
+    unsafe { nippitsun_tick(table.as_mut_ptr(), table.len()) }
+}
+
+/// Take a tag out.
+#[inline(always)]
+pub fn take_tag(frame: &[u8], out: &mut [u8]) -> TagAnswer {
+    // SAFETY: two slices, one of them `&mut`, so they are whole and lie apart; they are borrowed until the call ends.
+    unsafe { nippitsun_take_tag(frame.as_ptr(), frame.len(), out.as_mut_ptr(), out.len()) }
+}
+
+/// Write a tag.
+#[inline(always)]
+pub fn write_tag(frame: &[u8], number: u16, out: &mut [u8]) -> TagAnswer {
+    // SAFETY: two slices, one of them `&mut`, so they are whole and lie apart; they are borrowed until the call ends.
+    unsafe {
+        nippitsun_write_tag(
+            frame.as_ptr(),
+            frame.len(),
+            number,
+            out.as_mut_ptr(),
+            out.len(),
+        )
+    }
+}

@@ -1,0 +1,21 @@
+//! A receiver for frames that arrive on two networks, proved to do what document 01 says, and safe to use from Rust.
+//!
+//! [`Receiver`] owns a table of streams and decides each arrival: handed up, duplicate or rogue. [`tag`] puts the redundancy
+//! tag into a frame and takes it out. The work is done by the archive of the proved crate `port`; this crate gives its calls
+//! the types that Rust's compiler checks, and adds nothing else.
+//!
+//! A call that can't do its work is refused with a [`Refusal`] and changes nothing: no record, no counter, no output byte.
+//! No call panics, allocates or blocks.
+
+#![deny(unsafe_code)]
+#![warn(missing_docs)]
+
+pub mod archive;
+mod receiver;
+mod record;
+mod refusal;
+pub mod tag;
+
+pub use receiver::{Arrival, Receiver, Settings, Ticked, Verdict};
+pub use record::{dest_of, Counts, State, Stream};
+pub use refusal::Refusal;

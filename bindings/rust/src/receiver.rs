@@ -1,0 +1,199 @@
+//! A receiver that owns its table.
+
+use crate::archive;
+use crate::record::{Counts, Stream};
+use crate::refusal::Refusal;
+
+/// Key and settings of a stream to open.
+#[derive(Clone, Copy, Debug, PartialEq, Eq)]
+pub struct Settings {
+    /// The key's destination, as it stands in a frame.
+    pub destination: [u8; 6],
+    /// The key's VLAN id, 0 to 4094. 0 is also a frame with no VLAN tag.
+    pub vlan: u16,
+    /// [`Stream::VECTOR_RULE`] or [`Stream::MATCH_RULE`].
+    pub rule: u8,
+    /// The window L, 2 to 64.
+    pub window: u16,
+    /// The reset time R, 1 to 65535 ticks.
+    pub time: u16,
+}
+
+/// What an arrival that was not refused answers.
+#[derive(Clone, Copy, Debug, PartialEq, Eq)]
+pub struct Arrival {
+    /// The slot of the stream.
+    pub slot: usize,
+    /// The number in the tag.
+    pub number: u16,
+    /// What became of the frame.
+    pub verdict: Verdict,
+}
+
+/// The three verdicts.
+#[derive(Clone, Copy, Debug, PartialEq, Eq)]
+pub enum Verdict {
+    /// The frame without its tag stands at the start of the output. This one, and no other, is the command to carry out.
+    HandedUp {
+        /// Bytes written to the output.
+        length: usize,
+    },
+    /// The number came before. Nothing was written.
+    Duplicate,
+    /// The number is outside the window. Nothing was written.
+    Rogue,
+}
+
+/// What a tick answers.
+#[derive(Clone, Copy, Debug, PartialEq, Eq)]
+pub struct Ticked {
+    /// Streams that this tick reset.
+    pub resets: u64,
+    /// Records in use that are damaged.
+    pub damaged: u64,
+}
+
+/// A table of streams and the calls on it.
+///
+/// The table belongs to the receiver, and every call takes `&mut self`: so a table has one caller at a time, as the proof
+/// assumes. Two ports that share a receiver share it by a [`Mutex`](std::sync::Mutex), locked for one call at a time.
+///
+/// ```
+/// use nippitsun::{Receiver, Refusal, Settings, Stream, Verdict};
+///
+/// let mut receiver = Receiver::new(8);
+/// let slot = receiver.open(Settings {
+///     destination: [2, 0, 0, 0, 0, 1],
+///     vlan: 0,
+///     rule: Stream::VECTOR_RULE,
+///     window: 4,
+///     time: 3,
+/// })?;
+///
+/// // A frame with the number 7, as it comes on both networks.
+/// let frame = [
+///     2, 0, 0, 0, 0, 1, 2, 0, 0, 0, 0, 2, 0xF1, 0xC1, 0, 0, 0, 7, 0x08, 0x00, 0xAB,
+/// ];
+/// let mut out = [0; Stream::FRAME_MOST];
+/// let first = receiver.arrival(0, &frame, &mut out)?;
+/// assert_eq!((first.slot, first.number), (slot, 7));
+/// assert_eq!(first.verdict, Verdict::HandedUp { length: 15 });
+/// assert_eq!(out[12..15], [0x08, 0x00, 0xAB]);
+///
+/// let twin = receiver.arrival(1, &frame, &mut out)?;
+/// assert_eq!(twin.verdict, Verdict::Duplicate);
+/// assert_eq!(receiver.counts(slot).unwrap().discarded, 1);
+///
+/// assert_eq!(receiver.arrival(2, &frame, &mut out), Err(Refusal::Network));
+/// # Ok::<(), Refusal>(())
+/// ```
+#[derive(Clone, Debug, Default, PartialEq, Eq)]
+pub struct Receiver {
+    table: Vec<Stream>,
+}
+
+impl Receiver {
+    /// A receiver with so many free slots. With more than [`Stream::SLOTS_MOST`] every call is refused.
+    ///
+    /// ```
+    /// use nippitsun::{Receiver, Refusal};
+    ///
+    /// assert!(Receiver::new(64).tick().is_ok());
+    /// assert_eq!(Receiver::new(65).tick(), Err(Refusal::Table));
+    /// ```
+    pub fn new(slots: usize) -> Receiver {
+        Receiver::from_records(vec![Stream::default(); slots])
+    }
+
+    /// A receiver with these records, whatever they hold. The calls themselves tell damaged records from lawful ones.
+    ///
+    /// ```
+    /// use nippitsun::{Receiver, Refusal, Stream};
+    ///
+    /// // In use, with settings that no stream has.
+    /// let damaged = Stream { used: 1, ..Stream::default() };
+    /// let mut receiver = Receiver::from_records(vec![damaged]);
+    /// assert_eq!(receiver.tick()?.damaged, 1);
+    /// assert_eq!(receiver.reset(0), Err(Refusal::Damaged));
+    /// receiver.close(0)?;
+    /// assert_eq!(receiver.tick()?.damaged, 0);
+    /// # Ok::<(), Refusal>(())
+    /// ```
+    pub fn from_records(records: Vec<Stream>) -> Receiver {
+        Receiver { table: records }
+    }
+
+    /// The records, slot by slot.
+    pub fn records(&self) -> &[Stream] {
+        &self.table
+    }
+
+    /// The records, to write to. Anything may be written; a record in use that is not lawful then is damaged.
+    pub fn records_mut(&mut self) -> &mut [Stream] {
+        &mut self.table
+    }
+
+    /// The counters of a slot, free or in use; `None` beyond the table.
+    pub fn counts(&self, slot: usize) -> Option<&Counts> {
+        self.table.get(slot).map(|s| &s.counts)
+    }
+
+    /// A frame came in on a network, 0 or 1. Refusals 1 to 8 in this order.
+    ///
+    /// The output must hold the frame without its tag for every verdict: [`Stream::FRAME_MOST`] bytes are always enough.
+    /// Its bytes after a frame handed up keep their values.
+    pub fn arrival(
+        &mut self,
+        network: u8,
+        frame: &[u8],
+        out: &mut [u8],
+    ) -> Result<Arrival, Refusal> {
+        let a = archive::arrival(&mut self.table, network, frame, out);
+        Refusal::check(a.refusal)?;
+        let verdict = match a.verdict {
+            archive::HANDED_UP => Verdict::HandedUp { length: a.length },
+            archive::DUPLICATE => Verdict::Duplicate,
+            archive::ROGUE => Verdict::Rogue,
+            _ => unreachable!("an archive of another version: its verdict has no name here"),
+        };
+        Ok(Arrival {
+            slot: a.slot,
+            number: a.number,
+            verdict,
+        })
+    }
+
+    /// Opens a stream in the lowest free slot and answers the slot. Refusals 1, 9, 10, 11 in this order.
+    pub fn open(&mut self, s: Settings) -> Result<usize, Refusal> {
+        let a = archive::open(
+            &mut self.table,
+            &s.destination,
+            s.vlan,
+            s.rule,
+            s.window,
+            s.time,
+        );
+        Refusal::check(a.refusal)?;
+        Ok(a.slot)
+    }
+
+    /// Frees a slot. Its other fields stay, and a damaged record can be closed. Refusals 1, 12.
+    pub fn close(&mut self, slot: usize) -> Result<(), Refusal> {
+        Refusal::check(archive::close(&mut self.table, slot))
+    }
+
+    /// Makes a stream fresh, which mends a damaged record. Refusals 1, 12, and 7 if its settings are out of range.
+    pub fn reset(&mut self, slot: usize) -> Result<(), Refusal> {
+        Refusal::check(archive::reset(&mut self.table, slot))
+    }
+
+    /// One tick for the whole table. Refusal 1.
+    pub fn tick(&mut self) -> Result<Ticked, Refusal> {
+        let a = archive::tick(&mut self.table);
+        Refusal::check(a.refusal)?;
+        Ok(Ticked {
+            resets: a.resets,
+            damaged: a.damaged,
+        })
+    }
+}

@@ -1,0 +1,102 @@
+//! The stream record, laid out as C lays it out (document 01, "The stream record" and "Sizes").
+
+use std::mem::{align_of, size_of};
+
+/// What an arrival and a tick change in a record.
+#[repr(C)]
+#[derive(Clone, Copy, Debug, Default, PartialEq, Eq)]
+pub struct State {
+    /// Bit k stands for the number anchor - k.
+    pub history: u64,
+    /// The number that differences are taken from.
+    pub anchor: u16,
+    /// Ticks left until the stream is reset.
+    pub remaining: u16,
+    /// Take-any: 0 is no, every other value is yes.
+    pub any: u8,
+}
+
+/// The counters of a stream. They wrap to zero after 2^64 - 1.
+#[repr(C)]
+#[derive(Clone, Copy, Debug, Default, PartialEq, Eq)]
+pub struct Counts {
+    /// Arrivals on network 0, whatever the verdict.
+    pub arrivals0: u64,
+    /// Arrivals on network 1.
+    pub arrivals1: u64,
+    /// Frames handed up.
+    pub passed: u64,
+    /// Duplicates.
+    pub discarded: u64,
+    /// Frames outside the window.
+    pub rogue: u64,
+    /// Frames handed up out of order.
+    pub disorder: u64,
+    /// Numbers that left the window and never came.
+    pub lost: u64,
+    /// How often the stream became fresh, by ticks or by a reset.
+    pub resets: u64,
+}
+
+/// One slot of a table.
+///
+/// Every value of every field is taken. A record in use that breaks the rules is damaged: an arrival for it is refused, a tick
+/// counts it, and a reset mends it if its settings are in range. The default is a free slot.
+#[repr(C)]
+#[derive(Clone, Copy, Debug, Default, PartialEq, Eq)]
+pub struct Stream {
+    /// The key's destination: its six bytes as one number, high byte first.
+    pub dest: u64,
+    /// The key's VLAN id. 0 is also a frame with no VLAN tag.
+    pub vlan: u16,
+    /// The window L.
+    pub window: u16,
+    /// The reset time R, in ticks.
+    pub time: u16,
+    /// The rule: [`Stream::VECTOR_RULE`] or [`Stream::MATCH_RULE`].
+    pub rule: u8,
+    /// 0 is a free slot, every other value a slot in use.
+    pub used: u8,
+    /// What an arrival and a tick change.
+    pub state: State,
+    /// The counters.
+    pub counts: Counts,
+}
+
+impl Stream {
+    /// Most slots in a table.
+    pub const SLOTS_MOST: usize = 64;
+    /// Longest frame, in bytes.
+    pub const FRAME_MOST: usize = 2000;
+    /// Longest frame before the tag is put in.
+    pub const UNTAGGED_MOST: usize = 1994;
+    /// Smallest window L.
+    pub const WINDOW_LEAST: u16 = 2;
+    /// Largest window L.
+    pub const WINDOW_MOST: u16 = 64;
+    /// Smallest reset time R, in ticks.
+    pub const TIME_LEAST: u16 = 1;
+    /// Largest reset time R.
+    pub const TIME_MOST: u16 = 65535;
+    /// Largest VLAN id in a key.
+    pub const VLAN_MOST: u16 = 4094;
+    /// The vector rule.
+    pub const VECTOR_RULE: u8 = 1;
+    /// The match rule.
+    pub const MATCH_RULE: u8 = 2;
+
+    /// Is the slot in use?
+    pub fn is_used(&self) -> bool {
+        self.used != 0
+    }
+}
+
+/// A destination's six bytes as a record has them.
+pub fn dest_of(six: [u8; 6]) -> u64 {
+    u64::from_be_bytes([0, 0, six[0], six[1], six[2], six[3], six[4], six[5]])
+}
+
+// The order of the fields is C's. With these sizes there is no room for a field of another width.
+const _: () = assert!(size_of::<State>() == 16 && align_of::<State>() == 8);
+const _: () = assert!(size_of::<Counts>() == 64 && align_of::<Counts>() == 8);
+const _: () = assert!(size_of::<Stream>() == 96 && align_of::<Stream>() == 8);

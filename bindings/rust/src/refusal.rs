@@ -1,0 +1,83 @@
+//! Why a call was refused.
+
+use std::fmt;
+
+macro_rules! refusals {
+    ($($(#[doc = $what:literal])+ $name:ident = $number:literal, $says:literal;)+) => {
+        /// Why a call was refused (document 01, "Calls and the order of checks"). A refused call changes nothing.
+        #[derive(Clone, Copy, Debug, PartialEq, Eq, Hash, PartialOrd, Ord)]
+        #[repr(u8)]
+        pub enum Refusal {
+            $($(#[doc = $what])+ $name = $number,)+
+        }
+
+        impl Refusal {
+            /// Every refusal, in the order of the numbers.
+            pub const ALL: &'static [Refusal] = &[$(Refusal::$name,)+];
+
+            /// The refusal with this number.
+            pub fn of_number(number: u8) -> Option<Refusal> {
+                match number {
+                    $($number => Some(Refusal::$name),)+
+                    _ => None,
+                }
+            }
+        }
+
+        impl fmt::Display for Refusal {
+            fn fmt(&self, f: &mut fmt::Formatter<'_>) -> fmt::Result {
+                let says = match self {
+                    $(Refusal::$name => $says,)+
+                };
+                write!(f, "refused ({}): {}", self.number(), says)
+            }
+        }
+    };
+}
+
+refusals! {
+    /// The table has more than 64 slots.
+    Table = 1, "the table has more than 64 slots";
+    /// The network is not 0 or 1.
+    Network = 2, "the network is not 0 or 1";
+    /// The frame is too long.
+    Long = 3, "the frame is too long";
+    /// The frame is short.
+    Short = 4, "the frame is short";
+    /// There is no F1C1 at the type field.
+    Untagged = 5, "there is no F1C1 at the type field";
+    /// No slot in use has the key.
+    Unknown = 6, "no slot in use has the key";
+    /// The record is damaged. For a reset: its settings are out of range.
+    Damaged = 7, "the record is damaged";
+    /// The output is too small.
+    Room = 8, "the output is too small";
+    /// A setting is outside the sizes.
+    Setting = 9, "a setting is outside the sizes";
+    /// A slot in use has the key.
+    Taken = 10, "a slot in use has the key";
+    /// There is no free slot.
+    Full = 11, "there is no free slot";
+    /// The slot is beyond the table or free.
+    Slot = 12, "the slot is beyond the table or free";
+    /// The frame already carries F1C1.
+    Tagged = 13, "the frame already carries F1C1";
+}
+
+impl Refusal {
+    /// The number that document 01 gives this refusal.
+    pub const fn number(self) -> u8 {
+        self as u8
+    }
+
+    /// What an answer's number says: 0 is no refusal. The archive is proved to answer no other number.
+    pub(crate) fn check(number: u8) -> Result<(), Refusal> {
+        if number == 0 {
+            return Ok(());
+        }
+        Err(Refusal::of_number(number)
+            .expect("an archive of another version: its refusal has no name here"))
+    }
+}
+
+impl std::error::Error for Refusal {}

@@ -1,0 +1,268 @@
+//! Every refusal and every verdict through the safe calls, and every field of a record in both directions.
+
+use nippitsun::{
+    dest_of, tag, Arrival, Counts, Receiver, Refusal, Settings, State, Stream, Ticked, Verdict,
+};
+
+const FRESH: State = State {
+    history: 0,
+    anchor: 65535,
+    remaining: 0,
+    any: 1,
+};
+
+/// A distinct value in each field.
+const DISTINCT: Stream = Stream {
+    dest: 0x0102030405060708,
+    vlan: 0x1112,
+    window: 0x1314,
+    time: 0x1516,
+    rule: 0x17,
+    used: 0x18,
+    state: State {
+        history: 0x2122232425262728,
+        anchor: 0x292A,
+        remaining: 0x2B2C,
+        any: 0x2D,
+    },
+    counts: Counts {
+        arrivals0: 0x3132333435363738,
+        arrivals1: 0x4142434445464748,
+        passed: 0x5152535455565758,
+        discarded: 0x6162636465666768,
+        rogue: 0x7172737475767778,
+        disorder: 0x8182838485868788,
+        lost: 0x9192939495969798,
+        resets: 0xA1A2A3A4A5A6A7A8,
+    },
+};
+
+const DESTINATION: [u8; 6] = [2, 3, 4, 5, 6, 7];
+
+/// A lawful record of the vector rule with distinct counters: the numbers 100 and 98 came.
+fn running() -> Stream {
+    Stream {
+        dest: dest_of(DESTINATION),
+        vlan: 0,
+        window: 4,
+        time: 9,
+        rule: Stream::VECTOR_RULE,
+        used: 1,
+        state: State {
+            history: 5,
+            anchor: 100,
+            remaining: 6,
+            any: 0,
+        },
+        ..DISTINCT
+    }
+}
+
+fn settings(vlan: u16) -> Settings {
+    Settings {
+        destination: DESTINATION,
+        vlan,
+        rule: Stream::VECTOR_RULE,
+        window: 4,
+        time: 3,
+    }
+}
+
+fn tagged(length: usize, number: u16) -> Vec<u8> {
+    let mut f: Vec<u8> = (0..length).map(|i| (3 + 37 * i) as u8).collect();
+    let [high, low] = number.to_be_bytes();
+    let head = [&DESTINATION[..], &[0; 6], &[0xF1, 0xC1, 9, 9, high, low]].concat();
+    let n = head.len().min(length);
+    f[..n].copy_from_slice(&head[..n]);
+    f
+}
+
+/// An arrival that is refused changes nothing.
+fn refused(r: &mut Receiver, network: u8, frame: &[u8], room: usize) -> Option<Refusal> {
+    let before = r.clone();
+    let mut out = vec![0xA5; room];
+    let why = r.arrival(network, frame, &mut out).err();
+    assert!(*r == before && out == vec![0xA5; room]);
+    why
+}
+
+#[test]
+fn arrivals_change_the_fields_that_they_should() {
+    let mut r = Receiver::from_records(vec![DISTINCT, running()]);
+    let mut want = running();
+    let mut out = [0xA5; 60];
+    let at = |number, verdict| Arrival {
+        slot: 1,
+        number,
+        verdict,
+    };
+
+    let a = r.arrival(0, &tagged(60, 100), &mut out);
+    assert_eq!(a, Ok(at(100, Verdict::Duplicate)));
+    want.counts.arrivals0 += 1;
+    want.counts.discarded += 1;
+    assert_eq!(r.records(), [DISTINCT, want]);
+
+    let a = r.arrival(1, &tagged(60, 104), &mut out);
+    assert_eq!(a, Ok(at(104, Verdict::Rogue)));
+    want.counts.arrivals1 += 1;
+    want.counts.rogue += 1;
+    assert_eq!(r.records(), [DISTINCT, want]);
+    assert_eq!(out, [0xA5; 60]);
+
+    // Two places up: 97 and 98 leave the window, 97 never came.
+    let frame = tagged(60, 102);
+    let a = r.arrival(1, &frame, &mut out);
+    assert_eq!(a, Ok(at(102, Verdict::HandedUp { length: 54 })));
+    want.counts.arrivals1 += 1;
+    want.counts.passed += 1;
+    want.counts.disorder += 1;
+    want.counts.lost += 1;
+    want.state = State {
+        history: 5,
+        anchor: 102,
+        remaining: 9,
+        any: 0,
+    };
+    assert_eq!(r.records(), [DISTINCT, want]);
+    assert_eq!(out[..12], frame[..12]);
+    assert_eq!(out[12..54], frame[18..]);
+    assert_eq!(out[54..], [0xA5; 6]);
+    assert_eq!(r.counts(1), Some(&want.counts));
+    assert_eq!(r.counts(2), None);
+}
+
+#[test]
+fn open_writes_every_field_and_close_keeps_all_but_one() {
+    let free = Stream {
+        used: 0,
+        ..DISTINCT
+    };
+    let mut r = Receiver::from_records(vec![DISTINCT, free]);
+    let s = Settings {
+        destination: [0xC1, 0xC2, 0xC3, 0xC4, 0xC5, 0xC6],
+        vlan: 0x0321,
+        rule: Stream::MATCH_RULE,
+        window: 63,
+        time: 0xB1B2,
+    };
+    assert_eq!(r.open(s), Ok(1));
+    let opened = Stream {
+        dest: 0xC1C2C3C4C5C6,
+        vlan: 0x0321,
+        window: 63,
+        time: 0xB1B2,
+        rule: 2,
+        used: 1,
+        state: FRESH,
+        counts: Counts::default(),
+    };
+    assert_eq!(r.records(), [DISTINCT, opened]);
+    assert_eq!(r.close(0), Ok(()));
+    assert_eq!(r.records(), [free, opened]);
+}
+
+#[test]
+fn a_reset_mends_and_a_tick_ages() {
+    let mut hurt = running();
+    hurt.state = DISTINCT.state;
+    let mut last = running();
+    last.state.remaining = 1;
+    let mut r = Receiver::from_records(vec![running(), hurt, last]);
+    assert_eq!(
+        r.tick(),
+        Ok(Ticked {
+            resets: 1,
+            damaged: 1
+        })
+    );
+    let mut older = running();
+    older.state.remaining = 5;
+    let mut fresh = running();
+    fresh.state = FRESH;
+    fresh.counts.resets += 1;
+    assert_eq!(r.records(), [older, hurt, fresh]);
+    assert_eq!(r.reset(1), Ok(()));
+    assert_eq!(r.records(), [older, fresh, fresh]);
+}
+
+#[test]
+fn every_refusal() {
+    let mut long = Receiver::new(65);
+    let mut r = Receiver::from_records(vec![Stream {
+        rule: 3,
+        ..running()
+    }]);
+    let mut out = [0; 2000];
+    let bare = [7; 60];
+    let mut seen = vec![
+        refused(&mut long, 2, &tagged(2001, 1), 0),
+        refused(&mut r, 2, &tagged(2001, 1), 0),
+        refused(&mut r, 1, &tagged(2001, 1), 0),
+        refused(&mut r, 1, &tagged(19, 1), 0),
+        refused(&mut r, 1, &bare, 0),
+        refused(&mut Receiver::new(1), 1, &tagged(60, 1), 0),
+        refused(&mut r, 1, &tagged(60, 1), 0),
+    ];
+    r.records_mut()[0].rule = 1;
+    seen.push(refused(&mut r, 1, &tagged(60, 1), 53));
+    seen.push(r.open(settings(4095)).err());
+    seen.push(r.open(settings(0)).err());
+    seen.push(r.open(settings(1)).err());
+    seen.push(r.close(1).err());
+    seen.push(tag::put(&tagged(60, 1), 2, &mut out).err());
+    assert_eq!(
+        seen,
+        Refusal::ALL.iter().map(|&n| Some(n)).collect::<Vec<_>>()
+    );
+
+    // The other calls that give them.
+    assert_eq!(long.open(settings(4095)), Err(Refusal::Table));
+    assert_eq!(long.close(99), Err(Refusal::Table));
+    assert_eq!(long.reset(99), Err(Refusal::Table));
+    assert_eq!(long.tick(), Err(Refusal::Table));
+    assert_eq!(r.reset(1), Err(Refusal::Slot));
+    r.records_mut()[0].window = 65;
+    assert_eq!(r.reset(0), Err(Refusal::Damaged));
+    assert_eq!(tag::put(&[0; 1995], 2, &mut out), Err(Refusal::Long));
+    assert_eq!(tag::put(&bare[..13], 2, &mut out), Err(Refusal::Short));
+    assert_eq!(tag::put(&bare, 2, &mut out[..65]), Err(Refusal::Room));
+    assert_eq!(tag::take(&[0; 2001], &mut out), Err(Refusal::Long));
+    assert_eq!(tag::take(&tagged(19, 1), &mut out), Err(Refusal::Short));
+    assert_eq!(tag::take(&bare, &mut out), Err(Refusal::Untagged));
+    assert_eq!(
+        tag::take(&tagged(60, 1), &mut out[..53]),
+        Err(Refusal::Room)
+    );
+}
+
+#[test]
+fn nothing_is_lent() {
+    let mut r = Receiver::new(0);
+    assert_eq!(r.arrival(0, &[], &mut []), Err(Refusal::Short));
+    assert_eq!(r.arrival(0, &tagged(60, 1), &mut []), Err(Refusal::Unknown));
+    assert_eq!(r.open(settings(0)), Err(Refusal::Full));
+    assert_eq!(r.close(0), Err(Refusal::Slot));
+    assert_eq!(
+        r.tick(),
+        Ok(Ticked {
+            resets: 0,
+            damaged: 0
+        })
+    );
+    assert_eq!(tag::take(&[], &mut []), Err(Refusal::Short));
+    assert_eq!(tag::put(&[], 1, &mut []), Err(Refusal::Short));
+}
+
+#[test]
+fn refusals_have_their_numbers_and_say_why() {
+    for (at, &refusal) in Refusal::ALL.iter().enumerate() {
+        assert_eq!(usize::from(refusal.number()), at + 1);
+        assert_eq!(Refusal::of_number(refusal.number()), Some(refusal));
+    }
+    assert_eq!(Refusal::ALL.len(), 13);
+    assert_eq!(Refusal::of_number(0), None);
+    assert_eq!(Refusal::of_number(14), None);
+    let why: Box<dyn std::error::Error> = Box::new(Refusal::Room);
+    assert_eq!(why.to_string(), "refused (8): the output is too small");
+}

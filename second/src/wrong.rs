@@ -1,0 +1,179 @@
+//! Wrong variants of this program, each with one slip. A comparison with
+//! another program is only worth something if it finds them, so it is tried
+//! against each. Document 01 names some under "Errors that look right"; the
+//! others are slips that its text makes easy.
+//!
+//! No variant is set at first. In the code a slip stands behind the right rule:
+//! `rule!(right, Slip: wrong)`.
+
+#[cfg(feature = "wrong")]
+use std::cell::Cell;
+
+use crate::frame::{TAG_MARK, VLAN_MARK};
+use crate::Stream;
+
+/// Where the slip can be seen.
+#[derive(Clone, Copy, Debug, PartialEq, Eq)]
+pub enum Seen {
+    /// In the lines of an event file.
+    Files,
+    /// Only where calls are compared: the slip is in a counter, an output byte,
+    /// the treatment of a damaged record or of a small output, or in the tag
+    /// writer. `events` shows none of these.
+    CallsOnly,
+}
+
+/// One wrong variant, as the list has it.
+#[derive(Clone, Copy, Debug)]
+pub struct Variant {
+    /// What [`set`] takes.
+    pub wrong: Wrong,
+    /// Where it can be seen.
+    pub seen: Seen,
+    /// What it does, in a few words.
+    pub what: &'static str,
+}
+
+macro_rules! variants {
+    ($($wrong:ident, $seen:ident, $what:literal;)+) => {
+        /// The slips. [`VARIANTS`] says what each one is.
+        #[derive(Clone, Copy, Debug, PartialEq, Eq)]
+        #[allow(missing_docs)]
+        pub enum Wrong {
+            $($wrong,)+
+        }
+
+        /// Every variant, in the order of their numbers, which start at 1.
+        pub const VARIANTS: &[Variant] = &[
+            $(Variant { wrong: Wrong::$wrong, seen: Seen::$seen, what: $what },)+
+        ];
+    };
+}
+
+variants! {
+    PlainComparison, Files, "numbers are compared as plain numbers, without the wrap";
+    DuplicateRenews, Files, "a duplicate renews the ticks";
+    RogueRenews, Files, "a rogue renews the ticks";
+    TakesL, Files, "d = L is accepted";
+    TakesMinusL, Files, "d = -L is accepted";
+    LateUnmarked, Files, "a number out of order is handed up and not marked";
+    AnchorGoesBack, Files, "the anchor follows a number out of order";
+    HistoryStays, Files, "the anchor moves and the history does not";
+    EmptyWindow64, Files, "a window of 64 has no bits, as a shift by 64 may give";
+    MatchHasRogue, Files, "the match rule gives rogue outside the window";
+    VlanUnmasked, Files, "the VLAN id is all 16 bits";
+    VlanZeroApart, Files, "a VLAN tag with id 0 has another key than no tag";
+    VlanBehindTag, Files, "8100 is also looked for behind F1C1";
+    KeyWithoutVlan, Files, "the key is the destination alone";
+    Opens4095, Files, "VLAN 4095 can be opened";
+    NumberLowFirst, Files, "the number is read low byte first";
+    ReservedRead, Files, "a tag counts only if its reserved bytes are zero";
+    ShortAt17, Files, "with 8100 a frame is short below 17";
+    ShortBehindTag, Files, "with F1C1 at o a frame is short below o + 6";
+    Longest1999, Files, "a frame of 2000 bytes is too long";
+    LengthBeforeNetwork, Files, "refusal 3 comes before 2";
+    KeyBeforeSettings, Files, "refusal 10 comes before 9";
+    FullBeforeKey, Files, "refusal 11 comes before 10";
+    OpensHighest, Files, "open fills the highest free slot";
+    ReopenKeepsState, Files, "a slot opened again keeps its anchor, history and ticks";
+    ClosesLowest, Files, "close frees the lowest slot in use";
+    ResetForgotten, Files, "reset answers ok and does nothing";
+    ResetsEarly, Files, "a stream is reset one tick early";
+    TickStopsAtReset, Files, "a tick ends at the first stream that it resets";
+    UnknownKindEnds, Files, "an unknown kind ends the reading";
+    EmptyBodyEnds, Files, "a body of length 0 ends the reading";
+    LengthOf15Bits, Files, "a length of 32768 or more loses its high bit";
+    CutLengthEnds, Files, "a record cut within its length bytes prints end";
+    MarksBeforeRoom, CallsOnly, "the number is marked before the room is known";
+    RoomBeforeDamage, CallsOnly, "refusal 8 comes before 7";
+    RoomBeforeTagged, CallsOnly, "in the tag writer refusal 8 comes before 13";
+    OneLossAMove, CallsOnly, "the history moves at once and one loss is counted";
+    LostCountsMarked, CallsOnly, "the set bits that leave are counted as lost";
+    OneOutOfOrder, CallsOnly, "d = 1 counts as out of order";
+    NetworkZeroCounts, CallsOnly, "every arrival counts for network 0";
+    ResetsUncounted, CallsOnly, "a reset does not raise resets";
+    OpenKeepsCounters, CallsOnly, "a slot opened again keeps its counters";
+    CloseClears, CallsOnly, "close clears the other fields too";
+    ResetRefusesDamage, CallsOnly, "the reset call refuses every damaged record";
+    TickAgesDamage, CallsOnly, "a tick ages damaged records";
+    DuplicateWrites, CallsOnly, "a duplicate is written to the output";
+    ClearsRest, CallsOnly, "bytes behind the frame handed up are cleared";
+}
+
+#[cfg(feature = "wrong")]
+thread_local! {
+    static SET: Cell<Option<Wrong>> = const { Cell::new(None) };
+}
+
+/// Makes all calls of this thread wrong in this way, or right again.
+#[cfg(feature = "wrong")]
+pub fn set(wrong: Option<Wrong>) {
+    SET.with(|set| set.set(wrong));
+}
+
+/// The variant that is set in this thread.
+#[cfg(feature = "wrong")]
+pub fn now() -> Option<Wrong> {
+    SET.with(Cell::get)
+}
+
+/// Without the feature no variant can be set, and asking costs nothing.
+#[cfg(not(feature = "wrong"))]
+pub const fn now() -> Option<Wrong> {
+    None
+}
+
+/// The right expression, or the wrong one of the variant that is set.
+macro_rules! rule {
+    ($right:expr, $($slip:ident: $wrong:expr),+) => {
+        match $crate::wrong::now() {
+            $(Some($crate::wrong::Wrong::$slip) => $wrong,)+
+            _ => $right,
+        }
+    };
+}
+pub(crate) use rule;
+
+/// The id of a VLAN tag that stands behind a redundancy tag at 12, else 0.
+pub(crate) fn vlan_behind_tag(frame: &[u8]) -> u16 {
+    match frame.get(12..22) {
+        Some(&[t0, t1, _, _, _, _, v0, v1, high, low])
+            if [t0, t1] == TAG_MARK && [v0, v1] == VLAN_MARK =>
+        {
+            u16::from_be_bytes([high, low]) & 0x0FFF
+        }
+        _ => 0,
+    }
+}
+
+/// A stream opened in a slot whose old record keeps its state.
+pub(crate) fn keep_state(opened: Stream, old: Stream) -> Stream {
+    Stream {
+        anchor: old.anchor,
+        history: old.history,
+        take_any: old.take_any,
+        remaining: old.remaining,
+        ..opened
+    }
+}
+
+/// A stream opened in a slot whose old record keeps its counters.
+pub(crate) fn keep_counters(opened: Stream, old: Stream) -> Stream {
+    Stream {
+        arrivals: old.arrivals,
+        passed: old.passed,
+        discarded: old.discarded,
+        rogue: old.rogue,
+        out_of_order: old.out_of_order,
+        lost: old.lost,
+        resets: old.resets,
+        ..opened
+    }
+}
+
+/// Frees the lowest slot in use.
+pub(crate) fn close_lowest(table: &mut [Stream]) {
+    if let Some(stream) = table.iter_mut().find(|stream| stream.is_in_use()) {
+        stream.in_use = 0;
+    }
+}
