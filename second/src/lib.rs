@@ -10,6 +10,7 @@
 
 pub mod event_file;
 pub mod frame;
+pub mod generate;
 pub mod random;
 pub mod stream;
 pub mod table;

@@ -1,0 +1,291 @@
+//! Files that go through all values of one thing, where random ones would meet
+//! only some.
+
+use second::event_file::{kind, MAX_BODY, SLOTS, VERSION};
+use second::generate::{open_body, push_record, tagged, Key};
+use second::Stream;
+
+const KEY: Key = ([2, 0, 0, 0, 0, 1], 0);
+const SOURCE: [u8; 6] = [2, 0, 0, 0, 0, 2];
+
+/// Name and bytes of each.
+pub fn files() -> Vec<(&'static str, Vec<u8>)> {
+    vec![
+        ("every length of a frame", lengths()),
+        ("every window, at its edges", windows()),
+        ("every reset time, opened", reset_times()),
+        ("reset times up to 300, run out", short_reset_times()),
+        ("eight reset times up to 65535, run out", long_reset_times()),
+        ("every kind, with right and wrong lengths", kinds()),
+        ("every VLAN id", vlans()),
+        (
+            "every slot, in a table that is empty, filling and full",
+            slots(),
+        ),
+        ("every network", networks()),
+        ("every number on two networks", numbers()),
+    ]
+}
+
+/// A small file with a record of every kind, to be cut at every byte.
+pub fn small() -> Vec<u8> {
+    let mut file = vec![VERSION];
+    for body in [
+        &open_body(KEY, Stream::MATCH, 2, 1)[..],
+        &[],
+        &tagged(1, KEY, 258),
+        &[kind::TICK],
+        &[6, 0],
+        &[kind::RESET, 0],
+        &tagged(0, (KEY.0, 5), 1),
+        &[kind::CLOSE, 0],
+    ] {
+        push_record(&mut file, body);
+    }
+    file
+}
+
+struct File(Vec<u8>);
+
+impl File {
+    fn new() -> File {
+        File(vec![VERSION])
+    }
+
+    fn body(&mut self, body: &[u8]) {
+        push_record(&mut self.0, body);
+    }
+
+    fn open(&mut self, key: Key, rule: u8, window: u8, reset_time: u16) {
+        self.body(&open_body(key, rule, window, reset_time));
+    }
+
+    fn number(&mut self, network: u8, number: u16) {
+        self.body(&tagged(network, KEY, number));
+    }
+
+    /// An arrival of the first `length` bytes of these, then of zeros.
+    fn frame(&mut self, network: u8, bytes: &[u8], length: usize) {
+        let mut body = vec![kind::ARRIVAL, network];
+        body.extend(bytes);
+        body.resize(2 + length, 0);
+        self.body(&body);
+    }
+}
+
+fn lengths() -> Vec<u8> {
+    let mut file = File::new();
+    file.open(KEY, Stream::VECTOR, 64, 65535);
+    file.open((KEY.0, 5), Stream::VECTOR, 64, 65535);
+    let mut number: u16 = 65000;
+    let mut frame = |before: &[u8], behind: &[u8], length| {
+        number = number.wrapping_add(1);
+        let number = number.to_be_bytes();
+        let bytes = [&KEY.0, &SOURCE, before, &number, behind].concat();
+        file.frame(0, &bytes, length);
+    };
+    for length in 0..=2003 {
+        frame(&[0xF1, 0xC1, 0, 0], &[8, 0], length);
+    }
+    for length in (0..=40).chain(1990..=2003) {
+        // With 8100: id 5, id 5 below four other bits, id 0.
+        frame(&[0x81, 0, 0, 5, 0xF1, 0xC1, 0, 0], &[8, 0], length);
+        frame(&[0x81, 0, 0xF0, 5, 0xF1, 0xC1, 0, 0], &[8, 0], length);
+        frame(&[0x81, 0, 0, 0, 0xF1, 0xC1, 0, 0], &[8, 0], length);
+        // F1C1, or 8100 and id 5, behind F1C1.
+        frame(&[0xF1, 0xC1, 0, 0], &[0xF1, 0xC1, 0, 0, 0, 9], length);
+        frame(&[0xF1, 0xC1, 0, 0], &[0x81, 0, 0, 5], length);
+        // The reserved bytes are ignored.
+        frame(&[0xF1, 0xC1, 0x81, 0], &[8, 0], length);
+        frame(&[0xF1, 0xC1, 0xF1, 0xC1], &[8, 0], length);
+        // No F1C1, with and without 8100, and 8100 behind 8100.
+        frame(&[8, 0, 0, 0], &[], length);
+        frame(&[0x81, 0, 0, 5, 8, 0, 0, 0], &[], length);
+        frame(
+            &[0x81, 0, 0, 5, 0x81, 0, 0, 5, 0xF1, 0xC1, 0, 0],
+            &[8, 0],
+            length,
+        );
+    }
+    file.0
+}
+
+fn windows() -> Vec<u8> {
+    let mut file = File::new();
+    for rule in 0..=3 {
+        for window in 0..=255 {
+            file.open(KEY, rule, window, 9);
+            let both_lawful = (1..=2).contains(&rule) && (2..=64).contains(&window);
+            for anchor in [0, 4, 32768, 65535] {
+                if !both_lawful {
+                    break;
+                }
+                let l = i32::from(window);
+                for d in [
+                    -32768,
+                    -l - 1,
+                    -l,
+                    1 - l,
+                    -1,
+                    0,
+                    1,
+                    2,
+                    l - 1,
+                    l,
+                    l + 1,
+                    32767,
+                ] {
+                    let number = (anchor + d).rem_euclid(65536) as u16;
+                    // Anchor, the number twice, then what it did to the anchor.
+                    for number in [anchor as u16, number, number, anchor as u16] {
+                        file.number(0, number);
+                    }
+                    file.body(&[kind::RESET, 0]);
+                }
+            }
+            file.body(&[kind::CLOSE, 0]);
+        }
+    }
+    file.0
+}
+
+fn reset_times() -> Vec<u8> {
+    let mut file = File::new();
+    for reset_time in 0..=65535 {
+        file.open(KEY, Stream::MATCH, 2, reset_time);
+        file.body(&[kind::CLOSE, 0]);
+    }
+    file.0
+}
+
+fn short_reset_times() -> Vec<u8> {
+    let mut file = File::new();
+    for reset_time in 1..=300 {
+        file.open(KEY, Stream::VECTOR, 8, reset_time);
+        file.number(0, 65534);
+        for left in (1..=reset_time).rev() {
+            // Neither a duplicate nor a rogue renews the ticks.
+            if left == 1 {
+                file.number(1, 65534);
+                file.number(1, 500);
+            }
+            file.body(&[kind::TICK]);
+        }
+        file.number(0, 500);
+        file.body(&[kind::CLOSE, 0]);
+    }
+    file.0
+}
+
+fn long_reset_times() -> Vec<u8> {
+    let mut file = File::new();
+    let reset_times = [1, 2, 255, 256, 4096, 32768, 65534, 65535];
+    let key = |slot: usize| ([2, 0, 0, 0, 1, slot as u8], 0);
+    for (slot, reset_time) in reset_times.into_iter().enumerate() {
+        file.open(key(slot), Stream::VECTOR, 4, reset_time);
+        file.body(&tagged(0, key(slot), 7));
+    }
+    for _ in 0..65536 {
+        file.body(&[kind::TICK]);
+    }
+    for slot in 0..reset_times.len() {
+        file.body(&tagged(1, key(slot), 7));
+    }
+    file.0
+}
+
+fn kinds() -> Vec<u8> {
+    let mut file = File::new();
+    file.open(KEY, Stream::VECTOR, 4, 9);
+    for first in 0..=255 {
+        for length in (1..=16).chain([255, 256, 258, 269]) {
+            let mut body = vec![0; length];
+            body[0] = first;
+            file.body(&body);
+        }
+        file.body(&[]);
+    }
+    for first in 0..=8 {
+        let mut body = vec![first; MAX_BODY];
+        file.body(&body);
+        body.truncate(32768);
+        file.body(&body);
+    }
+    file.number(0, 1);
+    file.0
+}
+
+fn vlans() -> Vec<u8> {
+    let mut file = File::new();
+    for vlan in (0..=4100).chain([8191, 32768, 61440, 65535]) {
+        file.open((KEY.0, vlan), Stream::VECTOR, 4, 9);
+        let tci = vlan.to_be_bytes();
+        for high in [tci[0], tci[0] | 0xF0, tci[0] ^ 1] {
+            let bytes = [high, tci[1], 0xF1, 0xC1, 0, 0, 0, high, 8, 0];
+            file.frame(0, &[&KEY.0, &SOURCE, &[0x81, 0][..], &bytes].concat(), 24);
+        }
+        file.number(1, vlan);
+        file.body(&[kind::CLOSE, 0]);
+    }
+    file.0
+}
+
+fn slots() -> Vec<u8> {
+    let mut file = File::new();
+    let key = |slot: usize| ([2, 0, 0, 0, 2, slot as u8], 0);
+    for used in 0..=SLOTS {
+        if used > 0 {
+            file.open(key(used), Stream::VECTOR, 4, 9);
+        }
+        for slot in (used as u8..=255).rev() {
+            file.body(&[kind::RESET, slot]);
+            file.body(&[kind::CLOSE, slot]);
+        }
+        // A setting outside the sizes, a key in use, both.
+        file.open(key(99), Stream::VECTOR, 1, 9);
+        file.open(key(1), Stream::VECTOR, 4, 9);
+        file.open(key(1), 3, 4, 9);
+        file.body(&[kind::CLOSE, 0]);
+        file.open(key(1), Stream::VECTOR, 4, 9);
+    }
+    // Full: no free slot comes behind the key, and that behind the settings.
+    file.open(key(99), Stream::VECTOR, 4, 9);
+    file.open(key(3), Stream::VECTOR, 4, 9);
+    file.open(key(99), Stream::VECTOR, 4, 0);
+    // Any two slots closed: the lower one is filled first, and it is fresh.
+    for a in 0..SLOTS {
+        for b in 0..SLOTS {
+            for slot in [a, b] {
+                file.body(&tagged(0, key(slot + 1), 100));
+                file.body(&[kind::CLOSE, slot as u8]);
+            }
+            for slot in [a.min(b), a.max(b)] {
+                file.open(key(slot + 1), Stream::VECTOR, 4, 9);
+                file.body(&tagged(1, key(slot + 1), 100));
+            }
+        }
+    }
+    file.0
+}
+
+fn networks() -> Vec<u8> {
+    let mut file = File::new();
+    file.open(KEY, Stream::VECTOR, 4, 9);
+    for network in 0..=255 {
+        file.number(network, network.into());
+        for length in [0, 13, 2000, 2001] {
+            file.frame(network, &KEY.0, length);
+        }
+    }
+    file.0
+}
+
+fn numbers() -> Vec<u8> {
+    let mut file = File::new();
+    file.open(KEY, Stream::VECTOR, 4, 9);
+    for number in (0..=65535).chain(0..=2) {
+        file.number(0, number);
+        file.number(1, number);
+    }
+    file.0
+}

@@ -1,0 +1,198 @@
+//! How often each answer was seen. A comparison in which an answer hardly ever
+//! occurs says nothing about it, so one that can occur and was seen fewer than
+//! [`LEAST`] times is a failure.
+//!
+//! Of document 01's refusals `events` can print 2 to 6 and 9 to 12. The others
+//! can't occur, because
+//!
+//! - 1 needs more than 64 slots, and the table has 8;
+//! - 7 needs a damaged record: open refuses settings outside the sizes, every
+//!   other call keeps a lawful record lawful, and nothing else writes to the
+//!   table. So the second number of a tick is always 0, too;
+//! - 8 needs an output shorter than length - 6, and the output has 2000 bytes
+//!   while a longer frame has been refused with 3;
+//! - 13 is the tag writer's, which no event calls.
+//!
+//! A line of any other shape is a failure as well.
+
+use std::collections::BTreeMap;
+
+use second::event_file::{kind, SLOTS};
+use second::frame::{TAG_MARK, VLAN_MARK};
+use second::Stream;
+
+/// Fewer are too few.
+pub const LEAST: u64 = 100;
+
+/// Counts by shape.
+pub struct Tally {
+    seen: BTreeMap<String, u64>,
+    /// Lines whose shape can't occur.
+    strange: Vec<String>,
+    /// Lines with a record number.
+    pub records: u64,
+}
+
+/// Every answer that can occur, then the inputs that must not be missing.
+fn expected() -> Vec<String> {
+    let mut all: Vec<String> = Vec::new();
+    all.extend((0..SLOTS).map(|slot| format!("O {slot}")));
+    all.extend(["vector", "match"].map(|rule| format!("O, rule {rule}")));
+    all.extend([9, 10, 11].map(|n| format!("O no {n}")));
+    all.extend(["C ok", "C no 12", "R ok", "R no 12"].map(String::from));
+    all.extend(["up", "dup", "rogue"].map(|verdict| format!("A {verdict} vector")));
+    // The match rule has no rogue.
+    all.extend(["up", "dup"].map(|verdict| format!("A {verdict} match")));
+    all.extend([2, 3, 4, 5, 6].map(|n| format!("A no {n}")));
+    all.extend(["T 0 0", "T 1 0", "T 2.. 0", "bad"].map(String::from));
+    all.extend(["version", "cut", "end"].map(String::from));
+    all.extend(INPUTS.map(|input| format!("input: {input}")));
+    all.extend((2..=64).map(|window| format!("input: L = {window}")));
+    all
+}
+
+const INPUTS: [&str; 12] = [
+    "a body of length 0",
+    "a body of 32768 bytes or more",
+    "a frame of 2000 bytes",
+    "a frame of 2001 bytes",
+    "a VLAN tag with id 0",
+    "a VLAN tag with id 4095",
+    "a VLAN tag with high bits",
+    "reserved bytes not zero",
+    "F1C1 behind F1C1",
+    "8100 behind F1C1",
+    "an open with VLAN 4095",
+    "R of 32768 or more",
+];
+
+impl Tally {
+    pub fn new() -> Tally {
+        Tally {
+            seen: expected().into_iter().map(|shape| (shape, 0)).collect(),
+            strange: Vec::new(),
+            records: 0,
+        }
+    }
+
+    fn count(&mut self, shape: &str, line: &str) {
+        match self.seen.get_mut(shape) {
+            Some(count) => *count += 1,
+            None => self.strange.push(line.into()),
+        }
+    }
+
+    /// Counts a file's lines, which stand beside its records.
+    pub fn file(&mut self, file: &[u8], lines: &str) {
+        let mut rest = file.get(1..).unwrap_or_default();
+        // The rule in each slot.
+        let mut rules = [0; SLOTS];
+        for line in lines.lines() {
+            let words: Vec<&str> = line.split(' ').collect();
+            if words.len() == 1 {
+                self.count(line, line);
+                continue;
+            }
+            self.records += 1;
+            let body = next_body(&mut rest);
+            self.input(body);
+            let shape = match words[1..] {
+                [letter, "no", number] => format!("{letter} no {number}"),
+                ["O", slot] => {
+                    let rule = body[9];
+                    self.count(&format!("O, rule {}", name(rule)), line);
+                    self.count(&format!("input: L = {}", body[10]), line);
+                    if let Some(place) = slot.parse().ok().and_then(|at: usize| rules.get_mut(at)) {
+                        *place = rule;
+                    }
+                    format!("O {slot}")
+                }
+                ["A", verdict, slot, _] => {
+                    let rule = slot.parse().ok().and_then(|at: usize| rules.get(at));
+                    format!("A {verdict} {}", name(*rule.unwrap_or(&0)))
+                }
+                ["T", "0" | "1", _] => words[1..].join(" "),
+                ["T", _, damaged] => format!("T 2.. {damaged}"),
+                _ => words[1..].join(" "),
+            };
+            self.count(&shape, line);
+        }
+    }
+
+    /// Counts what a body has in it.
+    fn input(&mut self, body: &[u8]) {
+        let mut has = |yes: bool, input: &str| {
+            if yes {
+                self.count(&format!("input: {input}"), input);
+            }
+        };
+        has(body.is_empty(), INPUTS[0]);
+        has(body.len() >= 32768, INPUTS[1]);
+        if let [kind::OPEN, .., v0, v1, _, _, r0, _] = *body {
+            has([v0, v1] == [0x0F, 0xFF], INPUTS[10]);
+            has(r0 >= 128, INPUTS[11]);
+        }
+        let [kind::ARRIVAL, _, ref frame @ ..] = *body else {
+            return;
+        };
+        has(frame.len() == 2000, INPUTS[2]);
+        has(frame.len() == 2001, INPUTS[3]);
+        let Some((mark, mut rest)) = frame.get(12..).and_then(|rest| rest.split_at_checked(2))
+        else {
+            return;
+        };
+        let mut mark = mark;
+        if mark == VLAN_MARK && rest.len() >= 4 {
+            let id = u16::from_be_bytes([rest[0], rest[1]]);
+            has(id % 4096 == 0, INPUTS[4]);
+            has(id % 4096 == 4095, INPUTS[5]);
+            has(id >= 4096, INPUTS[6]);
+            (mark, rest) = (&rest[2..4], &rest[4..]);
+        }
+        if mark == TAG_MARK && rest.len() >= 6 {
+            has(rest[..2] != [0, 0], INPUTS[7]);
+            has(rest[4..6] == TAG_MARK, INPUTS[8]);
+            has(
+                rest[4..6] == VLAN_MARK && frame[12..14] == TAG_MARK,
+                INPUTS[9],
+            );
+        }
+    }
+
+    /// What is seen too rarely, and what can't occur.
+    pub fn faults(&self) -> Vec<String> {
+        let rare = self.seen.iter().filter(|(_, &count)| count < LEAST);
+        let rare = rare.map(|(shape, count)| format!("'{shape}' was seen {count} times"));
+        let strange = self.strange.iter().take(3);
+        rare.chain(strange.map(|line| format!("this can't occur: {line}")))
+            .collect()
+    }
+
+    /// One line for each answer; inputs are only counted.
+    pub fn print(&self) {
+        for (shape, count) in &self.seen {
+            if !shape.starts_with("input: L") {
+                println!("{count:9} {shape}");
+            }
+        }
+    }
+}
+
+fn name(rule: u8) -> &'static str {
+    match rule {
+        Stream::VECTOR => "vector",
+        Stream::MATCH => "match",
+        _ => "none",
+    }
+}
+
+/// The next record's body; empty if there is none, which only wrong lines need.
+fn next_body<'a>(rest: &mut &'a [u8]) -> &'a [u8] {
+    let Some((length, behind)) = rest.split_at_checked(2) else {
+        return &[];
+    };
+    let length = u16::from_be_bytes([length[0], length[1]]).into();
+    let (body, behind) = behind.split_at_checked(length).unwrap_or((behind, &[]));
+    *rest = behind;
+    body
+}
