@@ -23,7 +23,7 @@ enum { NETWORKS = 2 };
 enum { PORT_ROOM = 64 << 20 };
 
 // How long frames are still taken after a signal, if they do not stop.
-static const int64_t LAST_TURNS = 1000000000;
+static const int64_t LAST_TURNS = 5000000000;
 
 static const char usage[] =
     "usage: receive [OPTION].. INTERFACE0 INTERFACE1\n"
