@@ -1,6 +1,6 @@
 //! Both sides on many random inputs: answers, records and every output byte must be equal. Each answer that there is must
 //! have come up, or the inputs have shown too little.
-use crate::record::{Counts, State, Stream, TagAnswer};
+use crate::record::{Counts, State, Stream};
 use crate::{plain, proved};
 
 /// A small generator of random numbers (xorshift), the same at every run.
@@ -27,51 +27,17 @@ impl Dice {
     }
 }
 
-/// The cases with what the plain side made of them, for another program to hold the archives to.
+/// Decisions with what the plain side made of them, for bench/replay.c to hold the archives to.
 pub struct Cases(pub Option<Vec<u8>>);
 
 impl Cases {
-    pub fn add(&mut self, parts: &[&[u8]]) {
+    fn add(&mut self, parts: &[&[u8]]) {
         if let Some(kept) = &mut self.0 {
             for part in parts {
                 kept.extend_from_slice(part);
             }
         }
     }
-
-    fn add_tag(&mut self, kind: u8, f: &[u8], number: u16, before: &[u8], r: TagAnswer, after: &[u8]) {
-        self.add(&[
-            &[kind],
-            &(f.len() as u32).to_le_bytes(),
-            &(before.len() as u32).to_le_bytes(),
-            &number.to_le_bytes(),
-            f,
-            before,
-            &(r.length as u64).to_le_bytes(),
-            &r.number.to_le_bytes(),
-            &[r.refusal],
-            after,
-        ]);
-    }
-}
-
-/// A record as it lies in memory, its padding zero.
-pub fn bytes(s: &Stream) -> Vec<u8> {
-    let mut b = Vec::with_capacity(96);
-    b.extend_from_slice(&s.dest.to_le_bytes());
-    for x in [s.vlan, s.window, s.time] {
-        b.extend_from_slice(&x.to_le_bytes());
-    }
-    b.extend_from_slice(&[s.rule, s.used]);
-    b.extend_from_slice(&s.state.history.to_le_bytes());
-    b.extend_from_slice(&s.state.anchor.to_le_bytes());
-    b.extend_from_slice(&s.state.remaining.to_le_bytes());
-    b.extend_from_slice(&[s.state.any, 0, 0, 0]);
-    let c = &s.counts;
-    for x in [c.arrivals0, c.arrivals1, c.passed, c.discarded, c.rogue, c.disorder, c.lost, c.resets] {
-        b.extend_from_slice(&x.to_le_bytes());
-    }
-    b
 }
 
 pub fn wrong(what: &str, case: u64) -> String {
@@ -124,7 +90,7 @@ fn frame(dice: &mut Dice, pool: &[u8]) -> Vec<u8> {
     f
 }
 
-pub fn tags(cases: u64, kept: &mut Cases) -> Result<u64, String> {
+pub fn tags(cases: u64) -> Result<u64, String> {
     let mut dice = Dice::new();
     let pool: Vec<u8> = (0..10_000).map(|_| dice.next() as u8).collect();
     let mut taken = [0u64; 256];
@@ -148,7 +114,6 @@ pub fn tags(cases: u64, kept: &mut Cases) -> Result<u64, String> {
             return Err(wrong("take a tag out", case));
         }
         taken[x.refusal as usize] += 1;
-        kept.add_tag(1, &f, number, start, x, &a);
         a.copy_from_slice(start);
         b.copy_from_slice(start);
         let (x, y) = (plain::write_tag(&f, number, &mut a), proved::write_tag(&f, number, &mut b));
@@ -156,7 +121,6 @@ pub fn tags(cases: u64, kept: &mut Cases) -> Result<u64, String> {
             return Err(wrong("write a tag", case));
         }
         written[x.refusal as usize] += 1;
-        kept.add_tag(2, &f, number, start, x, &a);
     }
     all_seen("take a tag out", &taken, &[0, 3, 4, 5, 8])?;
     all_seen("write a tag", &written, &[0, 3, 4, 8, 13])?;
@@ -251,7 +215,7 @@ pub fn decisions(cases: u64, kept: &mut Cases) -> Result<u64, String> {
             return Err(wrong("one decision", case));
         }
         seen[x.verdict as usize] += 1;
-        kept.add(&[&[3], &bytes(&s), &number.to_le_bytes(), &[network], &bytes(&x.stream), &[x.verdict]]);
+        kept.add(&[&[3], &s.to_bytes(), &number.to_le_bytes(), &[network], &x.stream.to_bytes(), &[x.verdict]]);
         let step = match dice.below(4) {
             0 => 1,
             1 => 63,
@@ -265,7 +229,7 @@ pub fn decisions(cases: u64, kept: &mut Cases) -> Result<u64, String> {
         if r != proved::row(s, number, step, network, times) || r != t {
             return Err(wrong("decisions in a row", case));
         }
-        kept.add(&[&[4], &bytes(&s), &number.to_le_bytes(), &step.to_le_bytes(), &[network], &times.to_le_bytes(), &bytes(&r)]);
+        kept.add(&[&[4], &s.to_bytes(), &number.to_le_bytes(), &step.to_le_bytes(), &[network], &times.to_le_bytes(), &r.to_bytes()]);
     }
     all_seen("one decision", &seen, &[0, 1, 2, 3])?;
     Ok(2 * cases)

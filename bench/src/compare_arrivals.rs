@@ -1,6 +1,6 @@
 //! Random arrivals on random tables: the archive's call, the second program's and the plain one in place. Answers, every
 //! record field by field, and every output byte must be equal, and each refusal and verdict must have come up.
-use crate::compare::{all_seen, bytes, wrong, Cases, Dice};
+use crate::compare::{all_seen, wrong, Dice};
 use crate::record::{ArrivalAnswer, Counts, SlotAnswer, State, Stream, TickAnswer, DUPLICATE, HANDED_UP, ROGUE};
 use crate::{plain, proved};
 use second::{Arrival, Refusal, Settings, Verdict};
@@ -187,7 +187,7 @@ fn frame(dice: &mut Dice, pool: &[u8], t: &Tables) -> Vec<u8> {
 /// How many arrivals one table sees.
 const LIFE: u64 = 100;
 
-pub fn arrivals(cases: u64, kept: &mut Cases) -> Result<u64, String> {
+pub fn arrivals(cases: u64) -> Result<u64, String> {
     let mut dice = Dice::new();
     let pool: Vec<u8> = (0..10_000).map(|_| dice.next() as u8).collect();
     let (mut refused, mut verdicts) = ([0u64; 256], [0u64; 256]);
@@ -218,7 +218,6 @@ pub fn arrivals(cases: u64, kept: &mut Cases) -> Result<u64, String> {
         };
         let from = dice.below((pool.len() - room) as u64) as usize;
         let start = &pool[from..from + room];
-        let before: Vec<u8> = if kept.0.is_some() { t.proved.iter().flat_map(bytes).collect() } else { vec![] };
         let (mut a, mut b, mut c) = (start.to_vec(), start.to_vec(), start.to_vec());
         let x = answer_of(plain::arrival(&mut t.second, network, &f, &mut a));
         let y = proved::arrival(&mut t.proved, network, &f, &mut b);
@@ -228,12 +227,6 @@ pub fn arrivals(cases: u64, kept: &mut Cases) -> Result<u64, String> {
         }
         refused[x.refusal as usize] += 1;
         verdicts[x.verdict as usize] += 1;
-        if kept.0.is_some() {
-            let after: Vec<u8> = t.second.iter().flat_map(|s| bytes(&record_of(s))).collect();
-            kept.add(&[&[5, t.proved.len() as u8, network], &(f.len() as u32).to_le_bytes(), &(room as u32).to_le_bytes()]);
-            kept.add(&[&before, &f, start, &(x.slot as u64).to_le_bytes(), &(x.length as u64).to_le_bytes()]);
-            kept.add(&[&x.number.to_le_bytes(), &[x.verdict, x.refusal], &after, &a]);
-        }
     }
     all_seen("an arrival's refusal", &refused, &[0, 1, 2, 3, 4, 5, 6, 7, 8])?;
     all_seen("an arrival's verdict", &verdicts, &[0, 1, 2, 3])?;

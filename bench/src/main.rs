@@ -1,7 +1,7 @@
 //! The proved calls beside the same calls in plain Rust: first their results are compared, then their times.
 //!
 //! `bench` compares and times; `bench only NAME` times just the cells whose name starts so. `bench compare` compares only,
-//! and `bench cases` writes the cases compared, with the plain side's results, for bench/replay.c. `bench count CELL SIDE
+//! and `bench cases` writes the decisions compared, with the plain side's results, for bench/replay.c. `bench count CELL SIDE
 //! CALLS` makes so many calls of one cell on one side, for a tool that counts instructions; `bench cells` lists the names.
 mod cells;
 mod cells_arrivals;
@@ -57,20 +57,18 @@ fn measure(cell: &mut cells::Cell) -> Result<Times, String> {
 
 fn compared() -> Result<(), String> {
     let mut none = compare::Cases(None);
-    let tags = compare::tags(300_000, &mut none)?;
+    let tags = compare::tags(300_000)?;
     let decisions = compare::decisions(300_000, &mut none)?;
     println!("{} tag calls and {} decisions and rows of them on random inputs: answers, records and output bytes equal", tags, decisions);
-    let arrivals = compare_arrivals::arrivals(400_000, &mut none)?;
+    let arrivals = compare_arrivals::arrivals(400_000)?;
     println!("{} arrivals on random tables, beside two plain arrivals: answers, records and output bytes equal", arrivals);
     Ok(())
 }
 
-/// Fewer cases, written to standard output.
+/// Fewer decisions, written to standard output. compare/ has the other calls.
 fn cases() -> Result<(), String> {
     let mut kept = compare::Cases(Some(Vec::new()));
-    compare::tags(20_000, &mut kept)?;
     compare::decisions(100_000, &mut kept)?;
-    compare_arrivals::arrivals(20_000, &mut kept)?;
     std::io::stdout().write_all(&kept.0.unwrap()).map_err(|e| e.to_string())
 }
 

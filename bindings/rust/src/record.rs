@@ -85,6 +85,34 @@ impl Stream {
     /// The match rule.
     pub const MATCH_RULE: u8 = 2;
 
+    /// The record's bytes as they lie in memory, low byte first, its padding zero: for a file, or for another program.
+    pub fn to_bytes(&self) -> [u8; size_of::<Stream>()] {
+        let (state, c) = (&self.state, &self.counts);
+        let mut bytes = Vec::with_capacity(size_of::<Stream>());
+        bytes.extend_from_slice(&self.dest.to_le_bytes());
+        for field in [self.vlan, self.window, self.time] {
+            bytes.extend_from_slice(&field.to_le_bytes());
+        }
+        bytes.extend_from_slice(&[self.rule, self.used]);
+        bytes.extend_from_slice(&state.history.to_le_bytes());
+        bytes.extend_from_slice(&state.anchor.to_le_bytes());
+        bytes.extend_from_slice(&state.remaining.to_le_bytes());
+        bytes.extend_from_slice(&[state.any, 0, 0, 0]);
+        for counter in [
+            c.arrivals0,
+            c.arrivals1,
+            c.passed,
+            c.discarded,
+            c.rogue,
+            c.disorder,
+            c.lost,
+            c.resets,
+        ] {
+            bytes.extend_from_slice(&counter.to_le_bytes());
+        }
+        bytes.try_into().unwrap()
+    }
+
     /// Is the slot in use?
     pub fn is_used(&self) -> bool {
         self.used != 0

@@ -266,3 +266,17 @@ fn refusals_have_their_numbers_and_say_why() {
     let why: Box<dyn std::error::Error> = Box::new(Refusal::Room);
     assert_eq!(why.to_string(), "refused (8): the output is too small");
 }
+
+#[test]
+fn a_record_as_bytes() {
+    let bytes = DISTINCT.to_bytes();
+    assert_eq!(bytes.len(), 96);
+    // Each field of DISTINCT is written with its high byte first, so in memory it stands backwards.
+    assert_eq!(bytes[..8], [8, 7, 6, 5, 4, 3, 2, 1]);
+    assert_eq!(
+        bytes[8..16],
+        [0x12, 0x11, 0x14, 0x13, 0x16, 0x15, 0x17, 0x18]
+    );
+    assert_eq!(bytes[24..32], [0x2A, 0x29, 0x2C, 0x2B, 0x2D, 0, 0, 0]);
+    assert_eq!(bytes[88..], 0xA1A2A3A4A5A6A7A8u64.to_le_bytes());
+}

@@ -40,12 +40,12 @@ fn run(port: impl Fn(u8, usize) -> bool + Sync) -> Outcome {
         for network in 0..2 {
             let (port, up, sent, first) = (&port, &up, &sent, &first);
             threads.spawn(move || {
-                for index in 0..NUMBERS {
+                for (index, up) in up.iter().enumerate() {
                     while index >= sent[1 - network].load(Ordering::Acquire) + lead(index) {
                         thread::yield_now();
                     }
                     if port(network as u8, index) {
-                        up[index].fetch_add(1, Ordering::Relaxed);
+                        up.fetch_add(1, Ordering::Relaxed);
                         first[network].fetch_add(1, Ordering::Relaxed);
                     }
                     sent[network].store(index + 1, Ordering::Release);

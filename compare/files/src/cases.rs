@@ -4,6 +4,7 @@ use std::fs;
 use std::path::{Path, PathBuf};
 
 use event_text::encode;
+use second::event_file::VERSION;
 use second::generate;
 
 use crate::directed;
@@ -63,11 +64,11 @@ pub fn all(root: &Path) -> Result<Vec<Case>, String> {
                 file[..keep].to_vec(),
             ));
         }
-        for version in (0..=255).filter(|&version| version != file[0]) {
-            let mut file = file.clone();
-            file[0] = version;
-            cases.push(case(format!("{name}, version {version}"), file));
-        }
+    }
+    for version in (0..=255).filter(|&version| version != VERSION) {
+        let mut file = directed::small();
+        file[0] = version;
+        cases.push(case(format!("small file, version {version}"), file));
     }
     for (name, file) in directed::files() {
         cases.push(case(name.into(), file));

@@ -17,20 +17,35 @@ pub fn second_lines(file: &[u8]) -> Vec<u8> {
     lines
 }
 
-/// The first line in which the two differ, as a message.
-pub fn first_difference(left: (&str, &[u8]), right: (&str, &[u8])) -> Option<String> {
-    if left.1 == right.1 {
-        return None;
-    }
-    let mut lines = [left.1, right.1].map(|bytes| bytes.split_inclusive(|&byte| byte == b'\n'));
+/// The bodies of a file's whole records.
+pub fn records(file: &[u8]) -> impl Iterator<Item = &[u8]> {
+    let mut rest = file.get(1..).unwrap_or_default();
+    std::iter::from_fn(move || {
+        let (length, behind) = rest.split_at_checked(2)?;
+        let length = u16::from_be_bytes([length[0], length[1]]).into();
+        let (body, behind) = behind.split_at_checked(length)?;
+        rest = behind;
+        Some(body)
+    })
+}
+
+/// The first line in which two outputs differ, counted from 1, and what they
+/// say there.
+pub fn first_difference(a: (&str, &[u8]), b: (&str, &[u8])) -> Option<(usize, String)> {
+    let mut lines = [a.1, b.1].map(|bytes| bytes.split_inclusive(|&byte| byte == b'\n'));
     for number in 1.. {
-        let [a, b] = [lines[0].next(), lines[1].next()];
-        if a != b {
-            let [a, b] = [a, b].map(|line| match line {
-                Some(line) => format!("{:?}", String::from_utf8_lossy(line)),
-                None => "nothing".into(),
-            });
-            return Some(format!("line {number}: {} {a}, {} {b}", left.0, right.0));
+        match [lines[0].next(), lines[1].next()] {
+            [None, None] => break,
+            [x, y] if x == y => {}
+            differ => {
+                let [x, y] = differ.map(|line| match line {
+                    Some(line) => {
+                        format!("{:?}", String::from_utf8_lossy(&line[..line.len().min(80)]))
+                    }
+                    None => "nothing".into(),
+                });
+                return Some((number, format!("line {number}: {} {x}, {} {y}", a.0, b.0)));
+            }
         }
     }
     None

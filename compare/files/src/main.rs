@@ -9,7 +9,9 @@ use std::{env, fs};
 
 use compare_files::cases::{self, Case};
 use compare_files::tally::Tally;
-use compare_files::{first_difference, product, second_lines};
+use compare_files::{first_difference, product, records, second_lines};
+use event_text::decode;
+use second::generate::push_record;
 use second::wrong::{self, Seen, VARIANTS};
 
 /// Failures that are printed one by one.
@@ -38,36 +40,46 @@ fn compare() -> Result<String, String> {
     let cases = cases::all(Path::new("."))?;
     let answers = product::run_all(&words, &cases, room);
 
-    let mut tally = Tally::new();
-    let mut faults = Vec::new();
-    // Cases in which the product's lines are the right ones, with those lines.
+    let mut tally = Tally::default();
+    let mut bytes = 0;
+    // Each case with its lines, which both programs wrote.
     let mut equal = Vec::new();
+    let mut faults = Vec::new();
     for (case, answer) in cases.iter().zip(&answers) {
         match held_together(case, answer) {
             Ok(lines) => {
+                bytes += case.file.len();
                 tally.file(&case.file, &String::from_utf8_lossy(lines));
                 equal.push((case, lines));
             }
             Err(fault) => {
-                let kept = room.join(format!("failed-{}", faults.len() + 1));
-                if faults.len() < SHOWN && fs::write(&kept, &case.file).is_ok() {
-                    println!("{}: {fault} (the file: {})", case.name, kept.display());
+                faults.push(format!("{}: {fault}", case.name));
+                let kept = room.join(format!("failed-{}", faults.len()));
+                if faults.len() <= SHOWN && fs::write(&kept, &case.file).is_ok() {
+                    println!(
+                        "{} (the file: {})",
+                        faults[faults.len() - 1],
+                        kept.display()
+                    );
                 }
-                faults.push(fault);
             }
         }
     }
-    tally.print();
-    for fault in tally.faults() {
-        println!("{fault}");
-        faults.push(fault);
+    if let Some(first) = faults.first() {
+        let (some, of) = (faults.len(), cases.len());
+        return Err(format!("{some} of {of} files; the first is {first}"));
     }
+    tally.print();
+    faults.extend(tally.faults());
     let caught = try_wrong_variants(&equal, &mut faults);
-    if !faults.is_empty() {
-        return Err(format!("{} faults in {} files", faults.len(), cases.len()));
+    if let Some(first) = faults.first() {
+        for fault in &faults {
+            println!("{fault}");
+        }
+        return Err(format!("{} faults; the first is {first}", faults.len()));
     }
     Ok(format!(
-        "{} event files with {} records: product and second program write the same lines; {caught}",
+        "{} event files with {} records, {bytes} bytes: product and second program write the same lines; {caught}",
         cases.len(),
         tally.records
     ))
@@ -82,8 +94,21 @@ fn held_together<'a>(case: &Case, answer: &'a Result<Vec<u8>, String>) -> Result
     let differs = first_difference(("product", lines), ("second program", &second))
         .or_else(|| first_difference(("both", &second), ("stored", stored)));
     match differs {
-        Some(difference) => Err(difference),
+        Some((line, what)) => Err(format!("{what}{}", record(&case.file, line))),
         None => Ok(lines),
+    }
+}
+
+/// The record that belongs to a line, as text. The last line has none.
+fn record(file: &[u8], line: usize) -> String {
+    let text = decode(&records(file).nth(line - 1).map_or(vec![1], |body| {
+        let mut file = vec![1];
+        push_record(&mut file, body);
+        file
+    }));
+    match text.trim_end() {
+        "" => String::new(),
+        text => format!(", record: {text:.200}"),
     }
 }
 
@@ -116,9 +141,6 @@ fn try_wrong_variants(equal: &[(&Case, &[u8])], faults: &mut Vec<String>) -> Str
             (Seen::CallsOnly, true) => unseen += 1,
         }
         of += u32::from(variant.seen == Seen::Files);
-        if let Some(fault) = faults.last().filter(|fault| fault.starts_with(&name)) {
-            println!("{fault}");
-        }
     }
     format!("{caught} of {of} wrong variants caught ({unseen} more are for calls alone)")
 }

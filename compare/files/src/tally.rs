@@ -21,6 +21,8 @@ use second::event_file::{kind, SLOTS};
 use second::frame::{TAG_MARK, VLAN_MARK};
 use second::Stream;
 
+use crate::records;
+
 /// Fewer are too few.
 pub const LEAST: u64 = 100;
 
@@ -43,6 +45,7 @@ fn expected() -> Vec<String> {
     all.extend(["up", "dup", "rogue"].map(|verdict| format!("A {verdict} vector")));
     // The match rule has no rogue.
     all.extend(["up", "dup"].map(|verdict| format!("A {verdict} match")));
+    all.extend(["vector", "match"].map(|rule| format!("A up {rule}, through the wrap")));
     all.extend([2, 3, 4, 5, 6].map(|n| format!("A no {n}")));
     all.extend(["T 0 0", "T 1 0", "T 2.. 0", "bad"].map(String::from));
     all.extend(["version", "cut", "end"].map(String::from));
@@ -66,15 +69,17 @@ const INPUTS: [&str; 12] = [
     "R of 32768 or more",
 ];
 
-impl Tally {
-    pub fn new() -> Tally {
+impl Default for Tally {
+    fn default() -> Tally {
         Tally {
             seen: expected().into_iter().map(|shape| (shape, 0)).collect(),
             strange: Vec::new(),
             records: 0,
         }
     }
+}
 
+impl Tally {
     fn count(&mut self, shape: &str, line: &str) {
         match self.seen.get_mut(shape) {
             Some(count) => *count += 1,
@@ -84,9 +89,9 @@ impl Tally {
 
     /// Counts a file's lines, which stand beside its records.
     pub fn file(&mut self, file: &[u8], lines: &str) {
-        let mut rest = file.get(1..).unwrap_or_default();
-        // The rule in each slot.
-        let mut rules = [0; SLOTS];
+        let mut bodies = records(file);
+        // The rule in each slot, and the number that was last handed up.
+        let mut slots = [(0, 0); SLOTS];
         for line in lines.lines() {
             let words: Vec<&str> = line.split(' ').collect();
             if words.len() == 1 {
@@ -94,7 +99,8 @@ impl Tally {
                 continue;
             }
             self.records += 1;
-            let body = next_body(&mut rest);
+            // Every line with a number has its record.
+            let body = bodies.next().unwrap_or_default();
             self.input(body);
             let shape = match words[1..] {
                 [letter, "no", number] => format!("{letter} no {number}"),
@@ -102,14 +108,20 @@ impl Tally {
                     let rule = body[9];
                     self.count(&format!("O, rule {}", name(rule)), line);
                     self.count(&format!("input: L = {}", body[10]), line);
-                    if let Some(place) = slot.parse().ok().and_then(|at: usize| rules.get_mut(at)) {
-                        *place = rule;
-                    }
+                    slots[slot.parse::<usize>().unwrap_or(0) % SLOTS] = (rule, 0);
                     format!("O {slot}")
                 }
-                ["A", verdict, slot, _] => {
-                    let rule = slot.parse().ok().and_then(|at: usize| rules.get(at));
-                    format!("A {verdict} {}", name(*rule.unwrap_or(&0)))
+                ["A", verdict, slot, number] => {
+                    let (rule, last) = &mut slots[slot.parse::<usize>().unwrap_or(0) % SLOTS];
+                    let (rule, number) = (name(*rule), number.parse::<i32>().unwrap_or(0));
+                    if verdict == "up" {
+                        let d = number - std::mem::replace(last, number);
+                        let through_the_wrap = d.abs() > 65536 - 64;
+                        if through_the_wrap {
+                            self.count(&format!("A up {rule}, through the wrap"), line);
+                        }
+                    }
+                    format!("A {verdict} {rule}")
                 }
                 ["T", "0" | "1", _] => words[1..].join(" "),
                 ["T", _, damaged] => format!("T 2.. {damaged}"),
@@ -126,17 +138,17 @@ impl Tally {
                 self.count(&format!("input: {input}"), input);
             }
         };
-        has(body.is_empty(), INPUTS[0]);
-        has(body.len() >= 32768, INPUTS[1]);
-        if let [kind::OPEN, .., v0, v1, _, _, r0, _] = *body {
-            has([v0, v1] == [0x0F, 0xFF], INPUTS[10]);
-            has(r0 >= 128, INPUTS[11]);
+        has(body.is_empty(), "a body of length 0");
+        has(body.len() >= 32768, "a body of 32768 bytes or more");
+        if let [kind::OPEN, _, _, _, _, _, _, v0, v1, _, _, r0, _] = *body {
+            has([v0, v1] == [0x0F, 0xFF], "an open with VLAN 4095");
+            has(r0 >= 128, "R of 32768 or more");
         }
         let [kind::ARRIVAL, _, ref frame @ ..] = *body else {
             return;
         };
-        has(frame.len() == 2000, INPUTS[2]);
-        has(frame.len() == 2001, INPUTS[3]);
+        has(frame.len() == 2000, "a frame of 2000 bytes");
+        has(frame.len() == 2001, "a frame of 2001 bytes");
         let Some((mark, mut rest)) = frame.get(12..).and_then(|rest| rest.split_at_checked(2))
         else {
             return;
@@ -144,17 +156,17 @@ impl Tally {
         let mut mark = mark;
         if mark == VLAN_MARK && rest.len() >= 4 {
             let id = u16::from_be_bytes([rest[0], rest[1]]);
-            has(id % 4096 == 0, INPUTS[4]);
-            has(id % 4096 == 4095, INPUTS[5]);
-            has(id >= 4096, INPUTS[6]);
+            has(id % 4096 == 0, "a VLAN tag with id 0");
+            has(id % 4096 == 4095, "a VLAN tag with id 4095");
+            has(id >= 4096, "a VLAN tag with high bits");
             (mark, rest) = (&rest[2..4], &rest[4..]);
         }
         if mark == TAG_MARK && rest.len() >= 6 {
-            has(rest[..2] != [0, 0], INPUTS[7]);
-            has(rest[4..6] == TAG_MARK, INPUTS[8]);
+            has(rest[..2] != [0, 0], "reserved bytes not zero");
+            has(rest[4..6] == TAG_MARK, "F1C1 behind F1C1");
             has(
                 rest[4..6] == VLAN_MARK && frame[12..14] == TAG_MARK,
-                INPUTS[9],
+                "8100 behind F1C1",
             );
         }
     }
@@ -184,15 +196,4 @@ fn name(rule: u8) -> &'static str {
         Stream::MATCH => "match",
         _ => "none",
     }
-}
-
-/// The next record's body; empty if there is none, which only wrong lines need.
-fn next_body<'a>(rest: &mut &'a [u8]) -> &'a [u8] {
-    let Some((length, behind)) = rest.split_at_checked(2) else {
-        return &[];
-    };
-    let length = u16::from_be_bytes([length[0], length[1]]).into();
-    let (body, behind) = behind.split_at_checked(length).unwrap_or((behind, &[]));
-    *rest = behind;
-    body
 }

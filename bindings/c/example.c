@@ -1,0 +1,35 @@
+/* A controller's receiver in short: one stream, a command that comes on both networks, and a tick. docs/LINKING.md says how
+ * to build it. */
+#include "nippitsun.h"
+
+#include <stdio.h>
+
+static nippitsun_stream table[8]; /* all zero: eight free slots */
+static uint8_t out[NIPPITSUN_FRAME_MOST];
+
+static void receive(uint8_t network, const uint8_t *frame, size_t bytes) {
+    nippitsun_arrival_answer a = nippitsun_arrival(table, 8, network, frame, bytes, out, sizeof out);
+    if (a.refusal != NIPPITSUN_REFUSED_NOT)
+        printf("network %d: refused (%d)\n", network, a.refusal);
+    else if (a.verdict == NIPPITSUN_VERDICT_HANDED_UP)
+        printf("network %d: number %d handed up, %zu bytes\n", network, a.number, a.length); /* carry out the command in out[] */
+    else
+        printf("network %d: number %d is a %s\n", network, a.number, a.verdict == NIPPITSUN_VERDICT_DUPLICATE ? "duplicate" : "rogue");
+}
+
+int main(void) {
+    static const uint8_t destination[6] = {2, 0, 0, 0, 0, 1};
+    /* VLAN 0, the vector rule, a window of 4 numbers, reset after 3 ticks with nothing handed up. */
+    nippitsun_slot_answer opened = nippitsun_open(table, 8, destination, 0, NIPPITSUN_RULE_VECTOR, 4, 3);
+    if (opened.refusal) return 1;
+
+    static const uint8_t frame[] = {2, 0, 0, 0, 0, 1, 2, 0, 0, 0, 0, 2, 0xF1, 0xC1, 0, 0, 0, 7, 0x08, 0x00, 0xAB};
+    receive(0, frame, sizeof frame);
+    receive(1, frame, sizeof frame);
+    receive(1, frame, 19);
+
+    nippitsun_tick_answer t = nippitsun_tick(table, 8);
+    printf("tick: %d streams reset, %d records damaged\n", (int)t.resets, (int)t.damaged);
+    printf("handed up %d, duplicates %d\n", (int)table[opened.slot].counts.passed, (int)table[opened.slot].counts.discarded);
+    return 0;
+}

@@ -1,0 +1,754 @@
+//! Random calls on random tables, given to the product and to the second program. After every call the answer, the whole
+//! table and the whole output must be equal, and a refused call must have changed nothing.
+//!
+//!     calls                    the comparison, 4,000,000 calls
+//!     calls SEED COUNT         the same from another seed, or with fewer or more calls
+//!     calls wrong              each wrong variant of the second program that shows in calls alone must be found
+//!     calls cases COUNT        writes so many calls for tools/replay.c, with what they answer and leave
+//!
+//! The inputs are only worth something if they reach everything, so the run counts what came up, and fails where something
+//! came up fewer than 100 times.
+
+#![forbid(unsafe_code)]
+
+use compare::cases::{self, Areas};
+use compare::{Answer, Call, Product, Second, Settings, Side};
+use nippitsun::{Counts, State, Stream};
+use second::random::Random;
+use second::wrong::{self, Seen as Shows, VARIANTS};
+use std::io::Write;
+use std::process::ExitCode;
+
+const SEED: u64 = 1;
+const COUNT: u64 = 4_000_000;
+/// Calls on one table.
+const LIFE: u64 = 200;
+/// Everything that is counted must come up so often.
+const LEAST: u64 = 100;
+/// A wrong variant must be found within so many calls.
+const PATIENCE: u64 = 200_000;
+
+/// The windows for which every difference is counted.
+const WINDOWS: [u16; 3] = [2, 4, 64];
+
+// ---- what is given
+
+/// Few destinations and ids, so that keys meet.
+fn key(random: &mut Random) -> ([u8; 6], u16) {
+    let vlan = match random.below(16) {
+        0..=8 => 0,
+        9 => 4094,
+        10 => 4095,
+        _ => random.below(4) as u16,
+    };
+    ([2, 0, 0, 0, 0, random.below(12) as u8], vlan)
+}
+
+fn counter(random: &mut Random) -> u64 {
+    match random.below(4) {
+        0 => u64::MAX,
+        1 => u64::MAX - random.below(8),
+        2 => random.below(4),
+        _ => random.bits(),
+    }
+}
+
+fn counts(random: &mut Random) -> Counts {
+    Counts {
+        arrivals0: counter(random),
+        arrivals1: counter(random),
+        passed: counter(random),
+        discarded: counter(random),
+        rogue: counter(random),
+        disorder: counter(random),
+        lost: counter(random),
+        resets: counter(random),
+    }
+}
+
+fn window(random: &mut Random) -> u16 {
+    match random.below(8) {
+        0 | 1 => 2,
+        2 | 3 => 4,
+        4 | 5 => 64,
+        _ => 2 + random.below(63) as u16,
+    }
+}
+
+fn time(random: &mut Random) -> u16 {
+    match random.below(4) {
+        0 => 1,
+        1 => 2 + random.below(3) as u16,
+        2 => 65535,
+        _ => 1 + random.below(65535) as u16,
+    }
+}
+
+/// A lawful record in use.
+fn lawful(random: &mut Random) -> Stream {
+    let (destination, vlan) = key(random);
+    let rule = 1 + random.below(2) as u8;
+    let (window, time) = (window(random), time(random));
+    let state = if random.chance(1, 6) {
+        State {
+            history: 0,
+            anchor: 65535,
+            remaining: 0,
+            any: 1 + random.below(2) as u8 * 254,
+        }
+    } else {
+        let bits = random.bits()
+            & if random.chance(1, 2) {
+                random.bits()
+            } else {
+                u64::MAX
+            };
+        State {
+            history: if rule == Stream::VECTOR_RULE {
+                bits >> (64 - window) | 1
+            } else {
+                0
+            },
+            anchor: if random.chance(1, 3) {
+                random.pick(&[0, 1, 65535, 32768, 65534])
+            } else {
+                random.word()
+            },
+            remaining: if random.chance(1, 3) {
+                1
+            } else {
+                1 + random.below(time.into()) as u16
+            },
+            any: 0,
+        }
+    };
+    Stream {
+        dest: nippitsun::dest_of(destination),
+        vlan: vlan.min(Stream::VLAN_MOST),
+        window,
+        time,
+        rule,
+        used: if random.chance(1, 4) {
+            1 + random.below(255) as u8
+        } else {
+            1
+        },
+        state,
+        counts: counts(random),
+    }
+}
+
+/// A record with one fault, or with anything in it.
+fn damaged(random: &mut Random) -> Stream {
+    let mut s = lawful(random);
+    match random.below(14) {
+        0 => s.rule = random.pick(&[0, 3, 255]),
+        1 => s.window = random.pick(&[0, 1, 65, 255, 256, 260, 65535]),
+        2 => s.time = 0,
+        3 => s.vlan = random.pick(&[4095, 4096, 65535]),
+        4 => s.state.remaining = s.time.wrapping_add(1),
+        5 => s.state.remaining = 0,
+        6 => s.state.any = 1 - s.state.any.min(1),
+        7 => {
+            s.state = State {
+                history: 0,
+                anchor: random.word(),
+                remaining: 0,
+                any: 1,
+            }
+        }
+        8 => {
+            s.state = State {
+                history: random.bits(),
+                anchor: 65535,
+                remaining: 0,
+                any: 1,
+            }
+        }
+        9 => s.state.history &= !1,
+        10 => s.state.history |= 1u64.checked_shl(s.window.into()).unwrap_or(0),
+        11 => s.state.history = random.bits(),
+        12 => s.dest |= random.bits() << 48,
+        _ => {
+            s.state = State {
+                history: random.bits(),
+                anchor: random.word(),
+                remaining: random.word(),
+                any: random.byte(),
+            };
+            s.window = random.word();
+            s.time = random.word();
+            s.rule = random.byte();
+            s.vlan = random.word();
+        }
+    }
+    s
+}
+
+fn record(random: &mut Random) -> Stream {
+    let s = if random.chance(1, 4) {
+        damaged(random)
+    } else {
+        lawful(random)
+    };
+    let used = if random.chance(1, 6) { 0 } else { s.used };
+    Stream { used, ..s }
+}
+
+fn table(random: &mut Random) -> Vec<Stream> {
+    let slots = match random.below(16) {
+        0 => 0,
+        1 => 65,
+        2 => 64,
+        3..=10 => 1 + random.below(6),
+        _ => random.below(66),
+    };
+    (0..slots).map(|_| record(random)).collect()
+}
+
+/// A difference, most often one near the window's ends, which are counted.
+fn difference(random: &mut Random, window: u16) -> i64 {
+    let window = i64::from(window.min(64));
+    match random.below(16) {
+        0 => random.between(-32768, 32767),
+        1 => -32768,
+        2 | 3 => 1,
+        4 => 0,
+        5 => random.between(-3, 3),
+        _ => random.between(-window - 1, window + 1),
+    }
+}
+
+/// Writes a frame and gives its length. Most often it is one that a slot of the table takes.
+fn frame(random: &mut Random, pool: &[u8], table: &[Stream], f: &mut [u8; 2100]) -> usize {
+    let length = match random.below(32) {
+        0 | 1 => random.below(26),
+        2 => random.pick(&[1993, 1994, 1995, 1999, 2000, 2001, 2002]),
+        _ => 20 + random.below(28),
+    } as usize;
+    let from = random.below((pool.len() - length) as u64) as usize;
+    f[..length].copy_from_slice(&pool[from..from + length]);
+    let (mut destination, mut vlan) = key(random);
+    let mut number = random.word();
+    if !table.is_empty() && !random.chance(1, 16) {
+        let s = table[random.below(table.len() as u64) as usize];
+        let [_, _, six @ ..] = s.dest.to_be_bytes();
+        destination = six;
+        vlan = s.vlan;
+        number = s
+            .state
+            .anchor
+            .wrapping_add(difference(random, s.window) as u16);
+    }
+    // Whole heads are written where there may be no room for them: f is long enough, and `length` cuts them.
+    f[..6].copy_from_slice(&destination);
+    let mut at = 12;
+    if vlan != 0 || random.chance(1, 6) {
+        f[12..14].copy_from_slice(&[0x81, 0x00]);
+        f[14..16].copy_from_slice(&(vlan & 0x0FFF | random.word() & 0xF000).to_be_bytes());
+        at = 16;
+    }
+    if !random.chance(1, 16) {
+        f[at..at + 2].copy_from_slice(&[0xF1, 0xC1]);
+    }
+    if random.chance(1, 2) {
+        f[at + 2..at + 4].copy_from_slice(&[0, 0]);
+    }
+    f[at + 4..at + 6].copy_from_slice(&number.to_be_bytes());
+    match random.below(12) {
+        0 => f[at + 6..at + 10].copy_from_slice(&[0x81, 0x00, 0x00, 0x05]),
+        1 => f[at + 6..at + 8].copy_from_slice(&[0xF1, 0xC1]),
+        _ => {}
+    }
+    length
+}
+
+fn settings(random: &mut Random) -> Settings {
+    let (destination, vlan) = key(random);
+    let mut s = Settings {
+        destination,
+        vlan: vlan.min(Stream::VLAN_MOST),
+        rule: 1 + random.below(2) as u8,
+        window: window(random),
+        time: time(random),
+    };
+    match random.below(16) {
+        0 => s.vlan = random.pick(&[4095, 4096, 65535]),
+        1 => s.rule = random.pick(&[0, 3, 255]),
+        2 => s.window = random.pick(&[0, 1, 65, 255, 256, 260, 65535]),
+        3 => s.time = 0,
+        _ => {}
+    }
+    s
+}
+
+fn slot(random: &mut Random, table: &[Stream]) -> usize {
+    match random.below(16) {
+        0 => table.len(),
+        1 => random.bits() as usize,
+        _ => random.below(table.len().max(1) as u64) as usize,
+    }
+}
+
+/// A call, and how many bytes its output should have: a few more than are needed, just so many, or one fewer.
+fn call<'a>(
+    random: &mut Random,
+    pool: &[u8],
+    table: &[Stream],
+    f: &'a mut [u8; 2100],
+) -> (Call<'a>, usize) {
+    let kind = random.below(32);
+    match kind {
+        19..=22 => return (Call::Open(settings(random)), 0),
+        23 => return (Call::Close(slot(random, table)), 0),
+        24 | 25 => return (Call::Reset(slot(random, table)), 0),
+        26 | 27 => return (Call::Tick, 0),
+        _ => {}
+    }
+    let length = frame(random, pool, table, f);
+    let write = kind >= 30;
+    if write && random.chance(1, 2) {
+        // Without a tag, so that one can be put in.
+        let at = if f[12..14] == [0x81, 0x00] { 16 } else { 12 };
+        f[at..at + 2].copy_from_slice(&[0x08, 0x00]);
+    }
+    let frame = &f[..length];
+    let (call, needed) = if write {
+        let number = random.word();
+        (Call::WriteTag { frame, number }, length + 6)
+    } else if kind >= 28 {
+        (Call::TakeTag { frame }, length.saturating_sub(6))
+    } else {
+        let network = if random.chance(1, 24) {
+            random.pick(&[2, 3, 255])
+        } else {
+            random.below(2) as u8
+        };
+        (Call::Arrival { network, frame }, length.saturating_sub(6))
+    };
+    let room = match random.below(16) {
+        0 => needed.saturating_sub(1),
+        1 => 0,
+        2 => needed,
+        _ => needed + random.below(12) as usize,
+    };
+    (call, room)
+}
+
+// ---- what came up
+
+const CALLS: [&str; 7] = [
+    "arrival",
+    "open",
+    "close",
+    "reset",
+    "tick",
+    "take a tag out",
+    "write a tag",
+];
+/// The refusals that each call can give.
+const REFUSALS: [&[u8]; 7] = [
+    &[1, 2, 3, 4, 5, 6, 7, 8],
+    &[1, 9, 10, 11],
+    &[1, 12],
+    &[1, 12, 7],
+    &[1],
+    &[3, 4, 5, 8],
+    &[3, 4, 13, 8],
+];
+const COUNTERS: [&str; 8] = [
+    "arrivals on network 0",
+    "arrivals on network 1",
+    "passed",
+    "discarded",
+    "rogue",
+    "out of order",
+    "lost",
+    "resets",
+];
+
+/// How often each thing came up.
+struct Seen {
+    calls: [u64; 7],
+    refused: [[u64; 14]; 7],
+    /// By rule, then handed up, duplicate, rogue.
+    verdicts: [[u64; 3]; 2],
+    /// By window, then d + 65, in vector streams without take-any.
+    differences: [[u64; 131]; 3],
+    take_any: u64,
+    reserved: u64,
+    wrapped: [u64; 8],
+    shared_key: u64,
+    shared_key_damaged: u64,
+    ticked_reset: u64,
+    ticked_damaged: u64,
+    mended: u64,
+    slots: [u64; 66],
+}
+
+fn place(call: &Call) -> usize {
+    match call {
+        Call::Arrival { .. } => 0,
+        Call::Open(_) => 1,
+        Call::Close(_) => 2,
+        Call::Reset(_) => 3,
+        Call::Tick => 4,
+        Call::TakeTag { .. } => 5,
+        Call::WriteTag { .. } => 6,
+    }
+}
+
+fn numbers(c: &Counts) -> [u64; 8] {
+    [
+        c.arrivals0,
+        c.arrivals1,
+        c.passed,
+        c.discarded,
+        c.rogue,
+        c.disorder,
+        c.lost,
+        c.resets,
+    ]
+}
+
+impl Seen {
+    fn new() -> Seen {
+        Seen {
+            calls: [0; 7],
+            refused: [[0; 14]; 7],
+            verdicts: [[0; 3]; 2],
+            differences: [[0; 131]; 3],
+            take_any: 0,
+            reserved: 0,
+            wrapped: [0; 8],
+            shared_key: 0,
+            shared_key_damaged: 0,
+            ticked_reset: 0,
+            ticked_damaged: 0,
+            mended: 0,
+            slots: [0; 66],
+        }
+    }
+
+    fn note(&mut self, call: &Call, answer: Answer, before: &[Stream], after: &[Stream]) {
+        let kind = place(call);
+        self.calls[kind] += 1;
+        self.slots[before.len()] += 1;
+        match answer {
+            Answer::Refused(n) => {
+                self.refused[kind][usize::from(n)] += 1;
+                if let (Call::Arrival { frame, .. }, 7) = (call, n) {
+                    let vlan = if frame[12..14] == [0x81, 0x00] {
+                        u16::from_be_bytes([frame[14], frame[15]]) & 0x0FFF
+                    } else {
+                        0
+                    };
+                    let dest = nippitsun::dest_of([
+                        frame[0], frame[1], frame[2], frame[3], frame[4], frame[5],
+                    ]);
+                    self.shared_key_damaged += u64::from(with_key(before, dest, vlan) > 1);
+                }
+            }
+            Answer::HandedUp { slot, number, .. } => {
+                self.arrived(call, 0, number, &before[slot], before)
+            }
+            Answer::Duplicate { slot, number } => {
+                self.arrived(call, 1, number, &before[slot], before)
+            }
+            Answer::Rogue { slot, number } => self.arrived(call, 2, number, &before[slot], before),
+            Answer::Ticked { resets, damaged } => {
+                self.ticked_reset += u64::from(resets > 0);
+                self.ticked_damaged += u64::from(damaged > 0);
+            }
+            Answer::Done => {
+                if let Call::Reset(slot) = *call {
+                    // Damaged for certain: with take-any nothing remains.
+                    let s = before[slot].state;
+                    self.mended += u64::from(s.any != 0 && s.remaining != 0);
+                }
+            }
+            Answer::Opened(_) | Answer::Tag { .. } => {}
+        }
+        // A counter that falls has wrapped, but where an open wrote zeros.
+        if !matches!(call, Call::Open(_)) {
+            for (b, a) in before.iter().zip(after) {
+                if b.counts != a.counts {
+                    for (n, (b, a)) in numbers(&b.counts)
+                        .iter()
+                        .zip(numbers(&a.counts))
+                        .enumerate()
+                    {
+                        self.wrapped[n] += u64::from(a < *b);
+                    }
+                }
+            }
+        }
+    }
+
+    fn arrived(&mut self, call: &Call, verdict: usize, number: u16, s: &Stream, table: &[Stream]) {
+        self.verdicts[usize::from(s.rule) - 1][verdict] += 1;
+        self.shared_key += u64::from(with_key(table, s.dest, s.vlan) > 1);
+        if let Call::Arrival { frame, .. } = call {
+            let at = if frame[12..14] == [0x81, 0x00] {
+                16
+            } else {
+                12
+            };
+            self.reserved += u64::from(frame[at + 2..at + 4] != [0, 0]);
+        }
+        if s.state.any != 0 {
+            self.take_any += 1;
+        } else if s.rule == Stream::VECTOR_RULE {
+            let d = i32::from(number.wrapping_sub(s.state.anchor) as i16);
+            if let Some(w) = WINDOWS.iter().position(|&w| w == s.window) {
+                if let Some(n) = self.differences[w].get_mut((d + 65) as usize) {
+                    *n += 1;
+                }
+            }
+        }
+    }
+
+    /// Everything that must come up, with how often it did.
+    fn list(&self) -> Vec<(String, u64)> {
+        let mut list = Vec::new();
+        for (kind, name) in CALLS.iter().enumerate() {
+            for &n in REFUSALS[kind] {
+                list.push((
+                    format!("{} refused with {}", name, n),
+                    self.refused[kind][usize::from(n)],
+                ));
+            }
+        }
+        let verdicts = ["handed up", "duplicate", "rogue"];
+        for (rule, name) in ["vector", "match"].iter().enumerate() {
+            for (v, verdict) in verdicts.iter().enumerate() {
+                // The match rule has no rogue.
+                if (rule, v) != (1, 2) {
+                    list.push((
+                        format!("{} under the {} rule", verdict, name),
+                        self.verdicts[rule][v],
+                    ));
+                }
+            }
+        }
+        for (w, &window) in WINDOWS.iter().enumerate() {
+            let ends = i32::from(window) + 1;
+            for d in -ends..=ends {
+                list.push((
+                    format!("d = {} at L = {}", d, window),
+                    self.differences[w][(d + 65) as usize],
+                ));
+            }
+        }
+        for (n, name) in COUNTERS.iter().enumerate() {
+            list.push((format!("{} wraps", name), self.wrapped[n]));
+        }
+        for slots in [0, 1, 63, 64, 65] {
+            list.push((format!("calls on {} slots", slots), self.slots[slots]));
+        }
+        list.push((String::from("take-any handed up"), self.take_any));
+        list.push((
+            String::from("nonzero reserved bytes in an arrival with a verdict"),
+            self.reserved,
+        ));
+        list.push((
+            String::from("a verdict where two slots have the key"),
+            self.shared_key,
+        ));
+        list.push((
+            String::from("the lower of two slots with the key is damaged"),
+            self.shared_key_damaged,
+        ));
+        list.push((String::from("a tick that resets"), self.ticked_reset));
+        list.push((
+            String::from("a tick that meets damage"),
+            self.ticked_damaged,
+        ));
+        list.push((String::from("a reset that mends"), self.mended));
+        list
+    }
+}
+
+/// Slots in use with this key.
+fn with_key(table: &[Stream], dest: u64, vlan: u16) -> usize {
+    table
+        .iter()
+        .filter(|s| s.is_used() && s.dest == dest && s.vlan == vlan)
+        .count()
+}
+
+// ---- the run
+
+/// Runs so many calls on both sides. `kept` takes each of them, for another program.
+fn run(seed: u64, count: u64, mut kept: Option<&mut Vec<u8>>) -> Result<Seen, String> {
+    let mut random = Random::new(seed);
+    let mut pool = vec![0; 8192];
+    random.fill(&mut pool);
+    let mut seen = Seen::new();
+    let (mut product, mut second) = (Product::new(&[]), Second::new(&[]));
+    let mut before = Vec::new();
+    let mut f = [0; 2100];
+    for case in 0..count {
+        if case % LIFE == 0 {
+            before = table(&mut random);
+            product = Product::new(&before);
+            second = Second::new(&before);
+        }
+        // Now and then the table's owner writes to a slot.
+        if !before.is_empty() && random.chance(1, 4) {
+            let (slot, s) = (
+                random.below(before.len() as u64) as usize,
+                record(&mut random),
+            );
+            product.set(slot, s);
+            second.set(slot, s);
+            before[slot] = s;
+        }
+        let (call, room) = call(&mut random, &pool, &before, &mut f);
+        let from = random.below((pool.len() - room) as u64) as usize;
+        let start = &pool[from..from + room];
+        let (mut a, mut b) = (start.to_vec(), start.to_vec());
+        let (x, y) = (product.call(call, &mut a), second.call(call, &mut b));
+        let after: Vec<Stream> = (0..before.len()).map(|slot| product.record(slot)).collect();
+        let wrong = if x != y {
+            Some(String::from("the answers"))
+        } else if let Some(slot) = (0..after.len()).find(|&slot| after[slot] != second.record(slot))
+        {
+            Some(format!(
+                "slot {}: product {:?}\nsecond {:?}\nbefore {:?}",
+                slot,
+                after[slot],
+                second.record(slot),
+                before[slot]
+            ))
+        } else if a != b {
+            Some(format!(
+                "the outputs: product {:x?}\nsecond {:x?}\nbefore {:x?}",
+                a, b, start
+            ))
+        } else if matches!(x, Answer::Refused(_)) && (after != before || a != start) {
+            Some(String::from("a refused call changed something"))
+        } else {
+            None
+        };
+        if let Some(wrong) = wrong {
+            return Err(format!(
+                "DIFFERENT at seed {}, call {} (table of {} slots, output of {} bytes)\n{:x?}\nproduct {:?}, second {:?}\n{}",
+                seed,
+                case,
+                before.len(),
+                room,
+                call,
+                x,
+                y,
+                wrong
+            ));
+        }
+        seen.note(&call, x, &before, &after);
+        if let Some(kept) = kept.as_deref_mut() {
+            cases::add(
+                kept,
+                call,
+                Areas {
+                    table: &before,
+                    out: start,
+                },
+                x,
+                Areas {
+                    table: &after,
+                    out: &a,
+                },
+            );
+        }
+        before = after;
+    }
+    Ok(seen)
+}
+
+fn compare(seed: u64, count: u64) -> Result<(), String> {
+    let seen = run(seed, count, None)?;
+    let list = seen.list();
+    for (call, n) in CALLS.iter().zip(seen.calls) {
+        println!("{}: {} calls", call, n);
+    }
+    let rare: Vec<_> = list.iter().filter(|(_, n)| *n < LEAST).collect();
+    for (what, n) in &rare {
+        println!("came up only {} times: {}", n, what);
+    }
+    if !rare.is_empty() {
+        return Err(format!(
+            "the inputs of seed {} show too little: everything must come up {} times",
+            seed, LEAST
+        ));
+    }
+    let (what, n) = list.iter().min_by_key(|(_, n)| *n).unwrap();
+    println!(
+        "rarest of the {} things that must come up: {}, {} times",
+        list.len(),
+        what,
+        n
+    );
+    println!(
+        "{} random calls: answers, tables and outputs of product and second program equal",
+        count
+    );
+    Ok(())
+}
+
+/// The second program with each slip in turn. Those that show in calls alone must be found here.
+fn find_wrong() -> Result<(), String> {
+    let (mut found, mut others, mut missed) = (0, 0, Vec::new());
+    for v in VARIANTS {
+        wrong::set(Some(v.wrong));
+        let different = run(SEED, PATIENCE, None).is_err();
+        wrong::set(None);
+        match v.seen {
+            Shows::CallsOnly if different => found += 1,
+            Shows::CallsOnly => missed.push(v.what),
+            _ => others += u64::from(different),
+        }
+    }
+    println!(
+        "{} more wrong variants, which event files show too, were found as well",
+        others
+    );
+    if !missed.is_empty() || found == 0 {
+        return Err(format!("not found: {:?}", missed));
+    }
+    println!(
+        "{} wrong variants that show in calls alone: all found",
+        found
+    );
+    Ok(())
+}
+
+fn main() -> ExitCode {
+    let words: Vec<String> = std::env::args().skip(1).collect();
+    let words: Vec<&str> = words.iter().map(String::as_str).collect();
+    let number = |word: &str| {
+        word.parse::<u64>()
+            .map_err(|_| format!("{} is no number", word))
+    };
+    let done = match words[..] {
+        [] => compare(SEED, COUNT),
+        ["wrong"] => find_wrong(),
+        ["cases", count] => number(count).and_then(|count| {
+            let mut kept = Vec::new();
+            run(SEED, count, Some(&mut kept))?;
+            std::io::stdout()
+                .write_all(&kept)
+                .map_err(|e| e.to_string())
+        }),
+        [seed, count] => number(seed).and_then(|seed| compare(seed, number(count)?)),
+        _ => Err(String::from(
+            "usage: calls [SEED COUNT | wrong | cases COUNT]",
+        )),
+    };
+    match done {
+        Ok(()) => ExitCode::SUCCESS,
+        Err(why) => {
+            eprintln!("calls: {}", why);
+            ExitCode::FAILURE
+        }
+    }
+}

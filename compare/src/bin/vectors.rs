@@ -1,0 +1,950 @@
+//! A fixed list of calls that are run and not proved, with what each answers and changes: document 01, "Run but not proved",
+//! and the places where a slip is likely.
+//!
+//!     vectors product    the list on the compiled product
+//!     vectors second     the list on the second program
+//!     vectors cases      writes the list for tools/replay.c, with what the second program answers and leaves
+//!
+//! Both must write compare/vectors.out, byte for byte (compare/run). A line has the call, its answer, and all that changed.
+
+#![forbid(unsafe_code)]
+
+use compare::cases::{self, Areas};
+use compare::{Answer, Call, Product, Second, Settings, Side};
+use nippitsun::{dest_of, Counts, State, Stream};
+use std::fmt::Write as _;
+use std::io::{self, Write as _};
+use std::process::ExitCode;
+
+const DESTINATION: [u8; 6] = [2, 0, 0, 0, 0, 1];
+const SOURCE: [u8; 6] = [2, 0, 0, 0, 0, 2];
+
+/// What the output holds before each call. No frame of the list has this byte, so what is written can be seen.
+const BLANK: u8 = 0xEE;
+
+// ---- frames
+
+/// The tags of a frame, in front of its former type 0800.
+#[derive(Clone, Copy)]
+struct Tags {
+    /// 8100 and these two bytes.
+    vlan: Option<u16>,
+    /// F1C1, two reserved bytes, and the number.
+    redundancy: Option<(u16, u16)>,
+}
+
+const PLAIN: Tags = Tags {
+    vlan: None,
+    redundancy: None,
+};
+
+fn tagged(number: u16) -> Tags {
+    Tags {
+        redundancy: Some((0, number)),
+        ..PLAIN
+    }
+}
+
+/// A frame with this head, cut or filled up to the length.
+fn frame(length: usize, tags: Tags) -> Vec<u8> {
+    let mut f = [DESTINATION, SOURCE].concat();
+    if let Some(vlan) = tags.vlan {
+        f.extend_from_slice(&[0x81, 0x00]);
+        f.extend_from_slice(&vlan.to_be_bytes());
+    }
+    if let Some((reserved, number)) = tags.redundancy {
+        f.extend_from_slice(&[0xF1, 0xC1]);
+        f.extend_from_slice(&reserved.to_be_bytes());
+        f.extend_from_slice(&number.to_be_bytes());
+    }
+    f.extend_from_slice(&[0x08, 0x00]);
+    filled(f, length)
+}
+
+fn filled(mut head: Vec<u8>, length: usize) -> Vec<u8> {
+    head.truncate(length);
+    while head.len() < length {
+        head.push((head.len() % 200) as u8);
+    }
+    head
+}
+
+// ---- records
+
+/// A fresh vector stream with L = 4 and R = 3.
+fn fresh() -> Stream {
+    Stream {
+        dest: dest_of(DESTINATION),
+        window: 4,
+        time: 3,
+        rule: Stream::VECTOR_RULE,
+        used: 1,
+        state: State {
+            history: 0,
+            anchor: 65535,
+            remaining: 0,
+            any: 1,
+        },
+        ..Stream::default()
+    }
+}
+
+/// The same stream where the numbers 98 and 100 came, and one tick since.
+fn running() -> Stream {
+    Stream {
+        state: State {
+            history: 0b101,
+            anchor: 100,
+            remaining: 2,
+            any: 0,
+        },
+        ..fresh()
+    }
+}
+
+fn settings(rule: u8, window: u16, time: u16) -> Settings {
+    Settings {
+        destination: DESTINATION,
+        vlan: 0,
+        rule,
+        window,
+        time,
+    }
+}
+
+fn fields(s: &Stream) -> [(&'static str, u64); 18] {
+    let (state, counts) = (&s.state, &s.counts);
+    [
+        ("in use", s.used.into()),
+        ("destination", s.dest),
+        ("VLAN", s.vlan.into()),
+        ("rule", s.rule.into()),
+        ("L", s.window.into()),
+        ("R", s.time.into()),
+        ("anchor", state.anchor.into()),
+        ("history", state.history),
+        ("take-any", state.any.into()),
+        ("remaining", state.remaining.into()),
+        ("arrivals 0", counts.arrivals0),
+        ("arrivals 1", counts.arrivals1),
+        ("passed", counts.passed),
+        ("discarded", counts.discarded),
+        ("rogue", counts.rogue),
+        ("out of order", counts.disorder),
+        ("lost", counts.lost),
+        ("resets", counts.resets),
+    ]
+}
+
+// ---- lines
+
+fn shown(name: &str, value: u64) -> String {
+    match name {
+        "destination" => format!("{:012x}", value),
+        "history" if value < 16 => format!("{:04b}", value),
+        "history" => format!("{:#x}", value),
+        _ => value.to_string(),
+    }
+}
+
+fn told(answer: Answer) -> String {
+    match answer {
+        Answer::Refused(n) => format!("no {}", n),
+        Answer::HandedUp {
+            slot,
+            number,
+            length,
+        } => format!("up, slot {}, number {}, length {}", slot, number, length),
+        Answer::Duplicate { slot, number } => {
+            format!("duplicate, slot {}, number {}", slot, number)
+        }
+        Answer::Rogue { slot, number } => format!("rogue, slot {}, number {}", slot, number),
+        Answer::Opened(slot) => format!("slot {}", slot),
+        Answer::Done => String::from("ok"),
+        Answer::Ticked { resets, damaged } => format!("{} reset, {} damaged", resets, damaged),
+        Answer::Tag { number, length } => format!("number {}, length {}", number, length),
+    }
+}
+
+/// The bytes that were written: all of them if they are few, else the ends and a sum that changes with each byte and place.
+fn written(bytes: &[u8]) -> String {
+    let hex = |bytes: &[u8]| {
+        bytes
+            .iter()
+            .map(|b| format!("{:02x}", b))
+            .collect::<String>()
+    };
+    if bytes.len() <= 32 {
+        return hex(bytes);
+    }
+    let sum = bytes.iter().fold(0u32, |sum, &b| {
+        sum.wrapping_mul(31).wrapping_add(u32::from(b))
+    });
+    format!(
+        "{}..{} (sum {:08x})",
+        hex(&bytes[..24]),
+        hex(&bytes[bytes.len() - 2..]),
+        sum
+    )
+}
+
+struct List<S> {
+    side: S,
+    slots: usize,
+    lines: String,
+    cases: Vec<u8>,
+}
+
+impl<S: Side> List<S> {
+    fn section(&mut self, title: &str) {
+        writeln!(self.lines, "\n# {}", title).unwrap();
+    }
+
+    fn table(&mut self, records: &[Stream]) {
+        self.side = S::new(records);
+        self.slots = records.len();
+    }
+
+    fn records(&self) -> Vec<Stream> {
+        (0..self.slots).map(|slot| self.side.record(slot)).collect()
+    }
+
+    /// A table with one slot.
+    fn one(&mut self, record: Stream) {
+        self.table(&[record]);
+    }
+
+    /// Makes the call with an output of so many bytes, and writes its line.
+    fn call(&mut self, what: &str, call: Call, room: usize) {
+        let before = self.records();
+        let blank = vec![BLANK; room];
+        let mut out = blank.clone();
+        let answer = self.side.call(call, &mut out);
+        let after = self.records();
+        let given = Areas {
+            table: &before,
+            out: &blank,
+        };
+        let left = Areas {
+            table: &after,
+            out: &out,
+        };
+        cases::add(&mut self.cases, call, given, answer, left);
+        let mut changes = Vec::new();
+        for (slot, (b, a)) in before.iter().zip(&after).enumerate() {
+            let changed: Vec<String> = fields(b)
+                .iter()
+                .zip(fields(a))
+                .filter(|((_, b), (_, a))| b != a)
+                .map(|((name, b), (_, a))| {
+                    format!("{} {}>{}", name, shown(name, *b), shown(name, a))
+                })
+                .collect();
+            if !changed.is_empty() {
+                changes.push(format!("slot {}: {}", slot, changed.join(", ")));
+            }
+        }
+        if let Some(first) = out.iter().position(|&b| b != BLANK) {
+            let end = out.iter().rposition(|&b| b != BLANK).unwrap() + 1;
+            changes.push(format!(
+                "output {}..{}: {}",
+                first,
+                end,
+                written(&out[first..end])
+            ));
+        }
+        let changes = if changes.is_empty() {
+            String::from("nothing changed")
+        } else {
+            changes.join("; ")
+        };
+        writeln!(self.lines, "{}: {}; {}", what, told(answer), changes).unwrap();
+    }
+
+    fn arrival(&mut self, what: &str, network: u8, frame: &[u8]) {
+        let what = format!("arrival, {}", what);
+        self.call(&what, Call::Arrival { network, frame }, Stream::FRAME_MOST);
+    }
+
+    /// The arrival of a number on a network.
+    fn number(&mut self, what: &str, network: u8, number: u16) {
+        let f = frame(20, tagged(number));
+        let what = format!("arrival of {} on {}, {}", number, network, what);
+        self.call(
+            &what,
+            Call::Arrival { network, frame: &f },
+            Stream::FRAME_MOST,
+        );
+    }
+
+    // ---- the list
+
+    fn frames(&mut self) {
+        self.section("Frames: each length with and without 8100 and F1C1, on fresh streams with VLAN 0 (slot 0) and VLAN 5 (slot 1)");
+        let number = Some((0, 7));
+        let kinds = [
+            ("plain", None, None),
+            ("8100", Some(5), None),
+            ("F1C1", None, number),
+            ("8100 F1C1", Some(5), number),
+        ];
+        for length in [0, 13, 14, 17, 18, 19, 20, 23, 24, 1994, 1995, 2000, 2001] {
+            for (kind, vlan, redundancy) in kinds {
+                // Where a mark does not fit, the frame is the same without it.
+                if (vlan.is_some() && length < 14)
+                    || (redundancy.is_some() && length < if vlan.is_some() { 18 } else { 14 })
+                {
+                    continue;
+                }
+                let f = frame(length, Tags { vlan, redundancy });
+                self.table(&[fresh(), Stream { vlan: 5, ..fresh() }]);
+                let what = format!("{} bytes, {}", length, kind);
+                self.arrival(&what, 0, &f);
+                let call = Call::TakeTag { frame: &f };
+                self.call(&format!("take a tag out, {}", what), call, 2000);
+                let call = Call::WriteTag {
+                    frame: &f,
+                    number: 258,
+                };
+                self.call(&format!("write a tag, {}", what), call, 2000);
+            }
+        }
+    }
+
+    fn other_frames(&mut self) {
+        self.section("Frames: where the marks stand, on fresh streams with VLAN 0, VLAN 5 and a damaged one with VLAN 4095");
+        let front = [DESTINATION, SOURCE].concat();
+        let cases: [(&str, &[u8]); 10] = [
+            (
+                "VLAN id 0 in a tag",
+                &[0x81, 0, 0, 0, 0xF1, 0xC1, 0, 0, 0, 7, 8, 0],
+            ),
+            (
+                "VLAN 5, priority and the bit below it set",
+                &[0x81, 0, 0xF0, 5, 0xF1, 0xC1, 0, 0, 0, 7, 8, 0],
+            ),
+            ("VLAN 6", &[0x81, 0, 0, 6, 0xF1, 0xC1, 0, 0, 0, 7, 8, 0]),
+            (
+                "VLAN 4095",
+                &[0x81, 0, 0x0F, 0xFF, 0xF1, 0xC1, 0, 0, 0, 7, 8, 0],
+            ),
+            (
+                "8100 twice, then F1C1",
+                &[0x81, 0, 0, 5, 0x81, 0, 0, 5, 0xF1, 0xC1, 0, 0, 0, 7, 8, 0],
+            ),
+            ("F1C1 at 14", &[0x08, 0, 0xF1, 0xC1, 0, 0, 0, 7, 8, 0]),
+            (
+                "F1C1 at 12, then 8100 and VLAN 5",
+                &[0xF1, 0xC1, 0, 0, 0, 7, 0x81, 0, 0, 5, 8, 0],
+            ),
+            (
+                "F1C1 at 12, then F1C1",
+                &[0xF1, 0xC1, 0, 0, 0, 7, 0xF1, 0xC1, 0, 0, 0, 8, 8, 0],
+            ),
+            (
+                "reserved bytes 8100",
+                &[0xF1, 0xC1, 0x81, 0, 0x01, 0x02, 8, 0],
+            ),
+            ("number 65535", &[0xF1, 0xC1, 0, 0, 0xFF, 0xFF, 8, 0]),
+        ];
+        for (what, rest) in cases {
+            let f = filled([&front[..], rest].concat(), 30);
+            self.table(&[
+                fresh(),
+                Stream { vlan: 5, ..fresh() },
+                Stream {
+                    vlan: 4095,
+                    ..fresh()
+                },
+            ]);
+            self.arrival(what, 1, &f);
+            self.call(
+                &format!("write a tag, {}", what),
+                Call::WriteTag {
+                    frame: &f,
+                    number: 258,
+                },
+                2000,
+            );
+        }
+        self.one(fresh());
+        for network in [0, 1, 2, 255] {
+            self.number("one number on each network", network, 9);
+        }
+        let mut stranger = frame(20, tagged(7));
+        stranger[5] = 9;
+        self.arrival("another destination", 0, &stranger);
+    }
+
+    fn tables(&mut self) {
+        let mut other = settings(1, 4, 3);
+        other.destination[5] = 9;
+        for slots in [0, 64, 65] {
+            let free = if slots > 0 {
+                ", all free but the last"
+            } else {
+                ""
+            };
+            self.section(&format!("A table of {} slots{}", slots, free));
+            let mut records = vec![Stream::default(); slots];
+            if let Some(last) = records.last_mut() {
+                *last = running();
+            }
+            self.table(&records);
+            self.number("outside the window", 0, 7);
+            self.number("next", 0, 101);
+            self.arrival("2001 bytes on network 2", 2, &frame(2001, PLAIN));
+            self.call("tick", Call::Tick, 0);
+            self.call("open the last one's key", Call::Open(settings(1, 4, 3)), 0);
+            self.call("open with rule 3", Call::Open(settings(3, 4, 3)), 0);
+            self.call("open another key", Call::Open(other), 0);
+            for slot in [63, 64, 65, usize::MAX] {
+                self.call(&format!("reset slot {}", slot), Call::Reset(slot), 0);
+                self.call(&format!("close slot {}", slot), Call::Close(slot), 0);
+            }
+        }
+        self.section("A full table of 64 slots");
+        let full: Vec<Stream> = (0..64)
+            .map(|i| Stream {
+                dest: dest_of([4, 0, 0, 0, 0, i]),
+                ..fresh()
+            })
+            .collect();
+        self.table(&full);
+        self.call("open", Call::Open(settings(1, 4, 3)), 0);
+        self.call("close slot 63", Call::Close(63), 0);
+        self.call("close slot 63", Call::Close(63), 0);
+        self.call("reset slot 63", Call::Reset(63), 0);
+        self.call("open", Call::Open(settings(2, 64, 65535)), 0);
+        self.call("open the same key", Call::Open(settings(2, 64, 65535)), 0);
+        self.call("tick", Call::Tick, 0);
+    }
+
+    fn windows(&mut self) {
+        for window in [1, 2, 64, 65] {
+            self.section(&format!("L = {}", window));
+            self.table(&[Stream::default()]);
+            self.call("open", Call::Open(settings(1, window, 3)), 0);
+            let lent = Stream {
+                window,
+                state: State {
+                    history: 1,
+                    ..running().state
+                },
+                ..running()
+            };
+            let ends = window as i32;
+            let mut differences = vec![
+                -ends - 1,
+                -ends,
+                1 - ends,
+                -1,
+                0,
+                1,
+                ends - 1,
+                ends,
+                ends + 1,
+            ];
+            differences.sort_unstable();
+            differences.dedup();
+            for d in differences {
+                self.one(lent);
+                self.number(&format!("d = {}", d), 0, (100 + d) as u16);
+            }
+            self.one(lent);
+            self.call("tick", Call::Tick, 0);
+            self.call("reset", Call::Reset(0), 0);
+            self.call("close", Call::Close(0), 0);
+        }
+        self.section("A whole window of 64 that came: a move by 63, then by 1");
+        self.one(Stream {
+            window: 64,
+            state: State {
+                history: u64::MAX,
+                ..running().state
+            },
+            ..running()
+        });
+        self.number("d = 63", 0, 163);
+        self.number("d = 1", 0, 164);
+        self.number("d = -63, the oldest", 1, 101);
+        self.number("the same again", 0, 101);
+    }
+
+    fn times(&mut self) {
+        for time in [0, 1] {
+            self.section(&format!("R = {}", time));
+            self.table(&[Stream::default()]);
+            self.call("open", Call::Open(settings(1, 4, time)), 0);
+            self.number("first", 0, 7);
+            self.number("twin", 1, 7);
+            self.call("tick", Call::Tick, 0);
+            self.number("after the tick", 1, 7);
+            self.one(Stream { time, ..running() });
+            self.call("tick where 2 remain", Call::Tick, 0);
+            self.number("where 2 remain", 0, 101);
+            self.call("reset where 2 remain", Call::Reset(0), 0);
+        }
+        self.section("R = 3: a hand-up renews the ticks, a discard does not");
+        self.one(running());
+        self.call("tick", Call::Tick, 0);
+        self.number("late", 0, 99);
+        self.call("tick", Call::Tick, 0);
+        self.number("its twin", 1, 99);
+        self.call("tick", Call::Tick, 0);
+        self.number("outside the window", 1, 900);
+        self.call("tick", Call::Tick, 0);
+        self.call("tick", Call::Tick, 0);
+        self.number("the restarted sender", 1, 900);
+    }
+
+    fn settings(&mut self) {
+        self.section("Settings of an open, and the order of its checks");
+        let with_vlan = |vlan| Settings {
+            vlan,
+            ..settings(1, 4, 3)
+        };
+        let list = [
+            ("rule 0", settings(0, 4, 3)),
+            ("rule 3", settings(3, 4, 3)),
+            ("L = 0", settings(1, 0, 3)),
+            ("L = 260", settings(1, 260, 3)),
+            ("match, L = 65", settings(2, 65, 3)),
+            ("R = 65535", settings(1, 4, 65535)),
+            ("VLAN 4094", with_vlan(4094)),
+            ("VLAN 4095", with_vlan(4095)),
+            ("VLAN 65535", with_vlan(65535)),
+        ];
+        for (what, s) in list {
+            self.table(&[Stream::default()]);
+            self.call(&format!("open, {}", what), Call::Open(s), 0);
+        }
+        self.one(running());
+        self.call(
+            "open, L = 65, key in use, table full",
+            Call::Open(settings(1, 65, 3)),
+            0,
+        );
+        self.call(
+            "open, key in use, table full",
+            Call::Open(settings(1, 64, 3)),
+            0,
+        );
+        self.call("open, another key, table full", Call::Open(with_vlan(5)), 0);
+        self.one(Stream {
+            used: 0,
+            counts: full_counts(),
+            ..running()
+        });
+        self.call("open over a closed slot", Call::Open(settings(2, 64, 9)), 0);
+    }
+
+    fn order(&mut self) {
+        self.section(
+            "The order of checks: each call has every later fault too, and an output of 0 bytes",
+        );
+        let mut stranger = frame(20, tagged(7));
+        stranger[5] = 9;
+        let (long, short) = (frame(2001, PLAIN), frame(19, tagged(7)));
+        let (plain, known) = (frame(20, PLAIN), frame(20, tagged(101)));
+        self.one(Stream {
+            rule: 3,
+            ..running()
+        });
+        for (what, network, frame) in [
+            ("network 2", 2, &long),
+            ("2001 bytes", 1, &long),
+            ("19 bytes", 1, &short),
+            ("no tag", 1, &plain),
+            ("another destination", 1, &stranger),
+            ("damaged", 1, &known),
+        ] {
+            self.call(
+                &format!("arrival, {}", what),
+                Call::Arrival { network, frame },
+                0,
+            );
+        }
+        for (what, frame) in [
+            ("2001 bytes", &long),
+            ("19 bytes", &short),
+            ("no tag", &plain),
+            ("tagged", &known),
+        ] {
+            self.call(
+                &format!("take a tag out, {}", what),
+                Call::TakeTag { frame },
+                0,
+            );
+            let number = 258;
+            self.call(
+                &format!("write a tag, {}", what),
+                Call::WriteTag { frame, number },
+                0,
+            );
+        }
+    }
+
+    fn matching_and_ticks(&mut self) {
+        self.section("The match rule, L = 4: no difference is a rogue");
+        let s = Stream {
+            rule: Stream::MATCH_RULE,
+            state: State {
+                history: 0,
+                ..running().state
+            },
+            ..running()
+        };
+        for d in [-32768, -900, -4, -1, 0, 1, 2, 4, 900, 32767] {
+            self.one(s);
+            self.number(&format!("d = {}", d), 0, (100 + d) as u16);
+        }
+        self.section("A tick of four streams: one ages, two are reset, one is damaged");
+        let last = |vlan| {
+            let mut s = Stream { vlan, ..running() };
+            s.state.remaining = 1;
+            s
+        };
+        self.table(&[
+            last(1),
+            running(),
+            Stream {
+                window: 65,
+                ..last(2)
+            },
+            last(3),
+        ]);
+        self.call("tick", Call::Tick, 0);
+        self.call("tick", Call::Tick, 0);
+    }
+
+    fn small_outputs(&mut self) {
+        self.section("Outputs of just the size, and one byte too small");
+        for (what, number) in [("new", 101), ("duplicate", 100), ("rogue", 900)] {
+            let f = frame(24, tagged(number));
+            for room in [18, 17, 0] {
+                self.one(running());
+                self.call(
+                    &format!("arrival, {}, 24 bytes, output of {}", what, room),
+                    Call::Arrival {
+                        network: 0,
+                        frame: &f,
+                    },
+                    room,
+                );
+            }
+        }
+        self.table(&[]);
+        for room in [18, 17] {
+            let f = frame(24, tagged(101));
+            let what = format!("take a tag out, 24 bytes, output of {}", room);
+            self.call(&what, Call::TakeTag { frame: &f }, room);
+        }
+        for room in [30, 29] {
+            let call = Call::WriteTag {
+                frame: &frame(24, PLAIN),
+                number: 258,
+            };
+            self.call(
+                &format!("write a tag, 24 bytes, output of {}", room),
+                call,
+                room,
+            );
+        }
+    }
+
+    fn damage(&mut self) {
+        self.section("Damaged records of every kind: each call on a table with that record alone");
+        let state = |change: fn(&mut State)| {
+            let mut s = running();
+            change(&mut s.state);
+            s
+        };
+        let fresh_state = |change: fn(&mut State)| {
+            let mut s = fresh();
+            change(&mut s.state);
+            s
+        };
+        let matching = Stream {
+            rule: Stream::MATCH_RULE,
+            ..state(|s| s.history = 0)
+        };
+        let cases = [
+            (
+                "rule 0",
+                Stream {
+                    rule: 0,
+                    ..running()
+                },
+            ),
+            (
+                "rule 3",
+                Stream {
+                    rule: 3,
+                    ..running()
+                },
+            ),
+            (
+                "L = 0",
+                Stream {
+                    window: 0,
+                    ..running()
+                },
+            ),
+            (
+                "L = 1",
+                Stream {
+                    window: 1,
+                    ..running()
+                },
+            ),
+            (
+                "L = 65",
+                Stream {
+                    window: 65,
+                    ..running()
+                },
+            ),
+            (
+                "L = 260",
+                Stream {
+                    window: 260,
+                    ..running()
+                },
+            ),
+            (
+                "R = 0",
+                Stream {
+                    time: 0,
+                    ..running()
+                },
+            ),
+            (
+                "VLAN 4095",
+                Stream {
+                    vlan: 4095,
+                    ..running()
+                },
+            ),
+            ("remaining above R", state(|s| s.remaining = 4)),
+            ("remaining 0 without take-any", state(|s| s.remaining = 0)),
+            ("take-any with remaining", fresh_state(|s| s.remaining = 1)),
+            (
+                "take-any with another anchor",
+                fresh_state(|s| s.anchor = 65534),
+            ),
+            ("take-any with a history", fresh_state(|s| s.history = 1)),
+            ("vector without bit 0", state(|s| s.history = 0b100)),
+            ("vector with bit L", state(|s| s.history = 0b10101)),
+            ("vector with bit 63", state(|s| s.history = 1 << 63 | 1)),
+            (
+                "match with a history",
+                Stream {
+                    rule: Stream::MATCH_RULE,
+                    ..running()
+                },
+            ),
+            // Not damaged, beside those that are.
+            ("lawful: vector", running()),
+            ("lawful: match", matching),
+            ("lawful: fresh", fresh()),
+            (
+                "lawful: in use 2, take-any 255",
+                Stream {
+                    used: 2,
+                    ..fresh_state(|s| s.any = 255)
+                },
+            ),
+            (
+                "lawful: a destination of seven bytes",
+                Stream {
+                    dest: 1 << 48 | dest_of(DESTINATION),
+                    ..running()
+                },
+            ),
+            (
+                "free: rule 3",
+                Stream {
+                    used: 0,
+                    rule: 3,
+                    ..running()
+                },
+            ),
+        ];
+        for (what, record) in cases {
+            let tags = Tags {
+                vlan: Some(record.vlan),
+                ..tagged(101)
+            };
+            let key = Settings {
+                vlan: record.vlan,
+                ..settings(1, 4, 3)
+            };
+            for (name, call) in [
+                ("tick", Call::Tick),
+                (
+                    "arrival",
+                    Call::Arrival {
+                        network: 0,
+                        frame: &frame(24, tags),
+                    },
+                ),
+                ("open its key", Call::Open(key)),
+                ("reset", Call::Reset(0)),
+                ("close", Call::Close(0)),
+            ] {
+                self.one(record);
+                self.call(&format!("{}: {}", what, name), call, 2000);
+            }
+        }
+    }
+
+    fn wrapping(&mut self) {
+        self.section("Counters at 2^64 - 1");
+        let s = Stream {
+            counts: full_counts(),
+            ..running()
+        };
+        for (what, network, number) in [
+            ("d = 3", 0, 103),
+            ("d = -1", 1, 99),
+            ("d = 0", 0, 100),
+            ("d = 4", 1, 104),
+        ] {
+            self.one(s);
+            self.number(what, network, number);
+        }
+        self.one(Stream {
+            state: State {
+                remaining: 1,
+                ..s.state
+            },
+            ..s
+        });
+        self.call("tick where 1 remains", Call::Tick, 0);
+        self.one(s);
+        self.call("reset", Call::Reset(0), 0);
+        self.one(s);
+        self.call("close", Call::Close(0), 0);
+    }
+
+    fn shared_key(&mut self) {
+        self.section("Two slots with one key, behind a free one that has it too");
+        let both = [
+            Stream {
+                used: 0,
+                ..running()
+            },
+            running(),
+            Stream {
+                rule: Stream::MATCH_RULE,
+                ..fresh()
+            },
+        ];
+        self.table(&both);
+        self.number("the lower has it", 0, 101);
+        self.number("and its twin", 1, 101);
+        self.call("open the key", Call::Open(settings(1, 4, 3)), 0);
+        self.call("close the lower", Call::Close(1), 0);
+        self.number("the higher has it", 0, 101);
+        let mut hurt = both;
+        hurt[1].window = 65;
+        self.table(&hurt);
+        self.number("the lower is damaged", 0, 101);
+        self.call("tick", Call::Tick, 0);
+        self.call("open the key", Call::Open(settings(1, 4, 3)), 0);
+        self.call("reset the lower", Call::Reset(1), 0);
+        self.call("close the lower", Call::Close(1), 0);
+        self.number("the higher has it", 0, 101);
+    }
+
+    fn wrap_run(&mut self) {
+        self.section("A run at the wrap: a to i");
+        self.one(fresh());
+        for (step, number) in [
+            ("a", 65534),
+            ("b", 65535),
+            ("c", 65534),
+            ("d", 1),
+            ("e", 0),
+            ("f", 5),
+            ("g", 65533),
+            ("h", 65534),
+            ("i", 4),
+        ] {
+            self.number(step, 0, number);
+        }
+        self.section("j, k, l");
+        let mut s = running();
+        s.state.anchor = 0;
+        s.state.history = 1;
+        self.one(s);
+        self.number("j", 0, 32768);
+        s.rule = Stream::MATCH_RULE;
+        s.state.anchor = 9;
+        s.state.history = 0;
+        self.one(s);
+        self.number("k", 0, 9);
+        self.number("k", 0, 8);
+        s.state.remaining = 1;
+        self.one(s);
+        self.call("l: tick", Call::Tick, 0);
+    }
+}
+
+fn full_counts() -> Counts {
+    Counts {
+        arrivals0: u64::MAX,
+        arrivals1: u64::MAX,
+        passed: u64::MAX,
+        discarded: u64::MAX,
+        rogue: u64::MAX,
+        disorder: u64::MAX,
+        lost: u64::MAX,
+        resets: u64::MAX,
+    }
+}
+
+fn run<S: Side>() -> List<S> {
+    let mut list = List {
+        side: S::new(&[]),
+        slots: 0,
+        cases: Vec::new(),
+        lines: String::from("# A call, its answer, and all that it changed; A>B: the field was A and is B. A stream has L = 4 and R = 3 where nothing else is said.\n"),
+    };
+    list.frames();
+    list.other_frames();
+    list.tables();
+    list.windows();
+    list.times();
+    list.settings();
+    list.order();
+    list.matching_and_ticks();
+    list.small_outputs();
+    list.damage();
+    list.wrapping();
+    list.shared_key();
+    list.wrap_run();
+    list
+}
+
+fn main() -> ExitCode {
+    let words: Vec<String> = std::env::args().skip(1).collect();
+    let words: Vec<&str> = words.iter().map(String::as_str).collect();
+    let bytes = match words[..] {
+        ["product"] => run::<Product>().lines.into_bytes(),
+        ["second"] => run::<Second>().lines.into_bytes(),
+        ["cases"] => run::<Second>().cases,
+        _ => {
+            eprintln!("usage: vectors product | second | cases");
+            return ExitCode::from(2);
+        }
+    };
+    match io::stdout().write_all(&bytes) {
+        Ok(()) => ExitCode::SUCCESS,
+        Err(why) => {
+            eprintln!("vectors: {}", why);
+            ExitCode::FAILURE
+        }
+    }
+}

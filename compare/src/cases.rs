@@ -1,0 +1,144 @@
+//! Calls with what they should answer and leave, written for tools/replay.c, which gives them to the archive itself under an
+//! emulator.
+
+use crate::{Answer, Call};
+use nippitsun::Stream;
+
+/// What a call starts from or leaves: the table and the output.
+#[derive(Clone, Copy)]
+pub struct Areas<'a> {
+    pub table: &'a [Stream],
+    pub out: &'a [u8],
+}
+
+/// The arguments of all calls together. A call has those that it does not take as 0.
+#[derive(Default)]
+struct Arguments<'a> {
+    kind: u8,
+    frame: &'a [u8],
+    network: u8,
+    number: u16,
+    slot: u64,
+    dest: [u8; 6],
+    vlan: u16,
+    rule: u8,
+    window: u16,
+    time: u16,
+}
+
+/// The fields of all answers together.
+#[derive(Default)]
+struct Fields {
+    slot: u64,
+    length: u64,
+    resets: u64,
+    damaged: u64,
+    number: u16,
+    verdict: u8,
+    refusal: u8,
+}
+
+fn arguments(call: Call) -> Arguments {
+    let mut a = Arguments::default();
+    match call {
+        Call::Arrival { network, frame } => {
+            a.kind = 5;
+            a.network = network;
+            a.frame = frame;
+        }
+        Call::Open(s) => {
+            a.kind = 6;
+            a.dest = s.destination;
+            a.vlan = s.vlan;
+            a.rule = s.rule;
+            a.window = s.window;
+            a.time = s.time;
+        }
+        Call::Close(slot) => {
+            a.kind = 7;
+            a.slot = slot as u64;
+        }
+        Call::Reset(slot) => {
+            a.kind = 8;
+            a.slot = slot as u64;
+        }
+        Call::Tick => a.kind = 9,
+        Call::TakeTag { frame } => {
+            a.kind = 1;
+            a.frame = frame;
+        }
+        Call::WriteTag { frame, number } => {
+            a.kind = 2;
+            a.frame = frame;
+            a.number = number;
+        }
+    }
+    a
+}
+
+fn fields(answer: Answer) -> Fields {
+    let mut f = Fields::default();
+    match answer {
+        Answer::Refused(n) => f.refusal = n,
+        Answer::HandedUp {
+            slot,
+            number,
+            length,
+        } => {
+            f.slot = slot as u64;
+            f.number = number;
+            f.length = length as u64;
+            f.verdict = nippitsun::archive::HANDED_UP;
+        }
+        Answer::Duplicate { slot, number } => {
+            f.slot = slot as u64;
+            f.number = number;
+            f.verdict = nippitsun::archive::DUPLICATE;
+        }
+        Answer::Rogue { slot, number } => {
+            f.slot = slot as u64;
+            f.number = number;
+            f.verdict = nippitsun::archive::ROGUE;
+        }
+        Answer::Opened(slot) => f.slot = slot as u64,
+        Answer::Done => {}
+        Answer::Ticked { resets, damaged } => {
+            f.resets = resets;
+            f.damaged = damaged;
+        }
+        Answer::Tag { number, length } => {
+            f.number = number;
+            f.length = length as u64;
+        }
+    }
+    f
+}
+
+/// Adds one case.
+pub fn add(to: &mut Vec<u8>, call: Call, before: Areas, answer: Answer, after: Areas) {
+    let a = arguments(call);
+    to.extend_from_slice(&[a.kind, before.table.len() as u8]);
+    to.extend_from_slice(&(a.frame.len() as u16).to_le_bytes());
+    to.extend_from_slice(&(before.out.len() as u16).to_le_bytes());
+    for s in before.table {
+        to.extend_from_slice(&s.to_bytes());
+    }
+    to.extend_from_slice(a.frame);
+    to.extend_from_slice(before.out);
+    to.extend_from_slice(&a.slot.to_le_bytes());
+    for x in [a.number, a.vlan, a.window, a.time] {
+        to.extend_from_slice(&x.to_le_bytes());
+    }
+    to.extend_from_slice(&[a.network, a.rule]);
+    to.extend_from_slice(&a.dest);
+    let f = fields(answer);
+    for x in [f.slot, f.length, f.resets, f.damaged] {
+        to.extend_from_slice(&x.to_le_bytes());
+    }
+    to.extend_from_slice(&f.number.to_le_bytes());
+    to.extend_from_slice(&[f.verdict, f.refusal]);
+    for s in after.table {
+        to.extend_from_slice(&s.to_bytes());
+    }
+    to.extend_from_slice(after.out);
+}

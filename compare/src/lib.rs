@@ -1,0 +1,252 @@
+//! The product and the second program behind one trait, so that both can be given the same calls.
+//!
+//! The product is called through the crate `nippitsun`, and so through the compiled archive. Records are compared in its
+//! form, field by field.
+
+#![forbid(unsafe_code)]
+
+pub mod cases;
+
+use nippitsun::{tag, Counts, Receiver, State, Stream};
+use second::Verdict;
+
+pub use nippitsun::Settings;
+
+/// One call. The output and the table stand beside it.
+#[derive(Clone, Copy, Debug)]
+pub enum Call<'a> {
+    Arrival { network: u8, frame: &'a [u8] },
+    Open(Settings),
+    Close(usize),
+    Reset(usize),
+    Tick,
+    TakeTag { frame: &'a [u8] },
+    WriteTag { frame: &'a [u8], number: u16 },
+}
+
+/// What a call answers, in one form for both sides.
+#[derive(Clone, Copy, Debug, PartialEq, Eq)]
+pub enum Answer {
+    Refused(u8),
+    HandedUp {
+        slot: usize,
+        number: u16,
+        length: usize,
+    },
+    Duplicate {
+        slot: usize,
+        number: u16,
+    },
+    Rogue {
+        slot: usize,
+        number: u16,
+    },
+    Opened(usize),
+    Done,
+    Ticked {
+        resets: u64,
+        damaged: u64,
+    },
+    Tag {
+        number: u16,
+        length: usize,
+    },
+}
+
+/// One of the two programs, with a table.
+pub trait Side {
+    /// A table with these records.
+    fn new(records: &[Stream]) -> Self;
+    /// Writes to a slot, as the owner of a table may.
+    fn set(&mut self, slot: usize, record: Stream);
+    /// The record in a slot of the table.
+    fn record(&self, slot: usize) -> Stream;
+    fn call(&mut self, call: Call, out: &mut [u8]) -> Answer;
+}
+
+/// The compiled product.
+pub struct Product(Receiver);
+
+impl Side for Product {
+    fn new(records: &[Stream]) -> Product {
+        Product(Receiver::from_records(records.to_vec()))
+    }
+
+    fn set(&mut self, slot: usize, record: Stream) {
+        self.0.records_mut()[slot] = record;
+    }
+
+    fn record(&self, slot: usize) -> Stream {
+        self.0.records()[slot]
+    }
+
+    fn call(&mut self, call: Call, out: &mut [u8]) -> Answer {
+        let r = &mut self.0;
+        let answer = match call {
+            Call::Arrival { network, frame } => r.arrival(network, frame, out).map(|a| {
+                let (slot, number) = (a.slot, a.number);
+                match a.verdict {
+                    nippitsun::Verdict::HandedUp { length } => Answer::HandedUp {
+                        slot,
+                        number,
+                        length,
+                    },
+                    nippitsun::Verdict::Duplicate => Answer::Duplicate { slot, number },
+                    nippitsun::Verdict::Rogue => Answer::Rogue { slot, number },
+                }
+            }),
+            Call::Open(settings) => r.open(settings).map(Answer::Opened),
+            Call::Close(slot) => r.close(slot).map(|()| Answer::Done),
+            Call::Reset(slot) => r.reset(slot).map(|()| Answer::Done),
+            Call::Tick => r.tick().map(|t| Answer::Ticked {
+                resets: t.resets,
+                damaged: t.damaged,
+            }),
+            Call::TakeTag { frame } => tag::take(frame, out).map(|t| Answer::Tag {
+                number: t.number,
+                length: t.length,
+            }),
+            Call::WriteTag { frame, number } => {
+                tag::put(frame, number, out).map(|length| Answer::Tag { number, length })
+            }
+        };
+        answer.unwrap_or_else(|why| Answer::Refused(why.number()))
+    }
+}
+
+/// The second program. Its record has no room for a destination of more than six bytes, nor for a window above 255. Such a
+/// record has a stand-in here: a destination that no call may name, and a window of 255, which is out of range too. The real
+/// values are kept beside it.
+pub struct Second {
+    table: Vec<second::Stream>,
+    real: Vec<(u64, u16)>,
+}
+
+/// Stands in for a destination of more than six bytes.
+const NOBODY: [u8; 6] = [0xFF; 6];
+
+fn window_of(window: u16) -> u8 {
+    window.try_into().unwrap_or(u8::MAX)
+}
+
+impl Side for Second {
+    fn new(records: &[Stream]) -> Second {
+        let mut side = Second {
+            table: vec![second::Stream::FREE; records.len()],
+            real: vec![(0, 0); records.len()],
+        };
+        for (slot, &record) in records.iter().enumerate() {
+            side.set(slot, record);
+        }
+        side
+    }
+
+    fn set(&mut self, slot: usize, s: Stream) {
+        let [_, _, destination @ ..] = s.dest.to_be_bytes();
+        self.real[slot] = (s.dest, s.window);
+        self.table[slot] = second::Stream {
+            in_use: s.used,
+            destination: if s.dest >> 48 == 0 {
+                destination
+            } else {
+                NOBODY
+            },
+            vlan: s.vlan,
+            rule: s.rule,
+            window: window_of(s.window),
+            reset_time: s.time,
+            anchor: s.state.anchor,
+            history: s.state.history,
+            take_any: s.state.any,
+            remaining: s.state.remaining,
+            arrivals: [s.counts.arrivals0, s.counts.arrivals1],
+            passed: s.counts.passed,
+            discarded: s.counts.discarded,
+            rogue: s.counts.rogue,
+            out_of_order: s.counts.disorder,
+            lost: s.counts.lost,
+            resets: s.counts.resets,
+        };
+    }
+
+    fn record(&self, slot: usize) -> Stream {
+        let s = &self.table[slot];
+        let (dest, window) = self.real[slot];
+        Stream {
+            dest: if s.destination == NOBODY {
+                dest
+            } else {
+                nippitsun::dest_of(s.destination)
+            },
+            vlan: s.vlan,
+            window: if s.window == u8::MAX {
+                window
+            } else {
+                s.window.into()
+            },
+            time: s.reset_time,
+            rule: s.rule,
+            used: s.in_use,
+            state: State {
+                history: s.history,
+                anchor: s.anchor,
+                remaining: s.remaining,
+                any: s.take_any,
+            },
+            counts: Counts {
+                arrivals0: s.arrivals[0],
+                arrivals1: s.arrivals[1],
+                passed: s.passed,
+                discarded: s.discarded,
+                rogue: s.rogue,
+                disorder: s.out_of_order,
+                lost: s.lost,
+                resets: s.resets,
+            },
+        }
+    }
+
+    fn call(&mut self, call: Call, out: &mut [u8]) -> Answer {
+        let table = &mut self.table;
+        let answer =
+            match call {
+                Call::Arrival { network, frame } => second::arrival(table, network, frame, out)
+                    .map(|a| {
+                        let (slot, number) = (a.slot, a.number);
+                        match a.verdict {
+                            Verdict::HandedUp { length } => Answer::HandedUp {
+                                slot,
+                                number,
+                                length,
+                            },
+                            Verdict::Duplicate => Answer::Duplicate { slot, number },
+                            Verdict::Rogue => Answer::Rogue { slot, number },
+                        }
+                    }),
+                Call::Open(s) => second::open(
+                    table,
+                    second::Settings {
+                        destination: s.destination,
+                        vlan: s.vlan,
+                        rule: s.rule,
+                        window: window_of(s.window),
+                        reset_time: s.time,
+                    },
+                )
+                .map(Answer::Opened),
+                Call::Close(slot) => second::close(table, slot).map(|()| Answer::Done),
+                Call::Reset(slot) => second::reset(table, slot).map(|()| Answer::Done),
+                Call::Tick => second::tick(table).map(|t| Answer::Ticked {
+                    resets: t.reset as u64,
+                    damaged: t.damaged as u64,
+                }),
+                Call::TakeTag { frame } => second::take_tag(frame, out).map(|t| Answer::Tag {
+                    number: t.number,
+                    length: t.length,
+                }),
+                Call::WriteTag { frame, number } => second::write_tag(frame, number, out)
+                    .map(|length| Answer::Tag { number, length }),
+            };
+        answer.unwrap_or_else(|why| Answer::Refused(why.number()))
+    }
+}

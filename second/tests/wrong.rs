@@ -1,0 +1,112 @@
+//! The switch for wrong variants. A variant that changes nothing could not be
+//! caught by anyone, so each one that is only seen in calls must be seen in
+//! these calls. Those that are seen in event files are tried by the comparison
+//! of event files.
+
+mod common;
+
+use std::process::Command;
+
+use common::*;
+use second::random::Random;
+use second::wrong::{self, Seen, Wrong, VARIANTS};
+use second::{arrival, close, open, reset, tick, write_tag, Stream};
+
+const DESTINATIONS: [[u8; 6]; 2] = [DESTINATION, [2, 0, 0, 0, 0, 2]];
+
+/// Random calls on a random table: every answer, and table and output after
+/// each call. What is called does not depend on the answers.
+fn calls(seed: u64) -> Vec<(String, Vec<Stream>, Vec<u8>)> {
+    let mut random = Random::new(seed);
+    let mut table: Vec<Stream> = (0..6)
+        .map(|_| any_stream(&mut random, &DESTINATIONS, &[0, 5]))
+        .collect();
+    let mut output = vec![FILL; 40];
+    let mut seen = Vec::new();
+    for _ in 0..60 {
+        let slot = random.below(7) as usize;
+        let room = random.pick(&[10, 15, 40, 40]);
+        let number = random.pick(&[0, 1, 2, 3, 5, 8, 65533, 65534, 65535]);
+        let destination = random.pick(&DESTINATIONS);
+        let tci = random.pick(&[None, Some(5)]);
+        let network = random.below(2) as u8;
+        let answer = match random.below(12) {
+            0 => format!("{:?}", open(&mut table, settings(1, 4, 2))),
+            1 => format!("{:?}", close(&mut table, slot)),
+            2 => format!("{:?}", reset(&mut table, slot)),
+            3 => format!("{:?}", tick(&mut table)),
+            4 => {
+                let frame = match random.below(2) {
+                    0 => tagged_to(destination, tci, number),
+                    _ => untagged_to(destination, tci),
+                };
+                format!("{:?}", write_tag(&frame, number, &mut output[..room]))
+            }
+            _ => {
+                let frame = tagged_to(destination, tci, number);
+                let answer = arrival(&mut table, network, &frame, &mut output[..room]);
+                format!("{answer:?}")
+            }
+        };
+        seen.push((answer, table.clone(), output.clone()));
+    }
+    seen
+}
+
+#[test]
+fn every_variant_for_calls_is_seen_in_calls() {
+    for variant in VARIANTS.iter().filter(|v| v.seen == Seen::CallsOnly) {
+        let differs = (0..2000).any(|seed| {
+            let right = calls(seed);
+            wrong::set(Some(variant.wrong));
+            let wrong = calls(seed);
+            wrong::set(None);
+            right != wrong
+        });
+        assert!(differs, "{:?}", variant.wrong);
+    }
+}
+
+#[test]
+fn a_variant_holds_for_its_thread_until_it_is_taken_back() {
+    let mut table = [fresh(1, 4, 9)];
+    let mut after_four = || {
+        table[0] = running(1, 4, 9, 10, 1);
+        arrive(&mut table, 14)
+    };
+    assert_eq!(after_four(), "rogue");
+    wrong::set(Some(Wrong::TakesL));
+    assert_eq!(after_four(), "up");
+    let other = std::thread::spawn(wrong::now).join().unwrap();
+    assert_eq!(other, None);
+    wrong::set(None);
+    assert_eq!(after_four(), "rogue");
+}
+
+#[test]
+fn the_program_has_the_switch() {
+    let events = |words: &[&str]| {
+        let done = Command::new(env!("CARGO_BIN_EXE_events"))
+            .args(words)
+            .stdin(std::process::Stdio::null())
+            .output()
+            .unwrap();
+        (done.status.code(), String::from_utf8(done.stdout).unwrap())
+    };
+    let (status, list) = events(&["--wrong-list"]);
+    assert_eq!(status, Some(0));
+    assert_eq!(list.lines().count(), VARIANTS.len());
+    assert!(list.starts_with(" 1 PlainComparison "));
+    // No input at all prints version, whatever is wrong.
+    let last = VARIANTS.len().to_string();
+    assert_eq!(events(&["--wrong", &last]), (Some(0), "version\n".into()));
+    let beyond = (VARIANTS.len() + 1).to_string();
+    for words in [
+        &["--wrong"][..],
+        &["--wrong", "0"],
+        &["--wrong", &beyond],
+        &["x"],
+    ] {
+        assert_eq!(events(words), (Some(2), String::new()));
+    }
+}
