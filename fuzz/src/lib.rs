@@ -147,8 +147,9 @@ fn written(product: &Product, slots: usize, body: &[u8]) -> Option<(usize, Strea
 }
 
 fn run(input: &[u8]) {
-    let Some((&first, mut rest)) = input.split_first() else {
-        return;
+    let (first, mut rest) = match input {
+        [first, rest @ ..] => (*first, rest),
+        [] => return,
     };
     let slots = match first {
         second::event_file::VERSION => EVENTS_SLOTS,
