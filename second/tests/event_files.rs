@@ -274,7 +274,7 @@ struct Full {
 impl Write for Full {
     fn write(&mut self, bytes: &[u8]) -> io::Result<usize> {
         if self.room == 0 {
-            return Err(ErrorKind::StorageFull.into());
+            return Err(ErrorKind::Other.into());
         }
         let taken = bytes.len().min(self.room);
         self.room -= taken;

@@ -309,8 +309,9 @@ fn put_then_take_gives_frame_and_number_back() {
         let frame = any_frame(&mut random);
         let number = random.word();
         let mut full = [FILL; 80];
-        let Ok(length) = write_tag(&frame, number, &mut full) else {
-            continue;
+        let length = match write_tag(&frame, number, &mut full) {
+            Ok(length) => length,
+            Err(_) => continue,
         };
         let mut bare = [FILL; 80];
         let taken = take_tag(&full[..length], &mut bare).unwrap();
@@ -333,8 +334,9 @@ fn take_then_put_and_its_special_cases() {
     for _ in 0..400_000 {
         let frame = any_frame(&mut random);
         let mut bare = [FILL; 80];
-        let Ok(taken) = take_tag(&frame, &mut bare) else {
-            continue;
+        let taken = match take_tag(&frame, &mut bare) {
+            Ok(taken) => taken,
+            Err(_) => continue,
         };
         let mut again = [FILL; 80];
         let put = write_tag(&bare[..taken.length], taken.number, &mut again);

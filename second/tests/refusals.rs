@@ -177,16 +177,19 @@ fn arrivals() {
             (4, short_for_reading(&frame)),
             (5, !has_mark(&frame)),
             (6, slot.is_none()),
-            (7, slot.is_some_and(|slot| is_damaged(&table[slot]))),
+            (7, slot.map_or(false, |slot| is_damaged(&table[slot]))),
             (8, output.len() < need),
         ]);
         let answer = arrival(&mut table, network, &frame, &mut output);
         assert_eq!(number_of(answer), expected);
         seen.note("arrival", expected);
-        let Ok(a) = answer else {
-            assert_eq!(table, table_before);
-            assert_eq!(output, output_before);
-            continue;
+        let a = match answer {
+            Ok(a) => a,
+            Err(_) => {
+                assert_eq!(table, table_before);
+                assert_eq!(output, output_before);
+                continue;
+            }
         };
         assert_eq!(Some(a.slot), slot);
         assert!(others_same(&table_before, &table, a.slot));
@@ -305,7 +308,7 @@ fn closes_and_resets() {
         let mut table = any_table(&mut random);
         let before = table.clone();
         let slot = random.pick(&[0, 1, 2, 4, 7, 8, 62, 63, 64, 65, 255, usize::MAX]);
-        let absent = table.get(slot).is_none_or(|s| s.in_use == 0);
+        let absent = table.get(slot).map_or(true, |s| s.in_use == 0);
 
         let expected = first(&[(1, table.len() > 64), (12, absent)]);
         let answer = close(&mut table, slot);
@@ -359,9 +362,12 @@ fn ticks() {
         let answer = tick(&mut table);
         assert_eq!(number_of(answer), expected);
         seen.note("tick", expected);
-        let Ok(ticked) = answer else {
-            assert_eq!(table, before);
-            continue;
+        let ticked = match answer {
+            Ok(ticked) => ticked,
+            Err(_) => {
+                assert_eq!(table, before);
+                continue;
+            }
         };
         let (mut resets, mut damaged) = (0, 0);
         for (old, new) in before.iter().zip(&table) {

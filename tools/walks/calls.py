@@ -84,89 +84,135 @@ class Steps(Frame):
         muts = [k for k, p in self.refs() if 'mut' in p[1]]
         return ' ∷ '.join(self.entry(e, k, now[muts.index(k)] if k in muts else None) for e, k in self.front()) + ' ∷'
 
-    def hand(self, how, g, args, kind, r, us, said, fact):
+    def hand(self, how, g, args, kind, r, left, said, fact):
         _, f, _, alias, _, _ = self.callee(g)
         given, shown = self.arguments(args)
-        t, by = Type(kind), {p[0]: k for k, p in self.refs()}
+        t, by, left = Type(kind), {p[0]: k for k, p in self.refs()}, left.split()
         # what two `ensures` say is joined
         shows, fact = ('two-facts 𝓤 H A _ _', fact.replace(' ∗ ', ' × ')) if ' ∗ ' in fact else ('id⊢ 𝓤 _', fact)
         out, have = [], list(self.front())
         def move(ix):
             out.append('move ! (' + ' ∷ '.join(map(str, ix)) + ' ∷ []) $')
             have[:] = [have[i] for i in ix] + [h for i, h in enumerate(have) if i not in ix]
-        lent = next((a for a in given if a[0] in ('&mut', '&lent')), None)
-        mut = lent and lent[0] == '&mut'
-        k = by[next(a for a in given if a[0] == '&')[1]]
-        κ, q, b, o, γ = self.names(k)
-        own, p = self.owner(k), self.refs()[k][1]
-        # the & is Copy: one is handed over with its token, one stays
-        move([have.index(('own', k))])
-        out.append(f'use1 W (‵ ({own}) ⊛ ‵ ({own})) ({"shr" if self.lone(p) else "shr-slice"}-copy 𝓤 H A W (named {k}) {κ} {self.element(p)} .twice ({self.reference(k)}) ({self.value(p)} ∷ [])) $ split ! $')
-        have[0:1] = ['given', ('own', k)]
-        move([0, have.index(('tok', k))]); out.append('join ! $'); have[0:2] = ['given']
-        j = by[lent[1]] if lent else None
-        first = ([('obs', j), ('bor', j), ('tok', j)] if lent else []) + ['given']
+        lent = [i for i, a in enumerate(given) if a[0] in ('&mut', '&lent')]
+        refs = [i for i, a in enumerate(given) if a[0].startswith('&')]
+        one = next((i for i in refs if i not in lent), None)   # the & that is handed over
+        mut = lent and given[lent[0]][0] == '&mut'
+        prime = {i: '′' * n for n, i in enumerate(lent)}
+        if one is not None:
+            k = by[given[one][1]]
+            κ, q, b, o, _ = self.names(k)
+            own, p = self.owner(k), self.refs()[k][1]
+            reference, value = self.reference(k), self.value(p)
+            # the & is Copy: one is handed over with its token, one stays
+            move([have.index(('own', k))])
+            out.append(f'use1 W (‵ ({own}) ⊛ ‵ ({own})) ({"shr" if self.lone(p) else "shr-slice"}-copy 𝓤 H A W (named {k}) {κ} {self.element(p)} .twice ({reference}) ({value} ∷ [])) $ split ! $')
+            have[0:1] = ['given', ('own', k)]
+            move([0, have.index(('tok', k))])
+            if given[one][0] == '&part':
+                _, xs, first, end, within, _ = given[one]
+                out.append(f'slice-part ! tt {xs} {b} {o} {first} {end} {within} (λ ε.')
+                now = f'take ({end} - {first}) (drop {first} {xs})'
+                reference, value = f'record {{ ptr = ({b}, {first} + {o}); name = ε; now = {now} }}', f'sliceVal ({b}, {first} + {o}) (length ({now}))'
+                own = f'{self.row(p)} .own ({reference}) ({value} ∷ [])'
+            out.append('join ! $'); have[0:2] = ['given']
+        first = [(e, by[given[i][1]]) for i in lent for e in ('obs', 'bor', 'tok')] + (['given'] if one is not None else [])
         move([have.index(e) for e in first + [e for e in self.front() if e in have and e not in first]])
         # what the callee binds: lifetimes in the order of its references
-        refs = [a for a in given if a[0].startswith('&')]
-        life = [('ν ∷ []', 'fullShare') if a is lent else (κ, q) for a in refs]
+        life = {i: (f'ν{prime[i]} ∷ []', 'fullShare') if i in lent else (κ, q) for i in refs}
         xs, vs = [], []
-        for a in given:
-            if a is lent:
-                _, _, base, offset, _ = self.names(j)
-                xs.append(self.reference(j, a[2], 'δ')); vs.append(f'sliceVal ({base}, {offset}) (length {a[2]}) ∷ []')
-            elif a[0] == '&':
-                xs.append(self.reference(k)); vs.append(self.value(p) + ' ∷ []')
+        for i, a in enumerate(given):
+            if i in lent:
+                _, _, base, offset, _ = self.names(by[a[1]])
+                xs.append(self.reference(by[a[1]], a[2], 'δ' + prime[i])); vs.append(f'sliceVal ({base}, {offset}) (length {a[2]}) ∷ []')
+            elif i == one:
+                xs.append(reference); vs.append(value + ' ∷ []')
             else:
                 xs.append(a[1]); vs.append(Type(a[0]).val(a[1]) + ' ∷ []')
-        y = f'(({nest([l[0] for l in life], "tt")}, {nest([l[1] for l in life], "tt")}, tt, {nest(xs, "tt")}, {nest(vs, "tt")}), tt)'
+        y = f'(({nest([life[i][0] for i in refs], "tt")}, {nest([life[i][1] for i in refs], "tt")}, tt, {nest(xs, "tt")}, {nest(vs, "tt")}), tt)'
         # what it is handed
-        steps = [shown.strip()] if shown else []
-        if lent:
+        items, steps, ctx, rooms = [], [shown.strip()] if shown else [], [], []
+        for i in lent:
+            a, j = given[i], by[given[i][1]]
+            _, _, base, offset, _ = self.names(j)
             el = self.element(self.refs()[j][1])
-            items = f'‵ (flft (ν ∷ []) fullShare) ∷ ‵ ({"mut" if mut else "shr"}-own {el} {base} {offset} ν δ {lent[2]}) ∷ (‵ ({own}) ⊛ ‵ (flft {κ} {q})) ∷ []'
-            steps.append('move ! (2 ∷ []) $ split ! $')
-            ctx = ['&', 'tok&', 'tok' + lent[0], lent[0]]
-        else:
-            items, ctx = f'‵ ({own}) ∷ ‵ (flft {κ} {q}) ∷ []', ['&', 'tok&']
+            rooms.append(f'{el} {a[2]} {base} {offset} {a[3]}')
+            items.append([f'‵ (flft ({life[i][0]}) fullShare)', f'‵ ({"mut" if mut else "shr"}-own {el} {base} {offset} ν{prime[i]} δ{prime[i]} {a[2]})'])
+        if len(lent) == 2:
+            steps.append('split ! $ move ! (2 ∷ []) $ split ! $')
+            items, ctx = [f'({" ⊛ ".join(i)})' for i in items], [('tok', lent[1]), ('own', lent[1]), ('tok', lent[0]), ('own', lent[0])]
+        elif lent:
+            items, ctx = items[0], [('tok', lent[0]), ('own', lent[0])]
+        if one is not None:
+            if lent:
+                steps.append(f'move ! ({len(ctx)} ∷ []) $ split ! $')
+                items.append(f'(‵ ({own}) ⊛ ‵ (flft {κ} {q}))')
+            else:
+                items = [f'‵ ({own})', f'‵ (flft {κ} {q})']
+            ctx = [('own', one), ('tok', one)] + ctx
         steps.append('nothing ! $'); ctx.insert(0, 'acc')
-        for a in reversed(given):
-            if a[0].startswith('&'):
-                i = ctx.index(a[0]); steps.append(f'move ! ({i} ∷ 0 ∷ []) $ fjoin ! $'); ctx.pop(i)
+        for i, a in reversed(list(enumerate(given))):
+            if i in refs:
+                n = ctx.index(('own', i)); steps.append(f'move ! ({n} ∷ 0 ∷ []) $ fjoin ! $'); ctx.pop(n)
             else:
                 steps.append(f'{Type(a[0]).owned(a[1], a[2])} $ fjoin ! $')
         steps.append('nothing ! $'); ctx.insert(0, 'T')
-        for a in reversed(refs):
-            i = ctx.index('tok' + a[0]); steps.append(f'move ! ({i} ∷ 0 ∷ []) $ join ! $'); ctx.pop(i)
-        goes = f'qed W ({items}) ∵ {" ".join(steps)} {"" if shown else "join ! $ "}frame ! $ done !'
+        for i in reversed(refs):
+            n = ctx.index(('tok', i)); steps.append(f'move ! ({n} ∷ 0 ∷ []) $ join ! $'); ctx.pop(n)
+        goes = f'qed W ({" ∷ ".join(items)} ∷ []) ∵ {" ".join(steps)} {"" if shown else "join ! $ "}frame ! $ done !'
+        # where the operands are read, what is lent has become fewer entries
+        extra = {(0, True): 0, (1, False): -1, (1, True): -2 if mut else 1, (2, True): -4}[len(lent), one is not None]
         opds = '(no-more !)'
         for a in reversed(given):
-            opds = f'(and-then ! {self.opd(a[-1], -2 if mut else 1 if lent else 0)} {opds})'
+            opds = f'(and-then ! {self.opd(a[-1], extra)} {opds})'
         head = f'{{𝓤 = 𝓤}} {{H = H}} {{A = A}} ! fm'
+        callee = f'{alias}.ended ({alias}.clauses 𝓤 H A mem run) (known .{dash(f)}′)'
         if not lent:
             have = [('tok', k)] + [e for e in self.front() if e != ('tok', k)]
             back = ' ∷ '.join(str(have.index(e)) for e in self.front())
-            return (' '.join(out) + f' calls-with {head} {alias}.ended ({alias}.clauses 𝓤 H A mem run) (known .{dash(f)}′) {y} ({goes}) (‵ (flft {κ} {q})) (fst∗ 𝓤 _ (emp 𝓤)) (λ ws. ‵ ftrue) (λ ws. top 𝓤 _) '
+            return (' '.join(out) + f' calls-with {head} {callee} {y} ({goes}) (‵ (flft {κ} {q})) (fst∗ 𝓤 _ (emp 𝓤)) (λ ws. ‵ ftrue) (λ ws. top 𝓤 _) '
                     f'{paren(t.make)} (λ {r} vs p. {t.tells} {r} vs p) (λ ({r} : {t.denot}) ws. {fact}) (λ {r} ws. {shows}) {opds} (λ {r} ws g-{r} {said}. lose ! $ move ! ({back} ∷ []) $')
-        tokens = '‵ ftrue'
-        for l in reversed(life):
-            tokens = f'(‵ (flft ({l[0]}) {l[1]}) ⊛ {tokens})'
-        back = f'qed W ({tokens} ∷ []) ∵ ' + ('split ! $ move ! (1 ∷ []) $ split ! $ frame ! $ lose ! $ done !' if refs[0][0] == '&' else 'split ! $ frame ! $ split ! $ move ! (1 ∷ []) $ lose ! $ done !')
-        have = [('obs', j), ('bor', j), ('tok', j), ('tok', k)] + [e for e in self.front() if e[1] != j and e != ('tok', k)]
+        loan = 'ν δ' if len(lent) == 1 else 'ν ν′ δ δ′'
+        # the tokens come back: those of the loans first
+        if one is None:
+            back = f'(λ {loan}. fst∗ 𝓤 _ (emp 𝓤))'
+        else:
+            tokens = '‵ ftrue'
+            for i in reversed(refs):
+                tokens = f'(‵ (flft ({life[i][0]}) {life[i][1]}) ⊛ {tokens})'
+            ctx, steps = ['T'], []
+            for n, i in enumerate(refs):
+                if ctx[0] != 'T': steps.append(f'move ! ({ctx.index("T")} ∷ []) $'); ctx.remove('T'); ctx.insert(0, 'T')
+                steps.append('split ! $'); ctx[0:1] = [i, 'T']
+                if i in lent: steps.append('frame ! $'); ctx.pop(0)
+            if ctx[0] != 'T': steps.append('move ! (1 ∷ []) $')
+            back = f'(‵ (flft {κ} {q})) (λ {loan}. qed W ({tokens} ∷ []) ∵ {" ".join(steps)} lose ! $ done !)'
+        # what comes back is put in its order
+        have = [(e, by[given[i][1]]) for i in lent for e in ('obs', 'bor', 'tok')] + ([('tok', k)] if one is not None else [])
+        have += [e for e in self.front() if e not in have]
         order = ' ∷ '.join(str(have.index(e)) for e in self.front())
-        room = lent[3]
         if not mut:
-            return (' '.join(out) + f' calls-shr-with {head} {el} {lent[2]} {base} {offset} {room} {alias}.ended ({alias}.clauses 𝓤 H A mem run) (known .{dash(f)}′) (λ ν δ. {y}) (λ ν δ. {goes}) (‵ (flft {κ} {q})) (λ ν δ. {back}) '
-                    f'(λ ν δ. {t.make}) (λ ν δ {r} vs p. {t.tells} {r} vs p) (λ ν δ ({r} : {t.denot}). {fact}) (λ ν δ {r} ws. {shows}) (λ ν δ. {opds}) (λ ν δ {r} g-{r} {said}. move ! ({order} ∷ []) $')
-        at = path(given.index(lent))
-        P = f'fsep (finally {el} δ (ws {at})) (feq ℕ (length (ws {at})) (length {lent[2]}))'
-        after = 'ftrue'
-        for _ in given[given.index(lent) + 1:]:
-            after = f'fsep ftrue ({after})'
-        lasts = f'fsep ({P}) ({after})'
-        for _ in given[:given.index(lent)]:
-            lasts = f'fsep ftrue ({lasts})'
-        lastly = f'qed W (‵ ({lasts}) ∷ []) ∵ ' + 'fsplit ! $ lose ! $ ' * given.index(lent) + 'fsplit ! $ move ! (1 ∷ []) $ lose ! $ done !'
-        return (' '.join(out) + f' calls-mut-with {head} {el} {lent[2]} {base} {offset} {room} {alias}.ended ({alias}.clauses 𝓤 H A mem run) (known .{dash(f)}′) (λ ν δ. {y}) (λ ν δ. {goes}) (‵ (flft {κ} {q})) (λ ν δ. {back}) '
-                f'(λ ν δ. {t.make}) (λ ν δ {r} vs p. {t.tells} {r} vs p) (λ ν δ ws. ws {at}) (λ ν δ ws. {lastly}) (λ ν δ ({r} : {t.denot}) ({us} : List {self.item(self.refs()[j][1])}). {fact}) (λ ν δ {r} ws. {shows}) (λ ν δ. {opds}) '
-                f'(λ ν δ {r} {us} g-{r} len-{us} {said}. move ! ({order} ∷ []) $')
+            return (' '.join(out) + f' calls-shr-with {head} {rooms[0]} {callee} (λ {loan}. {y}) (λ {loan}. {goes}) {back} '
+                    f'(λ {loan}. {t.make}) (λ {loan} {r} vs p. {t.tells} {r} vs p) (λ {loan} ({r} : {t.denot}). {fact}) (λ {loan} {r} ws. {shows}) (λ {loan}. {opds}) (λ {loan} {r} g-{r} {said}. move ! ({order} ∷ []) $')
+        # of what is said of the last values, that of the loans
+        lasts, steps = 'ftrue', []
+        for i, a in reversed(list(enumerate(given))):
+            P = 'ftrue'
+            if i in lent:
+                el = rooms[lent.index(i)].split()[0]
+                P = f'(fsep (finally {el} δ{prime[i]} (ws {path(i)})) (feq ℕ (length (ws {path(i)})) (length {a[2]})))'
+            lasts = f'fsep {P} ({lasts})'
+        for i in range(lent[-1] + 1):
+            steps.append('fsplit ! $')
+            if i not in lent: steps.append('lose ! $')
+            elif i != lent[-1]: steps.append('move ! (1 ∷ []) $')
+        steps.append('move ! (1 ∷ []) $ lose ! $')
+        if len(lent) == 2: steps.append('move ! (1 ∷ 0 ∷ []) $ fjoin ! $')
+        lastly = f'qed W (‵ ({lasts}) ∷ []) ∵ {" ".join(steps)} done !'
+        step = 'calls-mut-two' if len(lent) == 2 else 'calls-mut-with' if one is not None else 'calls-mut'
+        pick = ' '.join(f'(λ {loan} ws. ws {path(i)})' for i in lent)
+        binds = ' '.join(f'({v} : List {self.item(self.refs()[by[given[i][1]]][1])})' for v, i in zip(left, lent))
+        lens = ' '.join(f'len-{v}' for v in left)
+        return (' '.join(out) + f' {step} {head} {" ".join(rooms)} {callee} (λ {loan}. {y}) (λ {loan}. {goes}) {back} '
+                f'(λ {loan}. {t.make}) (λ {loan} {r} vs p. {t.tells} {r} vs p) {pick} (λ {loan} ws. {lastly}) (λ {loan} ({r} : {t.denot}) {binds}. {fact}) (λ {loan} {r} ws. {shows}) (λ {loan}. {opds}) '
+                f'(λ {loan} {r} {" ".join(left)} g-{r} {lens} {said}. move ! ({order} ∷ []) $')

@@ -13,11 +13,11 @@ class Frame:
 
     # ---- the callees
     def callee(self, g):
-        other, f = g.split('::')
-        base = f'Rattle.{other}.proofs.{f}' if other == self.crate else f'Rattle.{other}.proofs.{f}'
+        other, *way, f = g.split('::')
+        base = (f'Rattle.{other}.proofs' if other == self.crate else f'Rattle.{other}.proofs') + ''.join('.' + m for m in way + [f])
         con = ''.join(w.capitalize() for w in f.split('_'))
         if '{' + con + '}' in self.text: con += '′'   # a type has the name
-        return other, f, base, 'fn-' + dash(f), f'#{other}·{dash(f)}', con
+        return other, f, base, 'fn-' + dash(f), '#' + dash('·'.join([other, *way, f])), con
 
     def callee_uses(self):
         r = []
@@ -285,8 +285,8 @@ class Frame:
         if self.calls:
             cites = ' (record {\n'
             for g in self.calls:
-                other, h, _, alias, symbol, con = self.callee(g)
-                cites += f'      {dash(h)}′ = cited 𝓤 H ({con} 𝓤 H (𝓖 .A) (𝓜 .mem) (𝓡 .run)) 𝓜 𝓡 code.env {symbol} {alias}-def.routine code.calls-{other}·{dash(h)} ({alias}-met.met 𝓤 H 𝓜 𝓖 𝓡);\n'
+                _, h, _, alias, symbol, con = self.callee(g)
+                cites += f'      {dash(h)}′ = cited 𝓤 H ({con} 𝓤 H (𝓖 .A) (𝓜 .mem) (𝓡 .run)) 𝓜 𝓡 code.env {symbol} {alias}-def.routine code.calls-{symbol[1:]} ({alias}-met.met 𝓤 H 𝓜 𝓖 𝓡);\n'
             cites += '    })'
         takes, known = (' → Known 𝓤 H A mem run (𝓣 .C)', ' known') if self.calls else ('', '')
         spells, tells, args, are, where = [], [], [], [], {}
@@ -315,7 +315,7 @@ class Frame:
 unfolding code.routine tablesOf
 {f}-spec 𝓤 H 𝓜 𝓖 𝓡 =
     entered 𝓤 H (tripleOf 𝓤 H (𝓖 .A) fn.signature (fn.spec 𝓤 H (𝓖 .A) (𝓜 .mem) (𝓡 .run)))
-    (tables 𝓤 H 𝓜 𝓡 code.env .C) (tables 𝓤 H 𝓜 𝓡 code.env .Λ) #{self.crate}·{f} code.function (code.unfolded 𝓤 H 𝓜 𝓡)
+    (tables 𝓤 H 𝓜 𝓡 code.env .C) (tables 𝓤 H 𝓜 𝓡 code.env .Λ) #{dash(self.crate)}·{f} code.function (code.unfolded 𝓤 H 𝓜 𝓡)
     (meets 𝓤 H (𝓖 .A) (givenOf 𝓤 H 𝓜 𝓖) (𝓜 .mem) (𝓡 .run) (tablesOf 𝓤 H 𝓜 (tables 𝓤 H 𝓜 𝓡 code.env)){cites})
   where
     meets : {{M : Type 1}} (𝓤 : URA M) (H : Heap 𝓤) (A : Atoms 𝓤) → Given 𝓤 H A → (mem : Memory → SProp 𝓤) (run : Routine → Fun 𝓤) (𝓣 : Tables 𝓤 H){takes}

@@ -5,10 +5,10 @@
 
 _3 of the listing is local 3 of a walk. After it stand the lines %param, %result, %calls, %locals and %ty for F.walk;
 the parameters' names are to be put in."""
-import re, sys
+import os, re, sys
 
 text = sys.stdin.read()
-text = re.sub(r'tyNamed \(pair "\w+::(\w+)" lnil\)', r'\1', text)
+text = re.sub(r'tyNamed \(pair "[\w:]+::(\w+)" lnil\)', r'\1', text)
 tokens = re.findall(r'"[^"]*"|[()]|[^\s()]+', text)
 at = 0
 
@@ -87,6 +87,14 @@ def named(t):
     return t, {'tyBool': 'bool', 'tyUnit': '()'}.get(t, t)
 
 
+def exported(callee):
+    """A callee's name as its crate exports it: a module that is not `pub` is left out."""
+    crate, *way, f = callee.split('::')
+    lib = f'crates/{crate}/src/lib.rt'
+    text = open(lib).read() if os.path.exists(lib) else ''
+    return '::'.join([crate] + [m for m in way if f'pub mod {m};' in text] + [f])
+
+
 top = []
 while at < len(tokens): top.append(parse())
 want = set(sys.argv[1:])
@@ -99,7 +107,7 @@ for f in items(top[1]):
     calls = dict.fromkeys(re.findall(r'\(fnRef "([\w:]+)"\)', flat(it[5])))
     for t in types[1:1 + int(it[3])]: print('%param ?', named(t)[1])
     print('%result', named(types[0])[1])
-    if calls: print('%calls', ' '.join(re.sub(r'::\w+(?=::)', '', c) for c in calls))   # as the crate exports it
+    if calls: print('%calls', ' '.join(exported(c) for c in calls))
     print('%locals', len(types))
     by = {}
     for i, t in enumerate(types): by.setdefault(named(t)[0], []).append(str(i))

@@ -8,6 +8,7 @@ WIDTH = {'u8': 'w8', 'u16': 'w16', 'u32': 'w32', 'u64': 'w64', 'usize': 'w64'}
 IMPORTS = '''
 mathlib.Core.Path: ≡=_≡_ refl sym ∙=_∙_ ap subst
 Prim.Native.Nat: ℕ zero suc +=_+_ -=_-_ <=_<_ ≤=_≤_ *=_*_ ^=_^_
+native.Mathlib.Nat: lt-of-le-of-lt sub-le
 native.Mathlib.Omega: arith
 mathlib.Core.Bool: Bool true false not cond
 mathlib.Core.List: List [] ∷=_∷_ ++=_++_
@@ -50,6 +51,7 @@ denote.Triple.Statement: Contract Triple
 denote.Triple.Table: entered cited
 denote.Triple.Walked: says needs Stays stay-slice stay-dropped gave-slice walkOf goes-slice goes-dropped goes-gave-slice ends-at walked walk-meets
 denote.Exit: yes
+borrow.Rule.Slice.PartAt: part-count
 '''
 
 
@@ -57,7 +59,8 @@ def own(crate):
     """The same of the crate's own modules, crates/CRATE/proofs/*.antt."""
     r = ''
     for f in sorted(glob.glob(f'crates/{crate}/proofs/*.antt')):
-        names = re.findall(r'^ *(?:abbrev |unfoldable )?pub (?:record |data )?([^\s:]+) ', open(f).read(), re.M)
+        text = re.sub(r'^( *)((?:pub )?record .* where)\n(?:\1 +.*\n)*', r'\1\2\n', open(f).read(), flags=re.M)   # without the records' fields
+        names = re.findall(r'^ *(?:abbrev |unfoldable )?pub (?:record |data )?([^\s:]+) ', text, re.M)
         r += f'{os.path.basename(f)[:-5]}: {" ".join(dict.fromkeys(names))}\n'
     return r
 
@@ -106,7 +109,12 @@ class Type:
             self.owned = lambda v, g: f'{p}has ! {paren(v)} {g}'
 
 
-def imports(table, body, prefix):
+def taken(uses):
+    """The names that these `use` lines bring."""
+    return {n.split(' as ')[-1].strip() for u in uses for m in re.findall(r'\{(.*?)\}', u) for n in m.split(',')}
+
+
+def imports(table, body, prefix, but=()):
     words = set(re.split(r'[\s(){},;]+', body)) | set(re.findall(r'[^\s(){},;.]+', body))
     r = []
     for line in table.strip().split('\n'):
@@ -116,7 +124,7 @@ def imports(table, body, prefix):
         for n in names.split():
             word, _, real = n.partition('=')
             real = real or word
-            if word in words:
+            if word in words and word not in but:
                 got.append(real.replace('@', ' as '))
         if got:
             r.append(f'use {prefix}{module}.{{{", ".join(got)}}}')

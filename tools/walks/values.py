@@ -24,9 +24,9 @@ use denote.RattleType.{{RattleType}}
 use denote.Laws.{{Is, Tells}}
 use denote.Steps.{{owned}}
 '''
-USES = '''use {base}specs.declared.{name}.{{{name}}}
-use {proofs}.{name} as {name}-type
-use {proofs}.{name}.Laws as {name}-laws
+USES = '''use {base}specs.declared.{way}.{{{name}}}
+use {proofs}.{way} as {name}-type
+use {proofs}.{way}.Laws as {name}-laws
 '''
 BLOCK = '''
 -- ---- {name}
@@ -110,9 +110,9 @@ for line in open(f'tools/walks/{crate}/values.txt'):
     if line[0] == 'array':
         blocks['array'] += ARRAY.format(name=line[1], low=line[1].lower(), many=line[2])
         continue
-    kind, (home, name) = line[0], line[1].split('::')
+    kind, (home, *way, name) = line[0], line[1].split('::')
     own = home == crate
-    uses[kind] += USES.format(name=name, base=f'Rattle.{home}.specs.' if own else f'Rattle.{home}.', proofs=f'Rattle.{home}.proofs' if own else f'Rattle.{home}.proofs')
+    uses[kind] += USES.format(name=name, way='.'.join(way + [name]), base=f'Rattle.{home}.specs.' if own else f'Rattle.{home}.', proofs=f'Rattle.{home}.proofs' if own else f'Rattle.{home}.proofs')
     blocks[kind] += BLOCK.format(name=name, low=name.lower(), laws='Enum-laws' if kind == 'enum' else 'Struct-laws', few=' tt' if kind == 'enum' else '')
 write('Values', 'struct and array', 'use denote.Struct.Laws as Struct-laws\n' + uses['struct'], blocks['struct'] + blocks['array'], blocks['array'] != '')
 if blocks['enum']: write('Enums', 'enum', 'use denote.Enum.Laws as Enum-laws\n' + uses['enum'], blocks['enum'])

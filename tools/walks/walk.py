@@ -37,6 +37,7 @@ Statements of the MIR, on lines that begin with a colon. An operand is a local 3
   : 6 := 5 cmp 3                            a comparison                : 3 <- 3 plus ; fits FACT       plus 1
   : place 8 := 1[3] via := 5 ; FACT         local 8 points to record number _3 of the slice _1; _5 is its distance, of which FACT says that it fits
   : 9 := *8 ; EVIDENCE                      a record is read            : *8 := 4.0 ; EVIDENCE          a record is stored
+  : part 9 := 2[5..4] via 6 7 8 ; LIST FIRST END WITHIN FACT      local 9 is the part of the slice _2 from number _5 up to _4, which are FIRST and END: WITHIN says that it is one, FACT that END fits
   : reborrow 8 := 1 via 7 ; FACT            local 8 is the slice _1 once more, of which FACT says that its length fits; _7 is its place
 Calls leave a bracket open. r is the result, g-r that it fits, `said` the FACT of it. An argument is `TYPE VALUE FACT OPERAND`; `| given PROOF` shows a `requires`.
   : call CRATE::G | .. | .. -> TYPE r said. FACT                by value
@@ -44,6 +45,8 @@ Calls leave a bracket open. r is the result, g-r that it fits, `said` the FACT o
   : lend mut CRATE::G 8 LIST FACT | .. -> TYPE r zs said. FACT  as a &mut [Stream]; zs is the list that it leaves, `len` that it is as long
   : read CRATE::G | & NAME OPERAND | .. -> TYPE r said. FACT    handed a & parameter; and with `| &lent NAME LIST FACT OPERAND` lent a &mut one as a &
   : write CRATE::G | & NAME OPERAND | &mut NAME LIST FACT OPERAND | .. -> TYPE r vs said. FACT      and lent a &mut one; vs is what it leaves, len-vs that it is as long
+                            (handed a part of a & parameter: `| &part LIST FIRST END WITHIN OPERAND`, as `: part` has them; it leaves a second bracket open)
+                            (without the &: only lent one. With two &mut, in whatever order: lent both, and two names stand behind r, `-> TYPE r zs vs said.`)
                             (of a callee with two `ensures` that is handed references FACT is `(FACT) ∗ (FACT)`)
   : lands := 7 ; EVIDENCE                   where the result goes
 """
@@ -52,7 +55,7 @@ import os, re, sys
 sys.dont_write_bytecode = True
 
 from calls import Steps
-from names import IMPORTS, dash, imports, local, own, paren
+from names import IMPORTS, dash, imports, local, own, paren, taken
 
 
 class Walk(Steps):
@@ -61,7 +64,7 @@ class Walk(Steps):
         m = re.fullmatch(r'call (\S+)(.*?) -> (\S+) (\S+) (\S+)\. (.*)', text)
         if m:
             return ind + self.call(*m.groups())
-        m = re.fullmatch(r'(read|write) (\S+)(.*?) -> (\S+) (\S+) (?:(\S+) )?(\S+)\. (.*)', text)
+        m = re.fullmatch(r'(read|write) (\S+)(.*?) -> (\S+) (\S+) ((?:\S+ )*?)(\S+)\. (.*)', text)
         if m:
             return ind + self.hand(*m.groups())
         m = re.fullmatch(r'lend (mut )?(\S+) (\d+) (\S+) (\S+)(.*?) -> (\S+) (\S+) (?:(\S+) )?(\S+)\. (.*)', text)
@@ -83,6 +86,17 @@ class Walk(Steps):
             d, sl, p = m.groups()
             return (f'{ind}assigns ! (addr ! (from ! (fld ! refl (hop ! (look-in ! {self.pos(sl)} (sub ! 0 refl (whole !))) (stop !))))) {self.cell(":=", p, "(tt, tt)")} $\n'
                     f'{ind}assigns ! (agg ! (and-then ! {self.opd(p)} (and-then ! {self.opd(sl + ".1")} (no-more !)))) {self.cell(":=", d, f"(tt, (tt, (record {{ fits = {ev} .0 }}, tt)))")} $')
+        m = re.fullmatch(r'part (\d+) := (\d+)\[(\d+)\.\.(\d+)\] via (\d+) (\d+) (\d+)', body)
+        if m:
+            d, sl, i, e, p, n, r = m.groups()
+            xs, first, end, within, room = self.arguments('|' + ev)[0][0]
+            _, _, b, o, _ = self.names(self.ref(self.params[int(sl) - 1]))
+            fits = f'record {{ fits = lt-of-le-of-lt (sub-le {end} {first}) {room} }}'
+            return (f'{ind}assigns ! (bin ! {self.opd(sl + ".0")} {self.opd(i)} tt) {self.cell(":=", p, "(tt, tt)")} $\n'
+                    f'{ind}assigns ! (bin ! {self.opd(e)} {self.opd(i)} ({within} .0)) {self.cell(":=", n, f"(tt, {fits})")} $\n'
+                    f'{ind}assigns ! (addr ! (from ! (hop ! (look-cell ! {self.pos(p)} refl) (stop !)))) {self.cell(":=", r, "(tt, tt)")} $\n'
+                    f'{ind}assigns ! (agg ! (and-then ! {self.opd(r)} (and-then ! {self.opd(n)} (no-more !)))) {self.cell(":=", d, f"(tt, (tt, ({fits}, tt)))")} $\n'
+                    f'{ind}rewrite ! {self.pos(d)} (λ (m : ℕ). ‵ (fat fullShare {paren(self.ty[int(d)])} {local(d)} 0 (sliceVal ({b}, {first} + {o}) m))) (part-count {xs} {first} {end} {within}) refl $')
         last = body.startswith('last ')
         step = 'assigns-last' if last else 'assigns'
         body = body[5:] if last else body
@@ -190,8 +204,10 @@ class Walk(Steps):
         body = re.sub(r'\n\n\n+', '\n\n', body)
         f, mine = dash(self.name), f'Rattle.{self.crate}.proofs'
         head = [f'-- `{self.crate}::{self.name}` meets its contract: {self.about}', f'-- A walk of its MIR, made by tools/walks/walk.py from tools/walks/{self.crate}/{self.name}.walk: edit that. Assumes nothing.']
-        head += imports(IMPORTS, body, '') + uses + imports(own(self.crate), body, mine + '.') + self.callee_uses()
-        head += [f'use {mine}.{self.name}.Key.{{name as #{self.crate}·{f}}}', f'use {mine}.{self.name} as fn', f'use {mine}.{self.name}.Statement as stated', f'use {mine}.{self.name}.Code as code']
+        ours = imports(own(self.crate), body, mine + '.')
+        theirs = imports(own('receiver'), body, 'Rattle.receiver.proofs.', taken(uses + ours)) if self.crate != 'receiver' else []
+        head += imports(IMPORTS, body, '') + uses + theirs + ours + self.callee_uses()
+        head += [f'use {mine}.{self.name}.Key.{{name as #{dash(self.crate)}·{f}}}', f'use {mine}.{self.name} as fn', f'use {mine}.{self.name}.Statement as stated', f'use {mine}.{self.name}.Code as code']
         if 'mir′.' in body: head += [f'use {mine}.{self.name}.Code.Mir as mir′']
         return '\n'.join(head) + '\n\n' + body
 

@@ -21,9 +21,7 @@ pub fn second_lines(file: &[u8]) -> Vec<u8> {
 pub fn records(file: &[u8]) -> impl Iterator<Item = &[u8]> {
     let mut rest = file.get(1..).unwrap_or_default();
     std::iter::from_fn(move || {
-        let (length, behind) = rest.split_at_checked(2)?;
-        let length = u16::from_be_bytes([length[0], length[1]]).into();
-        let (body, behind) = behind.split_at_checked(length)?;
+        let (body, behind) = event_text::split_record(rest)?;
         rest = behind;
         Some(body)
     })

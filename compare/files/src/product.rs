@@ -23,10 +23,10 @@ pub fn run_all(words: &[String], cases: &[Case], room: &Path) -> Vec<Result<Vec<
         let mut answers = Vec::new();
         loop {
             let at = next.fetch_add(1, Ordering::Relaxed);
-            let Some(case) = cases.get(at) else {
-                return answers;
-            };
-            answers.push((at, run(words, case, &path)));
+            match cases.get(at) {
+                Some(case) => answers.push((at, run(words, case, &path))),
+                None => return answers,
+            }
         }
     };
     let worker = &worker;

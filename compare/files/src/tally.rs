@@ -144,16 +144,16 @@ impl Tally {
             has([v0, v1] == [0x0F, 0xFF], "an open with VLAN 4095");
             has(r0 >= 128, "R of 32768 or more");
         }
-        let [kind::ARRIVAL, _, ref frame @ ..] = *body else {
-            return;
+        let frame = match body {
+            [kind::ARRIVAL, _, frame @ ..] => frame,
+            _ => return,
         };
         has(frame.len() == 2000, "a frame of 2000 bytes");
         has(frame.len() == 2001, "a frame of 2001 bytes");
-        let Some((mark, mut rest)) = frame.get(12..).and_then(|rest| rest.split_at_checked(2))
-        else {
-            return;
+        let (mut mark, mut rest) = match frame.get(12..14) {
+            Some(mark) => (mark, &frame[14..]),
+            None => return,
         };
-        let mut mark = mark;
         if mark == VLAN_MARK && rest.len() >= 4 {
             let id = u16::from_be_bytes([rest[0], rest[1]]);
             has(id % 4096 == 0, "a VLAN tag with id 0");

@@ -6,31 +6,65 @@ use mathlib.Core.List.{[]}
 use native.Mathlib.Omega.{arith}
 use lib.Dec.{ltb}
 use lib.ListN.{length}
+use lib.Seq.{getD-set-same}
 use Rattle.refusal.specs.Checks.Said.{refused, answers}
-use Rattle.refusal.specs.Numbers.{TABLE}
+use Rattle.refusal.specs.Numbers.{TABLE, SETTING, TAKEN, FULL}
 use Rattle.record.specs.declared.Stream.{Stream}
 use Rattle.record.specs.Words.{if_then_else_, yes}
-use Rattle.record.specs.Sizes.{slotsMost}
+use Rattle.record.specs.Sizes.{slotsMost, vectorRule}
+use Rattle.frame.specs.Frame.{destOf}
+use Rattle.stream.specs.Record.{settled, opened}
 use Rattle.stream.specs.Decisions.{up, caseOf, verdict}
-use Rattle.calls.specs.Table.{Table, at}
-use Rattle.calls.specs.Calls.{ticking, refuse, ticks, checked, act, after, answer, swept}
-use Rattle.calls.proofs.Sound.{at-ticked}
+use Rattle.stream.proofs.Law.{law}
+use Rattle.calls.specs.Table.{Table, at, blank, search, someSlot, hasKey, isFree}
+use Rattle.calls.specs.Calls.{opening, ticking, refuse, opens, ticks, open-call, checked, act, after, answer, placed, swept}
+use Rattle.calls.proofs.Sound.{at-ticked, open-lawful, open-takes-free}
 use Rattle.demands.specs.Receiver.{Receiver, MeetsContract, theReceiver, run}
 use Rattle.demands.specs.Seen.{ResetsSeen}
 use Rattle.demands.specs.Unlimited.{highest}
-use Rattle.demands.specs.Corollaries.{handed, NeverTwice, RestartGetsThrough, CountsOnce}
+use Rattle.demands.specs.Corollaries.{handed, NeverTwice, UnlimitedNeverTwice, OpenedDecides, RestartGetsThrough, CountsOnce}
 use Rattle.demands.proofs.Alike.{carried, the-receiver-meets}
 use Rattle.demands.proofs.Once.{once}
 use Rattle.demands.proofs.Sums.{sums}
 use Rattle.demands.proofs.Told.{answered-arrival}
 use Rattle.demands.proofs.Follow.{reset-seen}
-use Rattle.demands.proofs.Three.{over, demand-3}
+use Rattle.demands.proofs.Three.{inside, over, from-fresh, demand-3}
 
 twice : NeverTwice theReceiver
 twice t i gap later indices p = rw (demand-3 the-receiver-meets t i gap later indices p) (once (at t i .window) indices [] .apart)
 
+pub unlimited-never-twice : UnlimitedNeverTwice
+unlimited-never-twice l indices = once l indices [] .apart
+
 pub never-twice : {receive : Receiver} → MeetsContract receive → NeverTwice receive
 never-twice m = carried NeverTwice twice m
+
+-- An open that is answered with a slot opens that slot, with the record that it asks for.
+is-open : (t : Table) (s : Stream) (i : ℕ) → answer t (if ltb slotsMost (length t) then refuse TABLE else open-call t s) ≡ answers (placed i)
+    → (if ltb slotsMost (length t) then refuse TABLE else open-call t s) ≡ opens i s
+unfolding open-call answer
+is-open t s i e = go (ltb slotsMost (length t)) refl (settled s) refl (someSlot (hasKey (s .dest) (s .vlan)) t) refl (someSlot isFree t) refl
+  where
+    go : (a : Bool) → ltb slotsMost (length t) ≡ a → (b : Bool) → settled s ≡ b → (c : Bool) → someSlot (hasKey (s .dest) (s .vlan)) t ≡ c
+        → (d : Bool) → someSlot isFree t ≡ d → (if ltb slotsMost (length t) then refuse TABLE else open-call t s) ≡ opens i s
+    go true q b r c u d w = let z : refused TABLE ≡ answers (placed i) = rw q at e in cc
+    go false q false r c u d w = let z : refused SETTING ≡ answers (placed i) = rw (q, r) at e in cc
+    go false q true r true u d w = let z : refused TAKEN ≡ answers (placed i) = rw (q, r, u) at e in cc
+    go false q true r false u false w = let z : refused FULL ≡ answers (placed i) = rw (q, r, u, w) at e in cc
+    go false q true r false u true w = rw (q, r, u, w) (let z : answers (placed (search isFree t)) ≡ answers (placed i) = rw (q, r, u, w) at e in cc)
+
+opened-so : OpenedDecides theReceiver
+unfolding theReceiver act checked after yes
+opened-so t dest vlan window time i later indices e p =
+    let c = opening dest vlan vectorRule window time in
+    let s = opened (destOf dest) vlan vectorRule window time in
+    let o = is-open t s i e in
+    let l = open-lawful t c i s o in
+    let z : at (after t (act t c)) i ≡ s = rw o (getD-set-same t i s blank (open-takes-free t c i s o .0)) in
+    from-fresh window (after t (act t c)) i later indices (inside (after t (act t c)) i l) (law l) (rw z refl) (rw z refl) (rw z refl) p
+
+pub opened-decides : {receive : Receiver} → MeetsContract receive → OpenedDecides receive
+opened-decides m = carried OpenedDecides opened-so m
 
 -- A record that takes any number hands it up.
 first-up : (s : Stream) (n : ℕ) → yes (s .state .any) ≡ true → verdict s n ≡ up

@@ -16,19 +16,19 @@ use Rattle.demands.proofs.Moves.{Trace}
 
 -- Where the gap ends.
 pub record Over (s u : Stream) : Type 0 where
-  pub used : yes (u .used) ≡ true
+  pub law : Law u
   pub any : yes (u .state .any) ≡ true
   pub rule : u .rule ≡ s .rule
   pub window : u .window ≡ s .window
 
 onward : (s m : Stream) → m .rule ≡ s .rule → m .window ≡ s .window → {u : Stream} → Over m u → Over s u
-onward s m r w e = record { used = e .used; any = e .any; rule = e .rule ∙ r; window = e .window ∙ w }
+onward s m r w e = record { law = e .law; any = e .any; rule = e .rule ∙ r; window = e .window ∙ w }
 
 pub gap : (s : Stream) (es : List Seen) (u : Stream) → Law s → Trace s es u → every calm es ≡ true
     → s .state .remaining ≤ ticks es → Over s u
 unfolding every ticks decided verdict
 gap s [] u l m q h =
-    rw m (record { used = l .used; any = fresh-parts (spent l (omega arith)) .any; rule = refl; window = refl })
+    rw m (record { law = l; any = fresh-parts (spent l (omega arith)) .any; rule = refl; window = refl })
 gap s (arrived n v ∷ es) u l (m, (e, (w, p)), r) q h =
     let a = simp tests at q in
     let k : stateAfter s n (caseOf s n) ≡ s .state = kept s n (caseOf s n) (ap isUp (sym e) ∙ a .0) in

@@ -4,8 +4,8 @@ use Rattle.demands.specs.Theorems.{Demands, Theorems}
 use Rattle.demands.proofs.Alike.{the-receiver-meets, runs-coincide}
 use Rattle.demands.proofs.One.{demand-1, demand-1-tags}
 use Rattle.demands.proofs.Told.{arrivals-recovered}
-use Rattle.demands.proofs.Three.{demand-3}
-use Rattle.demands.proofs.After.{never-twice, restart-gets-through, counts-once, resets-seen}
+use Rattle.demands.proofs.Three.{demand-3, fresh-decides}
+use Rattle.demands.proofs.After.{never-twice, unlimited-never-twice, opened-decides, restart-gets-through, counts-once, resets-seen}
 use Rattle.demands.proofs.Runs.{wrap-meets, bound-sharp, premises-needed}
 use Rattle.demands.proofs.Wrong.{right-otherwise, ruled-out}
 
@@ -15,6 +15,8 @@ demands m = record {
   demand-2 = m;
   demand-3 = demand-3 m;
   arrivals-recovered = arrivals-recovered m;
+  fresh-decides = fresh-decides m;
+  opened-decides = opened-decides m;
   never-twice = never-twice m;
   restart-gets-through = restart-gets-through m;
   counts-once = counts-once m;
@@ -28,6 +30,7 @@ theorems = record {
   runs-coincide = runs-coincide;
   tags-1 = λ tagger m. demand-1-tags m;
   tags-2 = λ tagger m. m;
+  unlimited-never-twice = unlimited-never-twice;
   ruled-out = ruled-out;
   right-otherwise = right-otherwise;
   wrap-meets = wrap-meets;

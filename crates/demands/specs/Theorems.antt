@@ -5,7 +5,7 @@ use Rattle.demands.specs.Demand1.{Demand1, Demand1Tags}
 use Rattle.demands.specs.Demand2.{Demand2, Demand2Tags, ArrivalsRecovered}
 use Rattle.demands.specs.Seen.{ResetsSeen}
 use Rattle.demands.specs.Demand3.{Demand3}
-use Rattle.demands.specs.Corollaries.{NeverTwice, RestartGetsThrough, CountsOnce}
+use Rattle.demands.specs.Corollaries.{NeverTwice, UnlimitedNeverTwice, FreshDecides, OpenedDecides, RestartGetsThrough, CountsOnce}
 use Rattle.demands.specs.Wrong.{RightOtherwise, RuledOut}
 use Rattle.demands.specs.Examples.{WrapMeets, BoundSharp, PremisesNeeded}
 
@@ -15,6 +15,8 @@ pub record Demands (receive : Receiver) : Type 0 where
   pub demand-2 : Demand2 receive
   pub demand-3 : Demand3 receive
   pub arrivals-recovered : ArrivalsRecovered receive
+  pub fresh-decides : FreshDecides receive
+  pub opened-decides : OpenedDecides receive
   pub never-twice : NeverTwice receive
   pub restart-gets-through : RestartGetsThrough receive
   pub counts-once : CountsOnce receive
@@ -29,6 +31,8 @@ pub record Theorems : Type 0 where
   -- the same of the two calls that have no table.
   pub tags-1 : (tagger : Tagger) → MeetsTags tagger → Demand1Tags tagger
   pub tags-2 : (tagger : Tagger) → MeetsTags tagger → Demand2Tags tagger
+  -- The receiver with unlimited memory hands no index up twice.
+  pub unlimited-never-twice : UnlimitedNeverTwice
   -- The wrong receivers of document 01 fail, and are wrong in nothing else.
   pub ruled-out : RuledOut
   pub right-otherwise : RightOtherwise

@@ -5,12 +5,12 @@ use native.Mathlib.Nat.{not-suc-le-zero, add-zero}
 use native.Mathlib.Decide.{decLt}
 use native.Mathlib.Omega.{arith}
 use mathlib.Core.Bool.{Bool, true, false, cond}
-use mathlib.Core.List.{List, [], _∷_, _++_, append-assoc, append-nil}
-use lib.ListN.{length, getD, take, drop, length-append, length-drop, length-take, List·getD-append, drop-of-length-le}
+use mathlib.Core.List.{List, [], _∷_, _++_, append-nil}
+use lib.ListN.{length, getD, take, drop, length-append, length-drop, List·getD-append, drop-of-length-le}
 use lib.Seq.{take-append-le, drop-append-le, drop-drop, getD-drop}
 use lib.Dec.{ltb, leb, eqb}
-use borrow.Author.Tests.{lt-ltb, le-ltb, le-leb, lt-leb, ltb-true, ltb-false, eq-eqb, ne-eqb}
-use Rattle.frame.specs.Bytes.{word, Bytes}
+use borrow.Author.Tests.{le-leb, lt-leb, ltb-true, ltb-false, eq-eqb, ne-eqb}
+use Rattle.frame.specs.Bytes.{word}
 use Rattle.event_file.specs.Records.{readAt, File, recordsIn, recordsOf}
 use Rattle.event_file.specs.Records.File.{ended, cut, body}
 use Rattle.event_file.specs.Laws.{EnoughSteps}
@@ -80,10 +80,6 @@ more-is s at p = go (ltb (length s) (at + 2)) (ltb (length s) (at + 2 + word s a
     go true c e f z = omega (arith, ltb-true (length s) (at + 2) e)
     go false true e f z = ltb-true (length s) (at + 2 + word s at) f
     go false false e f z = absurd (let y : _≡_ {A = ℕ} 0 1 = cc in omega arith)
-
--- a record that is not whole has less bytes than the longest
-pub more-near : (s : List ℕ) (at : ℕ) → Bytes s → More ≡ readAt s at → length s < at + 65537
-more-near s at h p = omega (arith, more-is s at p, h at, h (at + 1))
 
 -- the length bytes, whatever follows
 same-word : (s : List ℕ) (at : ℕ) (t : List ℕ) → at + 2 ≤ length s → word (drop at s ++ t) 0 ≡ word s at

@@ -61,9 +61,10 @@ fn word_at(s: &[u8], at: usize) -> u16
     high * 256 + low
 }
 
-// The record at a place.
+// The record at a place. Where none is whole, fewer than 65537 bytes are left: a body has 65535 at most.
 pub fn next(s: &[u8], at: usize) -> Read
     ensures { λ r. ⌜ r ≡ readAt (now (s .entry)) at ⌝ }
+    ensures { λ r. ⌜ (r ≡ Read.More → length (now (s .entry)) < at + 65537) ⌝ }
 {
     if s.len() < 2 {
         return Read::More;

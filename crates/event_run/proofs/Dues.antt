@@ -1,30 +1,27 @@
--- What is due stays due: a record's answer, its line, and the last line. Assumes nothing.
-use mathlib.Core.Path.{_≡_, refl, sym, ap, _∙_}
+-- What is due stays due: a record's answer and its line. Assumes nothing.
+use mathlib.Core.Path.{_≡_, refl, _∙_}
 use Prim.Native.Nat.{ℕ, _+_, _-_, _≤_, _<_}
-use native.Mathlib.Decide.{decLt}
 use native.Mathlib.Omega.{arith}
 use mathlib.Core.Bool.{Bool, true, false, _&&_}
 use mathlib.Core.List.{List, _++_, append-assoc}
-use lib.ListN.{length, take, drop, getD, length-take, List·getD-eq-default}
-use lib.Seq.{length-take-le, getD-take}
+use lib.ListN.{length, take, drop}
 use lib.Dec.{ltb, leb}
-use borrow.Author.Tests.{lt-ltb, le-ltb, le-leb, lt-leb, ltb-true, leb-true, eq-eqb, ne-eqb}
+use borrow.Author.Tests.{lt-ltb, le-ltb, le-leb, lt-leb, ltb-true, leb-true}
 use Rattle.record.specs.Words.{if_then_else_}
 use Rattle.record.specs.Sizes.{frameMost}
-use Rattle.frame.specs.Bytes.{Bytes}
 use Rattle.calls.specs.Table.{Table}
-use Rattle.event_file.specs.Records.{recordsOf, readAt}
-use Rattle.event_file.specs.Lines.{lineOf, saidTold, lastLine}
-use Rattle.event_file.specs.Buffers.{Put, Writes, lineMost}
+use Rattle.event_file.specs.Records.{readAt}
+use Rattle.event_file.specs.Lines.{lineOf, saidTold}
+use Rattle.event_file.specs.Buffers.{lineMost}
 use Rattle.event_file.specs.Files.{linesFrom}
 use Rattle.event_file.specs.declared.reader.Read.{Read}
 use Rattle.event_file.specs.declared.reader.Read.the-variants.{More, Body}
 use Rattle.event_file.specs.declared.line.Told.{Told}
-use Rattle.event_file.proofs.Framing.{Whole, whole-is, more-near, one-record, last-record}
+use Rattle.event_file.proofs.Framing.{Whole, whole-is, one-record}
 use Rattle.event_file.proofs.Writing.{front-of, writes-put}
 use Rattle.event_file.proofs.Outputs.{any-output}
 use Rattle.event_run.specs.declared.Place.{Place}
-use Rattle.event_run.specs.Run.{due, lastNumber, nextOf, Handled, Noted, Kept, Drained}
+use Rattle.event_run.specs.Run.{due, lastNumber, nextOf, Handled, Noted, Kept}
 
 -- ---- the next record that can be answered
 
@@ -44,13 +41,6 @@ module _ (p : Place) (input : List ℕ) (room : ℕ) where
   pub answerable : p .used + lineMost ≤ room → p .number < lastNumber → readAt input (p .at) ≡ nextOf p input room
   unfolding nextOf
   answerable h k = simp (le-leb _ _ h, lt-ltb _ _ k)
-
--- the last line stays within the buffer
-pub last-room : {most at r : ℕ} {new old now : List ℕ} → Writes most new at old now r → length now ≡ length old → at ≤ length old → r ≤ length now
-last-room {most} {at} {r} {new} {old} {now} w l h = elim (decLt (length old) (at + most)) [ yes p ↦ (let e : r ≡ at = rw (lt-leb _ _ p) at (w .place) in omega arith) | no p ↦ fits (omega arith) ]
-  where
-    fits : at + most ≤ length old → r ≤ length now
-    fits k = let q = writes-put most at k w in omega (arith, q .room, q .place)
 
 -- ---- one record
 
@@ -93,34 +83,3 @@ module _ (t u : Table) (p r : Place) (input old new out : List ℕ) (i j : ℕ) 
 
 pub kept-start : (t : Table) (p : Place) (input lines : List ℕ) → Kept t p input lines t p lines
 kept-start t p input lines = record { same = λ rest. refl; within = λ h. h; room = λ h. h }
-
--- ---- a buffer that is read up to a place
-
-bytes-take : (n : ℕ) (s : List ℕ) → Bytes s → Bytes (take n s)
-bytes-take n s h i = elim (decLt i n) [ yes p ↦ (let e : getD (take n s) i 0 ≡ getD s i 0 = getD-take n s i 0 p in omega (arith, h i)) | no p ↦ (let l : length (take n s) ≤ i = omega (arith, length-take n s) in omega (arith, List·getD-eq-default (take n s) 0 l)) ]
-
-pub drained-to : {t u : Table} {p r : Place} (to : ℕ) (input : List ℕ) {old new out : List ℕ} → Bytes input
-    → (p .at ≤ to) × (to ≤ length input) × (p .used ≤ length old) × (length out ≡ frameMost) → Drained t p (take to input) old out u r new
-    → ((r .at ≤ to) × (r .used ≤ length new)) × (r .used + lineMost ≤ length new → r .number < lastNumber → to < r .at + 65537)
-drained-to {t} {u} {p} {r} to input {old} {new} {out} h pre d =
-    let k = d .kept (pre .3) in
-    let l : length (take to input) ≡ to = length-take-le to input (pre .1) in
-    ((omega (arith, k .within (omega arith)), k .room (pre .2)), λ a b. omega (arith, more-near (take to input) (r .at) (bytes-take to input h) (sym (answerable r (take to input) (length new) a b ∙ d .none))))
-
--- ---- the last line
-
--- the lines written at the end are all that was due
-pub due-last : (t : Table) (p : Place) (input old new : List ℕ) (r : ℕ) → p .at ≤ length input → readAt input (p .at) ≡ More
-    → Put (lastLine (length input - p .at)) (p .used) old new r → take r new ≡ due t p old (drop (p .at) input)
-unfolding due linesFrom lastLine
-due-last t p input old new r h m f =
-    front-of f ∙ ap (λ (l : List ℕ). take (p .used) old ++ l) (elim (decLt (p .at) (length input)) [ yes q ↦ some q | no q ↦ none (omega arith) ])
-  where
-    none : length input ≡ p .at → lastLine (length input - p .at) ≡ linesFrom t (p .number) (recordsOf (drop (p .at) input))
-    none e = let z : length input - p .at ≡ 0 = omega arith in rw (last-record input (p .at) h (sym m), eq-eqb _ _ e, eq-eqb _ _ z)
-
-    some : p .at < length input → lastLine (length input - p .at) ≡ linesFrom t (p .number) (recordsOf (drop (p .at) input))
-    some q =
-        let e : (length input ≡ p .at → ⊥) = λ a. omega arith in
-        let z : (length input - p .at ≡ 0 → ⊥) = λ a. omega arith in
-        rw (last-record input (p .at) h (sym m), ne-eqb _ _ e, ne-eqb _ _ z)

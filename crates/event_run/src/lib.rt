@@ -1,10 +1,18 @@
 // An event file, read in pieces, and the lines that answer it (document 01, "Event file and the program `events`").
+use calls::Answer;
+use calls::Done;
+use calls::Opened;
+use calls::Swept;
+use event_file::line::Reply;
 use event_file::line::Told;
+use event_file::reader::Event;
 use event_file::reader::Read;
+use record::Stream;
 ghost use mathlib.Core.Path.{_≡_};
-ghost use Prim.Native.Nat.{_+_, _-_, _≤_, _<_};
+ghost use Prim.Native.Nat.{_+_, _-_, _^_, _≤_, _<_};
 ghost use lib.ListN.{length, take, drop};
-ghost use Rattle.event_run.specs.Run.{nextOf, Noted};
+ghost use Rattle.event_file.specs.Records.{eventOf, destinationOf};
+ghost use Rattle.event_run.specs.Run.{nextOf, Handled, Noted, Drained};
 
 // Where a run is: the next record's number and its place in the input, and how many bytes of lines wait.
 pub struct Place {
@@ -42,51 +50,124 @@ fn note(p: Place, end: usize, told: Told, lines: &mut [u8]) -> Place
     }
 }
 
-// Moves the bytes from a place up to another to the front, and answers how many.
-fn shift(input: &mut [u8], at: usize, to: usize) -> usize
-    requires { ⌜ (at ≤ to) × (to ≤ length (now input)) ⌝ }
-    ensures { λ r. ⌜ (r ≡ to - at) × (take r (now (input .exit)) ≡ take r (drop at (now (input .entry)))) ⌝ }
+// ---- the answer of one record, whose body stands in the input from a place up to another
+
+// What the body says.
+fn event_at(input: &[u8], start: usize, end: usize) -> Event
+    requires { ⌜ (start ≤ end) × (end ≤ length (now input)) ⌝ }
+    ensures { λ r. ⌜ r ≡ eventOf (take (end - start) (drop start (now (input .entry)))) ⌝ }
 {
-    let n = to - at;
-    let mut i = 0;
-    while i < n {
-        input[i] = input[at + i];
-        i += 1;
+    event_file::reader::decode(&input[start..end])
+}
+
+// The destination that an open asks for.
+fn destination_at(input: &[u8], start: usize, end: usize) -> [u8; 6]
+    requires { ⌜ (start ≤ end) × (end ≤ length (now input)) ⌝ }
+    ensures { λ r. ⌜ r ≡ destinationOf (take (end - start) (drop start (now (input .entry)))) ⌝ }
+{
+    event_file::reader::destination(&input[start..end])
+}
+
+// Where the frame of an arrival starts: behind the kind and the network.
+fn frame_at(start: usize) -> usize
+    requires { ⌜ start + 2 < 2 ^ 64 ⌝ }
+    ensures { λ r. ⌜ r ≡ start + 2 ⌝ }
+{
+    start + 2
+}
+
+fn tell_open(a: Opened) -> Told
+    ensures { λ r. ⌜ r ≡ Told.Answered (Reply.Open a) ⌝ }
+{
+    Told::Answered(Reply::Open(a))
+}
+
+fn tell_close(a: Done) -> Told
+    ensures { λ r. ⌜ r ≡ Told.Answered (Reply.Close a) ⌝ }
+{
+    Told::Answered(Reply::Close(a))
+}
+
+fn tell_reset(a: Done) -> Told
+    ensures { λ r. ⌜ r ≡ Told.Answered (Reply.Reset a) ⌝ }
+{
+    Told::Answered(Reply::Reset(a))
+}
+
+fn tell_arrival(a: Answer) -> Told
+    ensures { λ r. ⌜ r ≡ Told.Answered (Reply.Arrival a) ⌝ }
+{
+    Told::Answered(Reply::Arrival(a))
+}
+
+fn tell_tick(a: Swept) -> Told
+    ensures { λ r. ⌜ r ≡ Told.Answered (Reply.Tick a) ⌝ }
+{
+    Told::Answered(Reply::Tick(a))
+}
+
+// The call that the body asks for is made with the table, and its answer is told. Each arm returns by itself, so that the
+// walk of one needs nothing of the others.
+fn handle(table: &mut [Stream], input: &[u8], start: usize, end: usize, out: &mut [u8]) -> Told
+    requires { ⌜ (start ≤ end) × (end ≤ length (now input)) ⌝ }
+    ensures { λ r. ⌜ Handled (now (table .entry)) (take (end - start) (drop start (now (input .entry)))) (now (out .entry)) (now (table .exit)) r ⌝ }
+{
+    let event = event_at(input, start, end);
+    match event {
+        Event::Bad => {
+            return Told::Bad;
+        }
+        Event::Open(s) => {
+            let dest = destination_at(input, start, end);
+            let a = receiver::open(table, dest, s.vlan, s.rule, s.window, s.time);
+            return tell_open(a);
+        }
+        Event::Close(slot) => {
+            let a = receiver::close(table, slot);
+            return tell_close(a);
+        }
+        Event::Reset(slot) => {
+            let a = receiver::reset(table, slot);
+            return tell_reset(a);
+        }
+        Event::Arrival(network) => {
+            let from = frame_at(start);
+            let a = receiver::arrival(table, network, &input[from..end], out);
+            return tell_arrival(a);
+        }
+        Event::Tick => {
+            let a = receiver::tick(table);
+            return tell_tick(a);
+        }
     }
-    n
 }
 
-// Writes the first bytes of the lines. Answers whether they went out.
-fn flush(onto: i32, lines: &[u8], used: usize) -> bool
-    requires { ⌜ used ≤ length (now lines) ⌝ }
+// All records that can be answered: each is answered, and its line is noted.
+fn drain(table: &mut [Stream], p: Place, input: &[u8], lines: &mut [u8], out: &mut [u8]) -> Place
+    ensures { λ r. ⌜ Drained (now (table .entry)) p (now (input .entry)) (now (lines .entry)) (now (out .entry)) (now (table .exit)) r (now (lines .exit)) ⌝ }
 {
-    io::write_all(onto, &lines[..used])
-}
-
-// What one read brought: the place up to which the buffer is read now, and the read's answer.
-struct Piece {
-    to: usize,
-    got: isize,
-}
-
-// Reads a piece behind the bytes that are left. There is room for one, so that no byte read means the end of the input.
-fn fill(from: i32, input: &mut [u8], left: usize) -> Piece
-    requires { ⌜ left < length (now input) ⌝ }
-    ensures { λ r. ⌜ (left ≤ r .to) × (r .to ≤ length (now (input .exit))) ⌝ }
-{
-    let got = libc::read(from, &mut input[left..]);
-    let n = io::count(got, &input[left..]);
-    Piece { to: left + n, got }
-}
-
-// The last lines. After a read that failed, no `end` or `cut` is due.
-fn close(onto: i32, ended: bool, left: usize, lines: &mut [u8], used: usize)
-    requires { ⌜ used ≤ length (now lines) ⌝ }
-{
-    if ended {
-        let all = event_file::line::say_last(left, lines, used);
-        flush(onto, lines, all);
-    } else {
-        flush(onto, lines, used);
+    let mut p = p;
+    loop {
+        let Read::Body(start, end) = seek(p, input, lines.len()) else {
+            break;
+        };
+        let told = handle(table, input, start, end, out);
+        let next = note(p, end, told, lines);
+        p = next;
     }
+    p
+}
+
+// The same with a table of 8 by value: it is lent once for a whole buffer.
+pub struct Round {
+    pub table: [Stream; 8],
+    pub place: Place,
+}
+
+pub fn drain8(table: [Stream; 8], p: Place, input: &[u8], lines: &mut [u8], out: &mut [u8]) -> Round
+    ensures { λ r. ⌜ Drained table p (now (input .entry)) (now (lines .entry)) (now (out .entry)) (r .table) (r .place) (now (lines .exit)) ⌝ }
+{
+    let mut table = table;
+    let place = drain(&mut table, p, input, lines, out);
+    Round { table, place }
 }

@@ -6,5 +6,7 @@ pub mod Calling
 pub mod Again
 pub mod Lending
 pub mod Handing
+pub mod Both
+pub mod Parts
 pub mod Pieces
 pub mod Lists

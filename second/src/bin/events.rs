@@ -35,10 +35,10 @@ fn list() -> io::Result<()> {
 
 /// The variant that `--wrong N` names.
 fn variant(words: &[&str]) -> Option<&'static Variant> {
-    let ["--wrong", number] = words else {
-        return None;
+    let number: usize = match words {
+        ["--wrong", number] => number.parse().ok()?,
+        _ => return None,
     };
-    let number: usize = number.parse().ok()?;
     VARIANTS.get(number.checked_sub(1)?)
 }
 

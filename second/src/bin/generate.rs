@@ -9,9 +9,12 @@ use second::generate::file;
 fn main() -> ExitCode {
     let arguments: Vec<String> = std::env::args().skip(1).collect();
     let numbers: Vec<u64> = arguments.iter().flat_map(|a| a.parse()).collect();
-    let (2, &[seed, count]) = (arguments.len(), numbers.as_slice()) else {
-        let _ = writeln!(io::stderr(), "usage: generate SEED COUNT");
-        return ExitCode::from(2);
+    let (seed, count) = match (arguments.len(), numbers.as_slice()) {
+        (2, &[seed, count]) => (seed, count),
+        _ => {
+            let _ = writeln!(io::stderr(), "usage: generate SEED COUNT");
+            return ExitCode::from(2);
+        }
     };
     let mut out = io::stdout().lock();
     let written = out.write_all(&file(seed, count));

@@ -5,8 +5,9 @@ use crate::{SOURCE, TAG_MARK, TYPE, VERSION, VLAN_MARK};
 
 /// Turns any bytes into a text that `encode` turns into the same bytes.
 pub fn decode(file: &[u8]) -> String {
-    let Some((&version, mut rest)) = file.split_first() else {
-        return "empty\n".into();
+    let (version, mut rest) = match file {
+        [version, rest @ ..] => (*version, rest),
+        [] => return "empty\n".into(),
     };
     let mut lines = Lines::default();
     if version != VERSION {
@@ -29,9 +30,16 @@ pub fn decode(file: &[u8]) -> String {
     lines.text
 }
 
-fn split_record(file: &[u8]) -> Option<(&[u8], &[u8])> {
-    let (length, rest) = file.split_at_checked(2)?;
-    rest.split_at_checked(u16::from_be_bytes([length[0], length[1]]).into())
+/// The body of the record that bytes behind the version byte begin with, and
+/// what follows it; nothing, if the record is not whole.
+pub fn split_record(bytes: &[u8]) -> Option<(&[u8], &[u8])> {
+    let (length, rest) = split(bytes, 2)?;
+    split(rest, u16::from_be_bytes([length[0], length[1]]).into())
+}
+
+/// The first bytes and those behind them, if there are so many.
+fn split(bytes: &[u8], length: usize) -> Option<(&[u8], &[u8])> {
+    Some((bytes.get(..length)?, &bytes[length..]))
 }
 
 #[derive(Default)]
@@ -125,7 +133,7 @@ impl Lines {
 /// The parts of a frame that has them all; a frame that lacks one is written as
 /// a raw body.
 fn parse(bytes: &[u8]) -> Option<Frame> {
-    let (addresses, mut rest) = bytes.split_at_checked(12)?;
+    let (addresses, mut rest) = split(bytes, 12)?;
     let mut tci = None;
     if rest.starts_with(&VLAN_MARK) {
         tci = Some(u16::from_be_bytes([*rest.get(2)?, *rest.get(3)?]));
@@ -133,12 +141,12 @@ fn parse(bytes: &[u8]) -> Option<Frame> {
     }
     let mut tag = None;
     if rest.starts_with(&TAG_MARK) {
-        let (bytes, behind) = rest.split_at_checked(6)?;
+        let (bytes, behind) = split(rest, 6)?;
         let number = u16::from_be_bytes([bytes[4], bytes[5]]);
         tag = Some(([bytes[2], bytes[3]], number));
         rest = behind;
     }
-    let (kind, data) = rest.split_at_checked(2)?;
+    let (kind, data) = split(rest, 2)?;
     Some(Frame {
         to: addresses[..6].try_into().ok()?,
         from: addresses[6..].try_into().ok()?,

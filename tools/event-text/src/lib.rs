@@ -28,7 +28,7 @@
 mod decode;
 mod encode;
 
-pub use decode::decode;
+pub use decode::{decode, split_record};
 pub use encode::{encode, Encoded, Fault};
 
 /// The version byte of document 01.

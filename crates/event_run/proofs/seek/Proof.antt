@@ -19,7 +19,7 @@ next-requires : tie.Need-next-requires
 next-requires c κs = search needs
 
 returns-4 : tie.Need-returns-4
-returns-4 c = c .next .ensures ∙ answerable _ _ _ (omega arith) (omega arith)
+returns-4 c = c .next .ensures .0 ∙ answerable _ _ _ (omega arith) (omega arith)
 
 pub seek-spec : {M : Type 1} → statement M
 seek-spec = tie.close (tie.spec returns returns-2 returns-3 next-requires returns-4)

@@ -39,14 +39,14 @@ use Rattle.record.specs.declared.Stream.{Stream}
 use Rattle.calls.specs.declared.Opened.{Opened}
 use Rattle.calls.specs.Calls.{opening, Meets as CallMeets}
 use Rattle.calls.specs.Said.{saidOpened}
-use Rattle.receiver.proofs.Rows.{R}
-use Rattle.receiver.proofs.Calling.{calls-value, calls-with}
-use Rattle.receiver.proofs.Lending.{calls-mut, mut-own}
-use Rattle.receiver.proofs.Handing.{owns-slice}
-use Rattle.receiver.proofs.Values.{Six, six-row, six-val, six-tells, six-typed, six-has}
-use Rattle.receiver.proofs.Enums.{opened-val, opened-tells, opened-typed, opened-has}
 use Rattle.port.specs.declared.SlotAnswer.{SlotAnswer}
 use Rattle.port.specs.Answers.{tellOpened, Told}
+use Rattle.receiver.proofs.Calling.{calls-value, calls-with}
+use Rattle.receiver.proofs.Enums.{opened-val, opened-tells, opened-typed, opened-has}
+use Rattle.receiver.proofs.Handing.{owns-slice}
+use Rattle.receiver.proofs.Lending.{mut-own, calls-mut}
+use Rattle.receiver.proofs.Rows.{R}
+use Rattle.receiver.proofs.Values.{Six, six-row, six-val, six-tells, six-typed, six-has}
 use Rattle.port.proofs.Answers.{meets-told}
 use Rattle.port.proofs.Values.{slotanswer-val, slotanswer-tells, slotanswer-ok, slotanswer-typed, slotanswer-has}
 use Rattle.port.proofs.six_of as fn-six-of
@@ -126,10 +126,10 @@ module _ {M : Type 1} (𝓤 : URA M) (H : Heap 𝓤) (A : Atoms 𝓤) (W : Given
         assigns ! (agg ! (and-then ! (load ! (from ! (stop !)) (look-cell ! 7 refl)) (and-then ! (load ! (from ! (fld ! refl (stop !))) (look-in ! 23 (sub ! 1 refl (whole !)))) (no-more !)))) (from ! (stop !)) (init ! 5 refl (tt, (tt, (record { fits = g-ys .0 }, tt)))) $
         calls-mut {𝓤 = 𝓤} {H = H} {A = A} ! fm R ys b o g-ys fn-open.ended (fn-open.clauses 𝓤 H A mem run) (known .open′) (λ ν δ. (((ν ∷ [], tt), (fullShare, tt), tt, (record { ptr = (b, o); name = δ; now = ys }, (d, (vlan, (rule, (window, (time, tt)))))), (sliceVal (b, o) (length ys) ∷ [], (six-val d ∷ [], (vint w16 vlan ∷ [], (vint w8 rule ∷ [], (vint w16 window ∷ [], (vint w16 time ∷ [], tt))))))), tt)) (λ ν δ. qed W (‵ (flft (ν ∷ []) fullShare) ∷ ‵ (mut-own R b o ν δ ys) ∷ []) ∵ nothing ! $ move ! (1 ∷ 0 ∷ []) $ join ! $ move ! (1 ∷ []) $ nothing ! $ owned ! u16 (Is u16) (uint-makes 𝓤 H A W w16) time _ (refl, g-time) $ fjoin ! $ owned ! u16 (Is u16) (uint-makes 𝓤 H A W w16) window _ (refl, g-window) $ fjoin ! $ owned ! u8 (Is u8) (uint-makes 𝓤 H A W w8) rule _ (refl, g-rule) $ fjoin ! $ owned ! u16 (Is u16) (uint-makes 𝓤 H A W w16) vlan _ (refl, g-vlan) $ fjoin ! $ six-has ! d g-d $ fjoin ! $ move ! (1 ∷ 0 ∷ []) $ fjoin ! $ move ! (1 ∷ 0 ∷ []) $ join ! $ frame ! $ done !) (λ ν δ. fst∗ 𝓤 _ (emp 𝓤)) (λ ν δ. opened-val) (λ ν δ a vs p. opened-tells a vs p) (λ ν δ ws. ws .0) (λ ν δ ws. fst∗ 𝓤 (sem 𝓤 H A (fsep (finally R δ (ws .0)) (feq ℕ (length (ws .0)) (length ys)))) (sem 𝓤 H A (fsep ftrue (fsep ftrue (fsep ftrue (fsep ftrue (fsep ftrue ftrue))))))) (λ ν δ (a : Opened) (zs : List Stream). CallMeets ys (opening d vlan rule window time) (record { said = saidOpened a; table = zs; output = [] })) (λ ν δ a ws. id⊢ 𝓤 _) (λ ν δ. (and-then ! (load ! (from ! (stop !)) (look-cell ! 4 refl)) (and-then ! (load ! (from ! (stop !)) (look-cell ! 10 refl)) (and-then ! (load ! (from ! (stop !)) (look-cell ! 18 refl)) (and-then ! (load ! (from ! (stop !)) (look-cell ! 16 refl)) (and-then ! (load ! (from ! (stop !)) (look-cell ! 14 refl)) (and-then ! (load ! (from ! (stop !)) (look-cell ! 12 refl)) (no-more !)))))))) (λ ν δ a zs g-a len said.
         land ! (from ! (stop !)) (init ! 9 refl (opened-typed 𝓤 H A W a g-a)) $
-        calls-value {𝓤 = 𝓤} {H = H} {A = A} ! fm fn-tell-opened.ended (fn-tell-opened.clauses 𝓤 H A mem run) (known .tell-opened′) ((tt, tt, tt, (a, tt), (opened-val a ∷ [], tt)), tt) (qed W [] ∵ nothing ! $ opened-has ! a g-a $ fjoin ! $ nothing ! $ join ! $ frame ! $ done !) slotanswer-val (λ r vs p. slotanswer-tells r vs p) (λ (r : SlotAnswer). r ≡ tellOpened (saidOpened a)) (λ r ws. id⊢ 𝓤 _) (and-then ! (load ! (from ! (stop !)) (look-cell ! 10 refl)) (no-more !)) (λ r g-r told.
+        calls-value {𝓤 = 𝓤} {H = H} {A = A} ! fm fn-tell-opened.ended (fn-tell-opened.clauses 𝓤 H A mem run) (known .tell-opened′) ((tt, tt, tt, (a, tt), (opened-val a ∷ [], tt)), tt) (qed W [] ∵ nothing ! $ opened-has ! a g-a $ fjoin ! $ nothing ! $ join ! $ frame ! $ done !) slotanswer-val (λ r vs p. slotanswer-tells r vs p) (λ (r : SlotAnswer). r ≡ tellOpened (saidOpened a)) (λ r ws. id⊢ 𝓤 _) (and-then ! (load ! (from ! (stop !)) (look-cell ! 10 refl)) (no-more !)) (λ r g-r heard.
         land ! (from ! (stop !)) (init ! 25 refl (slotanswer-typed 𝓤 H A W r g-r)) $
         returns ! (look-cell ! 25 refl) $ forget ! 25 refl $ forget ! 23 refl $ forget ! 21 refl $ forget ! 19 refl $ forget ! 17 refl $ forget ! 15 refl $ forget ! 13 refl $ forget ! 11 refl $ forget ! 9 refl $ forget ! 7 refl $ forget ! 5 refl $
-        move ! (25 ∷ 26 ∷ []) $ free1 ! $ move ! (23 ∷ 24 ∷ []) $ free1 ! $ move ! (21 ∷ 22 ∷ []) $ free1 ! $ move ! (19 ∷ 20 ∷ []) $ free1 ! $ move ! (17 ∷ 18 ∷ []) $ free1 ! $ move ! (15 ∷ 16 ∷ []) $ free1 ! $ move ! (13 ∷ 14 ∷ []) $ free1 ! $ move ! (11 ∷ 12 ∷ []) $ free1 ! $ move ! (9 ∷ 10 ∷ []) $ free1 ! $ move ! (7 ∷ 8 ∷ []) $ free1 ! $ move ! (5 ∷ 6 ∷ []) $ free1 ! $ free0 ! $ keep ! (0 ∷ 1 ∷ 2 ∷ 4 ∷ []) $ by ! (exits g-ys zs len r g-r (subst (λ (e : Six). Told tellOpened ys (opening e vlan rule window time) r zs []) copied (meets-told tellOpened ys (opening d vlan rule window time) said told)))))))))))))))))
+        move ! (25 ∷ 26 ∷ []) $ free1 ! $ move ! (23 ∷ 24 ∷ []) $ free1 ! $ move ! (21 ∷ 22 ∷ []) $ free1 ! $ move ! (19 ∷ 20 ∷ []) $ free1 ! $ move ! (17 ∷ 18 ∷ []) $ free1 ! $ move ! (15 ∷ 16 ∷ []) $ free1 ! $ move ! (13 ∷ 14 ∷ []) $ free1 ! $ move ! (11 ∷ 12 ∷ []) $ free1 ! $ move ! (9 ∷ 10 ∷ []) $ free1 ! $ move ! (7 ∷ 8 ∷ []) $ free1 ! $ move ! (5 ∷ 6 ∷ []) $ free1 ! $ free0 ! $ keep ! (0 ∷ 1 ∷ 2 ∷ 4 ∷ []) $ by ! (exits g-ys zs len r g-r (subst (λ (e : Six). Told tellOpened ys (opening e vlan rule window time) r zs []) copied (meets-told tellOpened ys (opening d vlan rule window time) said heard)))))))))))))))))
 
 pub nippitsun-open-spec : {M : Type 1} → stated.statement M
 unfolding code.routine tablesOf

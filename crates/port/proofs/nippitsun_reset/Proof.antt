@@ -39,12 +39,12 @@ use Rattle.record.specs.declared.Stream.{Stream}
 use Rattle.calls.specs.declared.Done.{Done}
 use Rattle.calls.specs.Calls.{resetting, Meets as CallMeets}
 use Rattle.calls.specs.Said.{saidDone}
-use Rattle.receiver.proofs.Rows.{R, enters-mut}
-use Rattle.receiver.proofs.Calling.{calls-value}
-use Rattle.receiver.proofs.Lending.{calls-mut, mut-own}
-use Rattle.receiver.proofs.Handing.{owns-slice}
-use Rattle.receiver.proofs.Enums.{done-val, done-tells, done-typed, done-has}
 use Rattle.port.specs.Answers.{tellDone, Told}
+use Rattle.receiver.proofs.Calling.{calls-value}
+use Rattle.receiver.proofs.Enums.{done-val, done-tells, done-typed, done-has}
+use Rattle.receiver.proofs.Handing.{owns-slice}
+use Rattle.receiver.proofs.Lending.{mut-own, calls-mut}
+use Rattle.receiver.proofs.Rows.{R, enters-mut}
 use Rattle.port.proofs.Answers.{meets-told}
 use Rattle.receiver.proofs.reset as fn-reset
 use Rattle.receiver.proofs.reset.Symbol as fn-reset-def
@@ -113,10 +113,10 @@ module _ {M : Type 1} (𝓤 : URA M) (H : Heap 𝓤) (A : Atoms 𝓤) (W : Given
         assigns ! (agg ! (and-then ! (load ! (from ! (stop !)) (look-cell ! 5 refl)) (and-then ! (load ! (from ! (fld ! refl (stop !))) (look-in ! 11 (sub ! 1 refl (whole !)))) (no-more !)))) (from ! (stop !)) (init ! 3 refl (tt, (tt, (record { fits = g-ys .0 }, tt)))) $
         calls-mut {𝓤 = 𝓤} {H = H} {A = A} ! fm R ys b o g-ys fn-reset.ended (fn-reset.clauses 𝓤 H A mem run) (known .reset′) (λ ν δ. (((ν ∷ [], tt), (fullShare, tt), tt, (record { ptr = (b, o); name = δ; now = ys }, (slot, tt)), (sliceVal (b, o) (length ys) ∷ [], (vint w64 slot ∷ [], tt))), tt)) (λ ν δ. qed W (‵ (flft (ν ∷ []) fullShare) ∷ ‵ (mut-own R b o ν δ ys) ∷ []) ∵ nothing ! $ move ! (1 ∷ 0 ∷ []) $ join ! $ move ! (1 ∷ []) $ nothing ! $ owned ! usize (Is usize) (uint-makes 𝓤 H A W w64) slot _ (refl, g-slot) $ fjoin ! $ move ! (1 ∷ 0 ∷ []) $ fjoin ! $ move ! (1 ∷ 0 ∷ []) $ join ! $ frame ! $ done !) (λ ν δ. fst∗ 𝓤 _ (emp 𝓤)) (λ ν δ. done-val) (λ ν δ a vs p. done-tells a vs p) (λ ν δ ws. ws .0) (λ ν δ ws. fst∗ 𝓤 (sem 𝓤 H A (fsep (finally R δ (ws .0)) (feq ℕ (length (ws .0)) (length ys)))) (sem 𝓤 H A (fsep ftrue ftrue))) (λ ν δ (a : Done) (zs : List Stream). CallMeets ys (resetting slot) (record { said = saidDone a; table = zs; output = [] })) (λ ν δ a ws. id⊢ 𝓤 _) (λ ν δ. (and-then ! (load ! (from ! (stop !)) (look-cell ! 2 refl)) (and-then ! (load ! (from ! (stop !)) (look-cell ! 8 refl)) (no-more !)))) (λ ν δ a zs g-a len said.
         land ! (from ! (stop !)) (init ! 7 refl (done-typed 𝓤 H A W a g-a)) $
-        calls-value {𝓤 = 𝓤} {H = H} {A = A} ! fm fn-tell-done.ended (fn-tell-done.clauses 𝓤 H A mem run) (known .tell-done′) ((tt, tt, tt, (a, tt), (done-val a ∷ [], tt)), tt) (qed W [] ∵ nothing ! $ done-has ! a g-a $ fjoin ! $ nothing ! $ join ! $ frame ! $ done !) (vint w8) (λ r vs p. uint-tells w8 r vs p) (λ (r : ℕ). r ≡ tellDone (saidDone a)) (λ r ws. id⊢ 𝓤 _) (and-then ! (load ! (from ! (stop !)) (look-cell ! 8 refl)) (no-more !)) (λ r g-r told.
+        calls-value {𝓤 = 𝓤} {H = H} {A = A} ! fm fn-tell-done.ended (fn-tell-done.clauses 𝓤 H A mem run) (known .tell-done′) ((tt, tt, tt, (a, tt), (done-val a ∷ [], tt)), tt) (qed W [] ∵ nothing ! $ done-has ! a g-a $ fjoin ! $ nothing ! $ join ! $ frame ! $ done !) (vint w8) (λ r vs p. uint-tells w8 r vs p) (λ (r : ℕ). r ≡ tellDone (saidDone a)) (λ r ws. id⊢ 𝓤 _) (and-then ! (load ! (from ! (stop !)) (look-cell ! 8 refl)) (no-more !)) (λ r g-r heard.
         land ! (from ! (stop !)) (init ! 13 refl (tt, record { fits = g-r .1 })) $
         returns ! (look-cell ! 13 refl) $ forget ! 13 refl $ forget ! 11 refl $ forget ! 9 refl $ forget ! 7 refl $ forget ! 5 refl $ forget ! 3 refl $
-        move ! (13 ∷ 14 ∷ []) $ free1 ! $ move ! (11 ∷ 12 ∷ []) $ free1 ! $ move ! (9 ∷ 10 ∷ []) $ free1 ! $ move ! (7 ∷ 8 ∷ []) $ free1 ! $ move ! (5 ∷ 6 ∷ []) $ free1 ! $ move ! (3 ∷ 4 ∷ []) $ free1 ! $ free0 ! $ keep ! (0 ∷ 1 ∷ 2 ∷ []) $ by ! (exits g-ys zs len r (g-r .1) (meets-told tellDone ys (resetting slot) said told))))))))))
+        move ! (13 ∷ 14 ∷ []) $ free1 ! $ move ! (11 ∷ 12 ∷ []) $ free1 ! $ move ! (9 ∷ 10 ∷ []) $ free1 ! $ move ! (7 ∷ 8 ∷ []) $ free1 ! $ move ! (5 ∷ 6 ∷ []) $ free1 ! $ move ! (3 ∷ 4 ∷ []) $ free1 ! $ free0 ! $ keep ! (0 ∷ 1 ∷ 2 ∷ []) $ by ! (exits g-ys zs len r (g-r .1) (meets-told tellDone ys (resetting slot) said heard))))))))))
 
 pub nippitsun-reset-spec : {M : Type 1} → stated.statement M
 unfolding code.routine tablesOf

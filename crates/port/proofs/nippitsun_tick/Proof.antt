@@ -35,13 +35,13 @@ use Rattle.record.specs.declared.Stream.{Stream}
 use Rattle.calls.specs.declared.Swept.{Swept}
 use Rattle.calls.specs.Calls.{ticking, Meets as CallMeets}
 use Rattle.calls.specs.Said.{saidSwept}
-use Rattle.receiver.proofs.Rows.{R, enters-mut}
-use Rattle.receiver.proofs.Calling.{calls-value}
-use Rattle.receiver.proofs.Lending.{calls-mut, mut-own}
-use Rattle.receiver.proofs.Handing.{owns-slice}
-use Rattle.receiver.proofs.Enums.{swept-val, swept-tells, swept-typed, swept-has}
 use Rattle.port.specs.declared.TickAnswer.{TickAnswer}
 use Rattle.port.specs.Answers.{tellSwept, Told}
+use Rattle.receiver.proofs.Calling.{calls-value}
+use Rattle.receiver.proofs.Enums.{swept-val, swept-tells, swept-typed, swept-has}
+use Rattle.receiver.proofs.Handing.{owns-slice}
+use Rattle.receiver.proofs.Lending.{mut-own, calls-mut}
+use Rattle.receiver.proofs.Rows.{R, enters-mut}
 use Rattle.port.proofs.Answers.{meets-told}
 use Rattle.port.proofs.Values.{tickanswer-val, tickanswer-tells, tickanswer-ok, tickanswer-typed, tickanswer-has}
 use Rattle.receiver.proofs.tick as fn-tick
@@ -111,10 +111,10 @@ module _ {M : Type 1} (𝓤 : URA M) (H : Heap 𝓤) (A : Atoms 𝓤) (W : Given
         assigns ! (agg ! (and-then ! (load ! (from ! (stop !)) (look-cell ! 5 refl)) (and-then ! (load ! (from ! (fld ! refl (stop !))) (look-in ! 9 (sub ! 1 refl (whole !)))) (no-more !)))) (from ! (stop !)) (init ! 3 refl (tt, (tt, (record { fits = g-ys .0 }, tt)))) $
         calls-mut {𝓤 = 𝓤} {H = H} {A = A} ! fm R ys b o g-ys fn-tick.ended (fn-tick.clauses 𝓤 H A mem run) (known .tick′) (λ ν δ. (((ν ∷ [], tt), (fullShare, tt), tt, (record { ptr = (b, o); name = δ; now = ys }, tt), (sliceVal (b, o) (length ys) ∷ [], tt)), tt)) (λ ν δ. qed W (‵ (flft (ν ∷ []) fullShare) ∷ ‵ (mut-own R b o ν δ ys) ∷ []) ∵ nothing ! $ move ! (1 ∷ 0 ∷ []) $ join ! $ move ! (1 ∷ []) $ nothing ! $ move ! (1 ∷ 0 ∷ []) $ fjoin ! $ move ! (1 ∷ 0 ∷ []) $ join ! $ frame ! $ done !) (λ ν δ. fst∗ 𝓤 _ (emp 𝓤)) (λ ν δ. swept-val) (λ ν δ a vs p. swept-tells a vs p) (λ ν δ ws. ws .0) (λ ν δ ws. fst∗ 𝓤 (sem 𝓤 H A (fsep (finally R δ (ws .0)) (feq ℕ (length (ws .0)) (length ys)))) (sem 𝓤 H A (ftrue))) (λ ν δ (a : Swept) (zs : List Stream). CallMeets ys ticking (record { said = saidSwept a; table = zs; output = [] })) (λ ν δ a ws. id⊢ 𝓤 _) (λ ν δ. (and-then ! (load ! (from ! (stop !)) (look-cell ! 2 refl)) (no-more !))) (λ ν δ a zs g-a len said.
         land ! (from ! (stop !)) (init ! 7 refl (swept-typed 𝓤 H A W a g-a)) $
-        calls-value {𝓤 = 𝓤} {H = H} {A = A} ! fm fn-tell-swept.ended (fn-tell-swept.clauses 𝓤 H A mem run) (known .tell-swept′) ((tt, tt, tt, (a, tt), (swept-val a ∷ [], tt)), tt) (qed W [] ∵ nothing ! $ swept-has ! a g-a $ fjoin ! $ nothing ! $ join ! $ frame ! $ done !) tickanswer-val (λ r vs p. tickanswer-tells r vs p) (λ (r : TickAnswer). r ≡ tellSwept (saidSwept a)) (λ r ws. id⊢ 𝓤 _) (and-then ! (load ! (from ! (stop !)) (look-cell ! 8 refl)) (no-more !)) (λ r g-r told.
+        calls-value {𝓤 = 𝓤} {H = H} {A = A} ! fm fn-tell-swept.ended (fn-tell-swept.clauses 𝓤 H A mem run) (known .tell-swept′) ((tt, tt, tt, (a, tt), (swept-val a ∷ [], tt)), tt) (qed W [] ∵ nothing ! $ swept-has ! a g-a $ fjoin ! $ nothing ! $ join ! $ frame ! $ done !) tickanswer-val (λ r vs p. tickanswer-tells r vs p) (λ (r : TickAnswer). r ≡ tellSwept (saidSwept a)) (λ r ws. id⊢ 𝓤 _) (and-then ! (load ! (from ! (stop !)) (look-cell ! 8 refl)) (no-more !)) (λ r g-r heard.
         land ! (from ! (stop !)) (init ! 11 refl (tickanswer-typed 𝓤 H A W r g-r)) $
         returns ! (look-cell ! 11 refl) $ forget ! 11 refl $ forget ! 9 refl $ forget ! 7 refl $ forget ! 5 refl $ forget ! 3 refl $
-        move ! (11 ∷ 12 ∷ []) $ free1 ! $ move ! (9 ∷ 10 ∷ []) $ free1 ! $ move ! (7 ∷ 8 ∷ []) $ free1 ! $ move ! (5 ∷ 6 ∷ []) $ free1 ! $ move ! (3 ∷ 4 ∷ []) $ free1 ! $ free0 ! $ keep ! (0 ∷ 1 ∷ 2 ∷ []) $ by ! (exits g-ys zs len r g-r (meets-told tellSwept ys ticking said told)))))))))
+        move ! (11 ∷ 12 ∷ []) $ free1 ! $ move ! (9 ∷ 10 ∷ []) $ free1 ! $ move ! (7 ∷ 8 ∷ []) $ free1 ! $ move ! (5 ∷ 6 ∷ []) $ free1 ! $ move ! (3 ∷ 4 ∷ []) $ free1 ! $ free0 ! $ keep ! (0 ∷ 1 ∷ 2 ∷ []) $ by ! (exits g-ys zs len r g-r (meets-told tellSwept ys ticking said heard)))))))))
 
 pub nippitsun-tick-spec : {M : Type 1} → stated.statement M
 unfolding code.routine tablesOf

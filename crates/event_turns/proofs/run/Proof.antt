@@ -1,0 +1,29 @@
+-- `event_turns::run` meets its contract: the buffers are long enough. Assumes nothing.
+use borrow.Author.Needs.{needs}
+use Rattle.event_turns.proofs.run.Statement.{statement}
+use Rattle.event_turns.proofs.run.Tie as tie
+
+slice-aggregate-serve : tie.Need-slice-aggregate-serve
+slice-aggregate-serve c = search needs
+
+slice-aggregate-serve-2 : tie.Need-slice-aggregate-serve-2
+slice-aggregate-serve-2 c = search needs
+
+slice-aggregate-serve-3 : tie.Need-slice-aggregate-serve-3
+slice-aggregate-serve-3 c = search needs
+
+serve-requires : tie.Need-serve-requires
+serve-requires c κs = (search needs, search needs, search needs)
+
+returns : tie.Need-returns
+returns c = search needs
+
+pub run-spec : {M : Type 1} → statement M
+run-spec =
+    tie.close
+    (tie.spec
+    slice-aggregate-serve
+    slice-aggregate-serve-2
+    slice-aggregate-serve-3
+    serve-requires
+    returns)

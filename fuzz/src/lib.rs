@@ -1,0 +1,206 @@
+//! The harness for libFuzzer: an input is a run of calls, and each call is made on the compiled product and on the second
+//! program. Answers, whole tables and whole outputs must be the same after each. The second program is built with the
+//! fuzzer's counters in it, so its branches guide the fuzzer.
+//!
+//! An input is an event file (document 01, "Event file and the program `events`"), read as `events` reads it, so every event
+//! file is a seed. A first byte other than 1 is no end but the number of slots, and five kinds are added for what `events`
+//! can't reach:
+//!
+//! | kind | body |
+//! |---|---|
+//! | 240 arrival with less room | room 2, network 1, frame |
+//! | 241 write a tag | room 2, number 2, frame |
+//! | 242 take a tag out | room 2, frame |
+//! | 243 set a record | slot 1, its 96 bytes as they lie in memory, low bytes first |
+//! | 244 change one byte of a record | slot 1, place 1, value 1 |
+
+use compare::{Call, Product, Second, Settings, Side};
+use nippitsun::{Counts, State, Stream};
+use second::event_file::kind;
+
+const LESS_ROOM: u8 = 240;
+const WRITE_TAG: u8 = 241;
+const TAKE_TAG: u8 = 242;
+const SET_RECORD: u8 = 243;
+const CHANGE_RECORD: u8 = 244;
+
+/// Bytes of a record.
+const RECORD: usize = std::mem::size_of::<Stream>();
+
+/// Slots of `events`, which the version byte stands for.
+const EVENTS_SLOTS: usize = 8;
+
+/// One slot more than a table may have, so that refusal 1 is met.
+const SLOTS_TRIED: usize = Stream::SLOTS_MOST + 1;
+
+/// The comparison takes this destination for one of more than six bytes. So no record has it here, nor one beyond it.
+const STAND_IN: [u8; 6] = [0xFF; 6];
+
+fn from_bytes(b: &[u8; RECORD]) -> Stream {
+    let two = |at: usize| u16::from_le_bytes([b[at], b[at + 1]]);
+    let eight = |at: usize| u64::from_le_bytes(b[at..at + 8].try_into().expect("eight bytes"));
+    Stream {
+        dest: eight(0),
+        vlan: two(8),
+        window: two(10),
+        time: two(12),
+        rule: b[14],
+        used: b[15],
+        state: State {
+            history: eight(16),
+            anchor: two(24),
+            remaining: two(26),
+            any: b[28],
+        },
+        counts: Counts {
+            arrivals0: eight(32),
+            arrivals1: eight(40),
+            passed: eight(48),
+            discarded: eight(56),
+            rogue: eight(64),
+            disorder: eight(72),
+            lost: eight(80),
+            resets: eight(88),
+        },
+    }
+}
+
+/// The record with one of its bytes changed.
+fn changed(s: Stream, place: usize, value: u8) -> Stream {
+    let mut b = [0; RECORD];
+    b[0..8].copy_from_slice(&s.dest.to_le_bytes());
+    b[8..10].copy_from_slice(&s.vlan.to_le_bytes());
+    b[10..12].copy_from_slice(&s.window.to_le_bytes());
+    b[12..14].copy_from_slice(&s.time.to_le_bytes());
+    b[14] = s.rule;
+    b[15] = s.used;
+    b[16..24].copy_from_slice(&s.state.history.to_le_bytes());
+    b[24..26].copy_from_slice(&s.state.anchor.to_le_bytes());
+    b[26..28].copy_from_slice(&s.state.remaining.to_le_bytes());
+    b[28] = s.state.any;
+    let c = s.counts;
+    let counts = [
+        c.arrivals0,
+        c.arrivals1,
+        c.passed,
+        c.discarded,
+        c.rogue,
+        c.disorder,
+        c.lost,
+        c.resets,
+    ];
+    for (place, count) in b[32..].chunks_exact_mut(8).zip(counts) {
+        place.copy_from_slice(&count.to_le_bytes());
+    }
+    b[place % RECORD] = value;
+    from_bytes(&b)
+}
+
+/// A body as the room for its output and the call; none, where `events` would find it bad and where it is no call.
+fn call_of(body: &[u8]) -> Option<(usize, Call<'_>)> {
+    let all = Stream::FRAME_MOST;
+    let two = |high, low| u16::from_be_bytes([high, low]);
+    let room = |high, low| usize::from(two(high, low)).min(all);
+    Some(match *body {
+        [kind::OPEN, d0, d1, d2, d3, d4, d5, v0, v1, rule, window, r0, r1] => {
+            let destination = [d0, d1, d2, d3, d4, d5];
+            if destination == STAND_IN {
+                return None;
+            }
+            let settings = Settings {
+                destination,
+                vlan: two(v0, v1),
+                rule,
+                window: window.into(),
+                time: two(r0, r1),
+            };
+            (all, Call::Open(settings))
+        }
+        [kind::CLOSE, slot] => (all, Call::Close(slot.into())),
+        [kind::RESET, slot] => (all, Call::Reset(slot.into())),
+        [kind::ARRIVAL, network, ref frame @ ..] => (all, Call::Arrival { network, frame }),
+        [kind::TICK] => (all, Call::Tick),
+        [LESS_ROOM, r0, r1, network, ref frame @ ..] => {
+            (room(r0, r1), Call::Arrival { network, frame })
+        }
+        [WRITE_TAG, r0, r1, n0, n1, ref frame @ ..] => {
+            let number = two(n0, n1);
+            (room(r0, r1), Call::WriteTag { frame, number })
+        }
+        [TAKE_TAG, r0, r1, ref frame @ ..] => (room(r0, r1), Call::TakeTag { frame }),
+        _ => return None,
+    })
+}
+
+/// A body that writes to a slot, as the owner of a table may: the slot and its new record.
+fn written(product: &Product, slots: usize, body: &[u8]) -> Option<(usize, Stream)> {
+    let (slot, record) = match *body {
+        [SET_RECORD, slot, ref bytes @ ..] => (slot, from_bytes(bytes.try_into().ok()?)),
+        [CHANGE_RECORD, slot, place, value] if usize::from(slot) < slots => {
+            let before = product.record(slot.into());
+            (slot, changed(before, place.into(), value))
+        }
+        _ => return None,
+    };
+    let known = record.dest < nippitsun::dest_of(STAND_IN);
+    (usize::from(slot) < slots && known).then_some((slot.into(), record))
+}
+
+fn run(input: &[u8]) {
+    let (first, mut rest) = match input {
+        [first, rest @ ..] => (*first, rest),
+        [] => return,
+    };
+    let slots = match first {
+        second::event_file::VERSION => EVENTS_SLOTS,
+        other => usize::from(other) % (SLOTS_TRIED + 1),
+    };
+    let free = vec![Stream::default(); slots];
+    let (mut product, mut second) = (Product::new(&free), Second::new(&free));
+    let mut outs = [[0; Stream::FRAME_MOST]; 2];
+    while let [high, low, behind @ ..] = rest {
+        let length = usize::from(u16::from_be_bytes([*high, *low]));
+        if behind.len() < length {
+            return;
+        }
+        let (body, after) = behind.split_at(length);
+        rest = after;
+        if let Some((slot, record)) = written(&product, slots, body) {
+            product.set(slot, record);
+            second.set(slot, record);
+        } else if let Some((room, call)) = call_of(body) {
+            let [product_out, second_out] = &mut outs;
+            let a = product.call(call, &mut product_out[..room]);
+            let b = second.call(call, &mut second_out[..room]);
+            assert!(a == b, "{call:02x?}: answers {a:?} and {b:?}");
+            for slot in 0..slots {
+                let (a, b) = (product.record(slot), second.record(slot));
+                assert!(a == b, "{call:02x?}: slot {slot} is {a:?} and {b:?}");
+            }
+            assert!(outs[0] == outs[1], "{call:02x?}: the outputs differ");
+        }
+    }
+}
+
+/// Called once by libFuzzer. FUZZ_WRONG names a wrong variant of the second program, which the fuzzer then has to find.
+#[no_mangle]
+pub extern "C" fn LLVMFuzzerInitialize(_count: *const i32, _words: *const *const *const u8) -> i32 {
+    if let Ok(text) = std::env::var("FUZZ_WRONG") {
+        let number: usize = text.parse().expect("FUZZ_WRONG is the number of a variant");
+        second::wrong::set(Some(second::wrong::VARIANTS[number - 1].wrong));
+    }
+    0
+}
+
+/// Called by libFuzzer for each input.
+///
+/// # Safety
+/// The pointer is to so many bytes, which libFuzzer lends for the call.
+#[no_mangle]
+pub unsafe extern "C" fn LLVMFuzzerTestOneInput(input: *const u8, length: usize) -> i32 {
+    // libFuzzer may give a null pointer where there are no bytes.
+    if length > 0 {
+        run(std::slice::from_raw_parts(input, length));
+    }
+    0
+}

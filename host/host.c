@@ -1,0 +1,114 @@
+#include "host.h"
+#include "nippitsun.h"
+
+#include <arpa/inet.h>
+#include <errno.h>
+#include <linux/if_ether.h>
+#include <linux/if_packet.h>
+#include <net/if.h>
+#include <stdarg.h>
+#include <stdio.h>
+#include <stdlib.h>
+#include <string.h>
+#include <sys/socket.h>
+#include <unistd.h>
+
+_Noreturn void refuse(const char *format, ...)
+{
+    va_list more;
+    va_start(more, format);
+    fprintf(stderr, "refused: ");
+    vfprintf(stderr, format, more);
+    fprintf(stderr, "\n");
+    va_end(more);
+    exit(2);
+}
+
+_Noreturn void fail(const char *what)
+{
+    fprintf(stderr, "failed: %s: %s\n", what, strerror(errno));
+    exit(1);
+}
+
+uint64_t read_number(const char *what, const char *text, uint64_t least, uint64_t most)
+{
+    char *end;
+    errno = 0;
+    unsigned long long n = strtoull(text, &end, 10);
+    // strtoull takes a sign and leading blanks; a setting has neither.
+    if (text[0] < '0' || text[0] > '9' || *end != 0 || errno != 0 || n < least || n > most)
+        refuse("%s '%s' is no number from %llu to %llu", what, text, (unsigned long long)least, (unsigned long long)most);
+    return n;
+}
+
+static int hex_digit(char c)
+{
+    if (c >= '0' && c <= '9') return c - '0';
+    if (c >= 'a' && c <= 'f') return c - 'a' + 10;
+    if (c >= 'A' && c <= 'F') return c - 'A' + 10;
+    return -1;
+}
+
+void read_address(const char *text, uint8_t dest[ADDRESS])
+{
+    const char *at = text;
+    for (int i = 0; i < ADDRESS; i++) {
+        if (i > 0 && *at == ':') at++;
+        int high = hex_digit(at[0]);
+        int low = high < 0 ? -1 : hex_digit(at[1]);
+        if (low < 0) refuse("'%s' is no address of six bytes in hex", text);
+        dest[i] = (uint8_t)(high << 4 | low);
+        at += 2;
+    }
+    if (*at != 0) refuse("'%s' is no address of six bytes in hex", text);
+}
+
+struct settings read_settings(const char *text)
+{
+    struct settings s;
+    char dest[32], vlan[16], rule[16], window[16], time[16], behind;
+    if (sscanf(text, "%31[^,],%15[^,],%15[^,],%15[^,],%15[^,]%c", dest, vlan, rule, window, time, &behind) != 5)
+        refuse("'%s' is not DEST,VLAN,RULE,L,R", text);
+    read_address(dest, s.dest);
+    s.vlan = (uint16_t)read_number("VLAN id", vlan, 0, UINT16_MAX);
+    if (strcmp(rule, "vector") == 0) s.rule = NIPPITSUN_RULE_VECTOR;
+    else if (strcmp(rule, "match") == 0) s.rule = NIPPITSUN_RULE_MATCH;
+    else s.rule = (uint8_t)read_number("rule", rule, 0, UINT8_MAX);
+    s.window = (uint16_t)read_number("window L", window, 0, UINT16_MAX);
+    s.time = (uint16_t)read_number("reset time R", time, 0, UINT16_MAX);
+    return s;
+}
+
+const char *refusal_words(unsigned number)
+{
+    static const char *const words[] = {
+        [NIPPITSUN_REFUSED_NOT] = "not refused",
+        [NIPPITSUN_REFUSED_TABLE] = "the table has more than 64 slots",
+        [NIPPITSUN_REFUSED_NETWORK] = "network is not 0 or 1",
+        [NIPPITSUN_REFUSED_LONG] = "frame too long",
+        [NIPPITSUN_REFUSED_SHORT] = "frame short",
+        [NIPPITSUN_REFUSED_UNTAGGED] = "no F1C1 at the type field",
+        [NIPPITSUN_REFUSED_UNKNOWN] = "no slot in use has the key",
+        [NIPPITSUN_REFUSED_DAMAGED] = "the record is damaged",
+        [NIPPITSUN_REFUSED_ROOM] = "output too small",
+        [NIPPITSUN_REFUSED_SETTING] = "a setting outside the sizes",
+        [NIPPITSUN_REFUSED_TAKEN] = "a slot in use has the key",
+        [NIPPITSUN_REFUSED_FULL] = "no free slot",
+        [NIPPITSUN_REFUSED_SLOT] = "slot beyond the table or free",
+        [NIPPITSUN_REFUSED_TAGGED] = "frame already carries F1C1",
+    };
+    return number < sizeof words / sizeof words[0] ? words[number] : "a number that document 01 does not have";
+}
+
+int open_port(const char *interface, int receives)
+{
+    // A port that only sends is given no frame by the kernel.
+    uint16_t every = receives ? htons(ETH_P_ALL) : 0;
+    int s = socket(AF_PACKET, SOCK_RAW, every);
+    if (s < 0) fail("packet socket");
+    struct sockaddr_ll where = {.sll_family = AF_PACKET, .sll_protocol = every};
+    where.sll_ifindex = (int)if_nametoindex(interface);
+    if (where.sll_ifindex == 0) refuse("there is no interface '%s'", interface);
+    if (bind(s, (struct sockaddr *)&where, sizeof where) != 0) fail(interface);
+    return s;
+}

@@ -1,0 +1,41 @@
+// What the host programs share: reading settings from the command line, the refusals in words, a packet socket.
+#ifndef HOST_H
+#define HOST_H
+
+#include <stdint.h>
+
+// Bytes of an Ethernet address, and the places of document 01, "The frame".
+enum { ADDRESS = 6, TYPE_AT = 12, VLAN_TAG = 4 };
+
+// The settings of one open, as the command line gives them. The library judges them; here only what no such field can
+// hold is refused.
+struct settings {
+    uint8_t dest[ADDRESS];
+    uint16_t vlan;
+    uint8_t rule;
+    uint16_t window;
+    uint16_t time;
+};
+
+// Ends the program with status 2: what was asked for can't be done.
+_Noreturn void refuse(const char *format, ...) __attribute__((format(printf, 1, 2)));
+
+// Ends the program with status 1: the machine did not do what it was asked to.
+_Noreturn void fail(const char *what);
+
+// A decimal number from least to most, or refuse.
+uint64_t read_number(const char *what, const char *text, uint64_t least, uint64_t most);
+
+// Six bytes in hex, with or without colons, or refuse.
+void read_address(const char *text, uint8_t dest[ADDRESS]);
+
+// DEST,VLAN,RULE,L,R, or refuse.
+struct settings read_settings(const char *text);
+
+// The words of document 01 for a refusal number.
+const char *refusal_words(unsigned number);
+
+// A packet socket on one interface, for every type of frame. It needs the right CAP_NET_RAW.
+int open_port(const char *interface, int receives);
+
+#endif
