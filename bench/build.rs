@@ -11,7 +11,10 @@ fn main() {
     };
     println!("cargo:rustc-link-search=native={}", folder.display());
     for name in ["timing", "timing_row"] {
-        println!("cargo:rerun-if-changed={}", folder.join(format!("lib{}.a", name)).display());
+        println!(
+            "cargo:rerun-if-changed={}",
+            folder.join(format!("lib{}.a", name)).display()
+        );
         println!("cargo:rustc-link-lib=static={}", name);
     }
 }

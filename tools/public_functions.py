@@ -20,7 +20,7 @@ def public_functions():
         open_modules = set(re.findall(r"^pub mod (\w+)", text, re.M))
         taken = set(re.findall(r"^pub use (\w+)::(\w+);", text, re.M))
         for path in sorted(crate.glob("src/*.rt")):
-            for found in re.finditer(r'^ *pub (?:extern "C" )?fn (\w+)(.*?)^ *\{', path.read_text(), re.M | re.S):
+            for found in re.finditer(r'^ *pub (?:extern "C" )?fn (\w+)(.*?)(?:^ *\{|\{$)', path.read_text(), re.M | re.S):
                 function = found.group(1)
                 if path == library or path.stem in open_modules or (path.stem, function) in taken:
                     yield crate.name, function, path.relative_to(ROOT), found.group(2)

@@ -1,4 +1,4 @@
-//! What is timed: each cell has the same calls on both sides.
+//! What is timed and counted: each cell is the same calls on several sides.
 use crate::record::{State, Stream};
 use crate::{cells_arrivals, plain, proved};
 
@@ -7,11 +7,21 @@ pub type Work = Box<dyn FnMut(u64) -> u64>;
 
 pub struct Cell {
     pub name: String,
-    pub aim: f64,
     /// How many decisions, tag calls or arrivals one call is.
     pub each: u64,
-    pub plain: Work,
-    pub proved: Work,
+    /// The work of each of the group's sides.
+    pub works: Vec<Work>,
+}
+
+/// Cells with the same sides.
+pub struct Group {
+    /// The product's side is the first.
+    pub sides: &'static [&'static str],
+    /// So many sides, from the first on, must answer the same.
+    pub alike: usize,
+    /// The product's time is to be at most so many times the plain one's, which is the second side.
+    pub aim: f64,
+    pub cells: Vec<Cell>,
 }
 
 /// A value that the compiler knows nothing of.
@@ -64,22 +74,30 @@ macro_rules! writing {
     }};
 }
 
-fn tag_cells(cells: &mut Vec<Cell>) {
-    for &vlan in &[false, true] {
-        for &size in &[64usize, 256, 1500] {
+fn tags() -> Group {
+    let mut cells = Vec::new();
+    for vlan in [false, true] {
+        for size in [64, 256, 1500] {
             let with = if vlan { "-vlan" } else { "" };
-            let plain: Work = taking!(plain, size, vlan);
-            let proved: Work = taking!(proved, size, vlan);
-            cells.push(Cell { name: format!("take-{}{}", size, with), aim: 1.1, each: 1, plain, proved });
+            let name = format!("take-{}{}", size, with);
+            cells.push(Cell {
+                name,
+                each: 1,
+                works: vec![taking!(proved, size, vlan), taking!(plain, size, vlan)],
+            });
+            let name = format!("write-{}{}", size, with);
+            cells.push(Cell {
+                name,
+                each: 1,
+                works: vec![writing!(proved, size, vlan), writing!(plain, size, vlan)],
+            });
         }
     }
-    for &vlan in &[false, true] {
-        for &size in &[64usize, 256, 1500] {
-            let with = if vlan { "-vlan" } else { "" };
-            let plain: Work = writing!(plain, size, vlan);
-            let proved: Work = writing!(proved, size, vlan);
-            cells.push(Cell { name: format!("write-{}{}", size, with), aim: 1.1, each: 1, plain, proved });
-        }
+    Group {
+        sides: &["product", "plain"],
+        alike: 2,
+        aim: 1.1,
+        cells,
     }
 }
 
@@ -92,7 +110,12 @@ fn record(rule: u8) -> Stream {
         time: 100,
         rule,
         used: 1,
-        state: State { history: if rule == 1 { 0x5555_5555_5555_5555 } else { 0 }, anchor: 65000, remaining: 100, any: 0 },
+        state: State {
+            history: if rule == 1 { 0x5555_5555_5555_5555 } else { 0 },
+            anchor: 65000,
+            remaining: 100,
+            any: 0,
+        },
         ..Stream::default()
     }
 }
@@ -160,32 +183,49 @@ fn in_row_by_reference(rule: u8, d: u16) -> Work {
     })
 }
 
-fn decision_cells(cells: &mut Vec<Cell>) {
+fn decisions() -> Group {
     // The arrival, the rule, and d.
-    let arrivals: [(&str, u8, u16); 5] =
-        [("new", 1, 1), ("duplicate", 1, 0), ("gap63", 1, 63), ("match-new", 2, 1), ("match-duplicate", 2, 0)];
-    for &(name, rule, d) in &arrivals {
-        let (plain, proved): (Work, Work) = (by_value!(plain, rule, d), by_value!(proved, rule, d));
-        cells.push(Cell { name: format!("decide-{}", name), aim: 1.0, each: 1, plain, proved });
+    let arrivals: [(&str, u8, u16); 5] = [
+        ("new", 1, 1),
+        ("duplicate", 1, 0),
+        ("gap63", 1, 63),
+        ("match-new", 2, 1),
+        ("match-duplicate", 2, 0),
+    ];
+    let mut cells = Vec::new();
+    for (name, rule, d) in arrivals {
+        let works: Vec<Work> = vec![
+            by_value!(proved, rule, d),
+            by_value!(plain, rule, d),
+            by_reference(rule, d),
+        ];
+        cells.push(Cell {
+            name: format!("decide-{}", name),
+            each: 1,
+            works,
+        });
     }
-    for &(name, rule, d) in &arrivals {
-        let (plain, proved): (Work, Work) = (by_reference(rule, d), by_value!(proved, rule, d));
-        cells.push(Cell { name: format!("decide-{}-reference", name), aim: 1.0, each: 1, plain, proved });
+    for (name, rule, d) in arrivals {
+        let works: Vec<Work> = vec![
+            in_row!(proved, rule, d),
+            in_row!(plain, rule, d),
+            in_row_by_reference(rule, d),
+        ];
+        cells.push(Cell {
+            name: format!("row-{}", name),
+            each: ROW,
+            works,
+        });
     }
-    for &(name, rule, d) in &arrivals {
-        let (plain, proved): (Work, Work) = (in_row!(plain, rule, d), in_row!(proved, rule, d));
-        cells.push(Cell { name: format!("row-{}", name), aim: 1.0, each: ROW, plain, proved });
-    }
-    for &(name, rule, d) in &arrivals {
-        let (plain, proved): (Work, Work) = (in_row_by_reference(rule, d), in_row!(proved, rule, d));
-        cells.push(Cell { name: format!("row-{}-reference", name), aim: 1.0, each: ROW, plain, proved });
+    Group {
+        sides: &["product", "plain", "in-place"],
+        alike: 3,
+        aim: 1.0,
+        cells,
     }
 }
 
-pub fn all() -> Vec<Cell> {
-    let mut cells = Vec::new();
-    tag_cells(&mut cells);
-    decision_cells(&mut cells);
-    cells_arrivals::add_all(&mut cells);
-    cells
+/// The arrivals first: they are the one table.
+pub fn all() -> [Group; 3] {
+    [cells_arrivals::arrivals(), tags(), decisions()]
 }

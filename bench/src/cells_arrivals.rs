@@ -1,28 +1,51 @@
-//! The cells of the whole arrival. Both sides see the same frames on the same table: the streams come in turn.
-use crate::cells::{frame, hidden, Cell, Work};
+//! The cells of the whole arrival. Every side sees the same frames on the same table: the streams come in turn.
+use crate::cells::{frame, hidden, Cell, Group, Work};
 use crate::compare_arrivals::record_of;
 use crate::record::{ArrivalAnswer, Stream};
 use crate::{plain, proved};
 use second::{Arrival, Refusal, Verdict};
 
-/// How the number goes on when every stream has had its turn, and whether each frame comes on both networks.
+/// What comes. `ahead` is how far the first number of each stream is ahead of its anchor, `step` how the number goes on when
+/// every stream has had its turn, and `pair` whether each frame comes on network 0 and then on network 1.
 #[derive(Clone, Copy)]
 struct Mix {
     name: &'static str,
+    ahead: u16,
     step: u16,
     pair: bool,
+    network: u8,
 }
 
+const fn mix(name: &'static str, ahead: u16, step: u16) -> Mix {
+    Mix {
+        name,
+        ahead,
+        step,
+        pair: false,
+        network: 0,
+    }
+}
+
+/// Those that are timed in every size and with every number of streams.
 const MIXES: [Mix; 3] = [
-    Mix { name: "new", step: 1, pair: false },
-    Mix { name: "pair", step: 1, pair: true },
-    Mix { name: "duplicate", step: 0, pair: false },
+    mix("new", 1, 1),
+    Mix {
+        pair: true,
+        ..mix("pair", 1, 1)
+    },
+    mix("duplicate", 0, 0),
 ];
 
-const GAPS: [Mix; 3] = [
-    Mix { name: "gap1", step: 1, pair: false },
-    Mix { name: "gap8", step: 8, pair: false },
-    Mix { name: "gap63", step: 63, pair: false },
+/// Those of 64 bytes and one stream alone. There is no network 2: that arrival is refused before its frame is read, so it is
+/// the call and little else.
+const SINGLE: [Mix; 4] = [
+    mix("gap8", 8, 8),
+    mix("gap63", 63, 63),
+    mix("rogue", 1000, 0),
+    Mix {
+        network: 2,
+        ..mix("refused", 1, 1)
+    },
 ];
 
 /// The number that each stream has had last when a cell starts.
@@ -56,8 +79,16 @@ impl Traffic {
             f[..size].copy_from_slice(&frame(size, false, true));
             f[..6].copy_from_slice(&[2, 0, 0, 0, 0, 0]);
         }
-        let number = ANCHOR.wrapping_add(mix.step);
-        let mut t = Traffic { ring, place: 0, mix, streams, stream: 0, number, second: false };
+        let number = ANCHOR.wrapping_add(mix.ahead);
+        let mut t = Traffic {
+            ring,
+            place: 0,
+            mix,
+            streams,
+            stream: 0,
+            number,
+            second: false,
+        };
         for _ in 0..RING {
             t.renew();
         }
@@ -85,7 +116,11 @@ impl Traffic {
 
     #[inline(always)]
     fn network(&self) -> u8 {
-        if self.mix.pair { (self.place % 2) as u8 } else { 0 }
+        if self.mix.pair {
+            (self.place % 2) as u8
+        } else {
+            self.mix.network
+        }
     }
 }
 
@@ -157,31 +192,70 @@ macro_rules! arriving {
     }};
 }
 
-fn add(cells: &mut Vec<Cell>, size: usize, streams: u8, mix: Mix) {
-    let name = format!("arrival-{}-{}-{}", size, streams, mix.name);
-    let plain: Work = arriving!(plain::arrival, table(streams), size, streams, mix);
-    let proved: Work = arriving!(proved::arrival, records(streams), size, streams, mix);
-    cells.push(Cell { name, aim: 1.0, each: 1, plain, proved });
+/// The same frames, each copied whole and nothing else done.
+fn copying(size: usize, streams: u8, mix: Mix) -> Work {
+    let mut traffic = Traffic::new(size, streams, mix);
+    let mut out = Box::new(Output([0; 2048]));
+    Box::new(move |calls| {
+        let size = hidden(size);
+        for _ in 0..calls {
+            plain::copy(&traffic.ring.0[traffic.place][..size], &mut out.0);
+            traffic.renew();
+        }
+        out.0[size - 7] as u64
+    })
 }
 
-fn add_reference(cells: &mut Vec<Cell>, size: usize, streams: u8, mix: Mix) {
-    let name = format!("arrival-{}-{}-{}-reference", size, streams, mix.name);
-    let plain: Work = arriving!(plain::arrival_at, records(streams), size, streams, mix);
-    let proved: Work = arriving!(proved::arrival, records(streams), size, streams, mix);
-    cells.push(Cell { name, aim: 1.0, each: 1, plain, proved });
+/// The same frames and a call that does nothing: what the loop and the bare call cost. The call goes through a pointer that the
+/// compiler does not know, or it would leave the call out.
+fn calling(size: usize, streams: u8, mix: Mix) -> Work {
+    let mut table = records(streams);
+    let mut traffic = Traffic::new(size, streams, mix);
+    let mut out = Box::new(Output([0; 2048]));
+    Box::new(move |calls| {
+        let size = hidden(size);
+        let call: plain::Bare = hidden(plain::nothing);
+        let mut sum = 0u64;
+        for _ in 0..calls {
+            let f = &traffic.ring.0[traffic.place][..size];
+            sum = sum.wrapping_add(call(&mut table, traffic.network(), f, &mut out.0));
+            traffic.renew();
+        }
+        sum
+    })
 }
 
-pub fn add_all(cells: &mut Vec<Cell>) {
-    for to in [add, add_reference] {
-        for size in [64, 256, 1500] {
-            for streams in [1, 8, 64] {
-                for mix in MIXES {
-                    to(cells, size, streams, mix);
-                }
+fn cell(size: usize, streams: u8, mix: Mix) -> Cell {
+    let works: Vec<Work> = vec![
+        arriving!(proved::arrival, records(streams), size, streams, mix),
+        arriving!(plain::arrival_at, records(streams), size, streams, mix),
+        arriving!(plain::arrival, table(streams), size, streams, mix),
+        copying(size, streams, mix),
+        calling(size, streams, mix),
+    ];
+    Cell {
+        name: format!("arrival-{}-{}-{}", size, streams, mix.name),
+        each: 1,
+        works,
+    }
+}
+
+pub fn arrivals() -> Group {
+    let mut cells = Vec::new();
+    for size in [64, 256, 1500] {
+        for streams in [1, 8, 64] {
+            for mix in MIXES {
+                cells.push(cell(size, streams, mix));
             }
         }
-        for mix in GAPS {
-            to(cells, 64, 1, mix);
-        }
+    }
+    for mix in SINGLE {
+        cells.push(cell(64, 1, mix));
+    }
+    Group {
+        sides: &["product", "plain", "second", "memcpy", "bare"],
+        alike: 3,
+        aim: 1.0,
+        cells,
     }
 }

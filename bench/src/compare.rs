@@ -116,7 +116,10 @@ pub fn tags(cases: u64) -> Result<u64, String> {
         taken[x.refusal as usize] += 1;
         a.copy_from_slice(start);
         b.copy_from_slice(start);
-        let (x, y) = (plain::write_tag(&f, number, &mut a), proved::write_tag(&f, number, &mut b));
+        let (x, y) = (
+            plain::write_tag(&f, number, &mut a),
+            proved::write_tag(&f, number, &mut b),
+        );
         if x != y || a != b {
             return Err(wrong("write a tag", case));
         }
@@ -166,7 +169,12 @@ fn record(dice: &mut Dice) -> Stream {
         },
     };
     if dice.one_in(8) {
-        s.state = State { history: 0, anchor: 65535, remaining: 0, any: 1 + dice.below(255) as u8 };
+        s.state = State {
+            history: 0,
+            anchor: 65535,
+            remaining: 0,
+            any: 1 + dice.below(255) as u8,
+        };
     }
     if dice.one_in(20) {
         s.counts.passed = u64::MAX;
@@ -215,7 +223,14 @@ pub fn decisions(cases: u64, kept: &mut Cases) -> Result<u64, String> {
             return Err(wrong("one decision", case));
         }
         seen[x.verdict as usize] += 1;
-        kept.add(&[&[3], &s.to_bytes(), &number.to_le_bytes(), &[network], &x.stream.to_bytes(), &[x.verdict]]);
+        kept.add(&[
+            &[3],
+            &s.to_bytes(),
+            &number.to_le_bytes(),
+            &[network],
+            &x.stream.to_bytes(),
+            &[x.verdict],
+        ]);
         let step = match dice.below(4) {
             0 => 1,
             1 => 63,
@@ -229,7 +244,15 @@ pub fn decisions(cases: u64, kept: &mut Cases) -> Result<u64, String> {
         if r != proved::row(s, number, step, network, times) || r != t {
             return Err(wrong("decisions in a row", case));
         }
-        kept.add(&[&[4], &s.to_bytes(), &number.to_le_bytes(), &step.to_le_bytes(), &[network], &times.to_le_bytes(), &r.to_bytes()]);
+        kept.add(&[
+            &[4],
+            &s.to_bytes(),
+            &number.to_le_bytes(),
+            &step.to_le_bytes(),
+            &[network],
+            &times.to_le_bytes(),
+            &r.to_bytes(),
+        ]);
     }
     all_seen("one decision", &seen, &[0, 1, 2, 3])?;
     Ok(2 * cases)

@@ -1,7 +1,9 @@
 //! Random arrivals on random tables: the archive's call, the second program's and the plain one in place. Answers, every
 //! record field by field, and every output byte must be equal, and each refusal and verdict must have come up.
 use crate::compare::{all_seen, wrong, Dice};
-use crate::record::{ArrivalAnswer, Counts, SlotAnswer, State, Stream, TickAnswer, DUPLICATE, HANDED_UP, ROGUE};
+use crate::record::{
+    ArrivalAnswer, Counts, SlotAnswer, State, Stream, TickAnswer, DUPLICATE, HANDED_UP, ROGUE,
+};
 use crate::{plain, proved};
 use second::{Arrival, Refusal, Settings, Verdict};
 
@@ -15,7 +17,12 @@ pub fn record_of(s: &second::Stream) -> Stream {
         time: s.reset_time,
         rule: s.rule,
         used: s.in_use,
-        state: State { history: s.history, anchor: s.anchor, remaining: s.remaining, any: s.take_any },
+        state: State {
+            history: s.history,
+            anchor: s.anchor,
+            remaining: s.remaining,
+            any: s.take_any,
+        },
         counts: Counts {
             arrivals0: s.arrivals[0],
             arrivals1: s.arrivals[1],
@@ -32,14 +39,23 @@ pub fn record_of(s: &second::Stream) -> Stream {
 /// The second program's answer as the archive tells it.
 fn answer_of(r: Result<Arrival, Refusal>) -> ArrivalAnswer {
     match r {
-        Err(why) => ArrivalAnswer { refusal: why.number(), ..ArrivalAnswer::default() },
+        Err(why) => ArrivalAnswer {
+            refusal: why.number(),
+            ..ArrivalAnswer::default()
+        },
         Ok(a) => {
             let (verdict, length) = match a.verdict {
                 Verdict::HandedUp { length } => (HANDED_UP, length),
                 Verdict::Duplicate => (DUPLICATE, 0),
                 Verdict::Rogue => (ROGUE, 0),
             };
-            ArrivalAnswer { slot: a.slot, length, number: a.number, verdict, refusal: 0 }
+            ArrivalAnswer {
+                slot: a.slot,
+                length,
+                number: a.number,
+                verdict,
+                refusal: 0,
+            }
         }
     }
 }
@@ -53,7 +69,12 @@ struct Tables {
 
 impl Tables {
     fn equal(&self) -> bool {
-        self.plain == self.proved && self.second.iter().zip(&self.proved).all(|(a, b)| record_of(a) == *b)
+        self.plain == self.proved
+            && self
+                .second
+                .iter()
+                .zip(&self.proved)
+                .all(|(a, b)| record_of(a) == *b)
     }
 
     /// What the caller may write into a slot, in all three.
@@ -84,22 +105,44 @@ fn tables(dice: &mut Dice, case: u64) -> Result<Tables, String> {
         _ => 1 + dice.below(64) as usize,
     };
     let free = second::Stream::FREE;
-    let mut t = Tables { second: vec![free; slots], proved: vec![record_of(&free); slots], plain: vec![] };
+    let mut t = Tables {
+        second: vec![free; slots],
+        proved: vec![record_of(&free); slots],
+        plain: vec![],
+    };
     for _ in 0..slots + slots / 4 {
         let destination = destination(dice);
-        let window = if dice.one_in(4) { 64 } else { 2 + dice.below(64) as u8 };
+        let window = if dice.one_in(4) {
+            64
+        } else {
+            2 + dice.below(64) as u8
+        };
         let s = Settings {
             destination,
             vlan: vlan(dice),
             rule: 1 + dice.below(2) as u8,
             window,
-            reset_time: if dice.one_in(2) { 1 + dice.below(4) as u16 } else { 1 + dice.below(65535) as u16 },
+            reset_time: if dice.one_in(2) {
+                1 + dice.below(4) as u16
+            } else {
+                1 + dice.below(65535) as u16
+            },
         };
         let x = match second::open(&mut t.second, s) {
             Ok(slot) => SlotAnswer { slot, refusal: 0 },
-            Err(why) => SlotAnswer { slot: 0, refusal: why.number() },
+            Err(why) => SlotAnswer {
+                slot: 0,
+                refusal: why.number(),
+            },
         };
-        if x != proved::open(&mut t.proved, &destination, s.vlan, s.rule, s.window as u16, s.reset_time) {
+        if x != proved::open(
+            &mut t.proved,
+            &destination,
+            s.vlan,
+            s.rule,
+            s.window as u16,
+            s.reset_time,
+        ) {
             return Err(wrong("an open", case));
         }
     }
@@ -138,7 +181,11 @@ fn stir(dice: &mut Dice, t: &mut Tables) {
         mended.vlan = mended.vlan.min(4094);
         mended.take_any = 0;
         mended.remaining = mended.reset_time;
-        mended.history = if mended.rule == 1 { s.history >> (64 - mended.window) | 1 } else { 0 };
+        mended.history = if mended.rule == 1 {
+            s.history >> (64 - mended.window) | 1
+        } else {
+            0
+        };
         t.set(slot, mended);
     }
 }
@@ -159,7 +206,14 @@ fn frame(dice: &mut Dice, pool: &[u8], t: &Tables) -> Vec<u8> {
             f[at..at + bytes.len()].copy_from_slice(bytes);
         }
     };
-    put(0, &if dice.one_in(30) { destination(dice) } else { s.destination });
+    put(
+        0,
+        &if dice.one_in(30) {
+            destination(dice)
+        } else {
+            s.destination
+        },
+    );
     let vlan = if dice.one_in(30) { vlan(dice) } else { s.vlan };
     let mut at = 12;
     if vlan != 0 || dice.one_in(3) {
@@ -167,7 +221,14 @@ fn frame(dice: &mut Dice, pool: &[u8], t: &Tables) -> Vec<u8> {
         put(14, &(vlan | (dice.next() as u16 & 0xF000)).to_be_bytes());
         at = 16;
     }
-    put(at, if dice.one_in(30) { &[0x81, 0x00] } else { &[0xF1, 0xC1] });
+    put(
+        at,
+        if dice.one_in(30) {
+            &[0x81, 0x00]
+        } else {
+            &[0xF1, 0xC1]
+        },
+    );
     let near = dice.below(140) as u16;
     let number = match dice.below(16) {
         0 => dice.next() as u16,
@@ -201,8 +262,16 @@ pub fn arrivals(cases: u64) -> Result<u64, String> {
         }
         if dice.one_in(20) {
             let x = match second::tick(&mut t.second) {
-                Ok(a) => TickAnswer { resets: a.reset as u64, damaged: a.damaged as u64, refusal: 0 },
-                Err(why) => TickAnswer { resets: 0, damaged: 0, refusal: why.number() },
+                Ok(a) => TickAnswer {
+                    resets: a.reset as u64,
+                    damaged: a.damaged as u64,
+                    refusal: 0,
+                },
+                Err(why) => TickAnswer {
+                    resets: 0,
+                    damaged: 0,
+                    refusal: why.number(),
+                },
             };
             if x != proved::tick(&mut t.proved) {
                 return Err(wrong("a tick", case));
@@ -210,7 +279,11 @@ pub fn arrivals(cases: u64) -> Result<u64, String> {
             t.plain.copy_from_slice(&t.proved);
         }
         let f = frame(&mut dice, &pool, &t);
-        let network = if dice.one_in(30) { dice.next() as u8 } else { dice.below(2) as u8 };
+        let network = if dice.one_in(30) {
+            dice.next() as u8
+        } else {
+            dice.below(2) as u8
+        };
         let room = match dice.below(12) {
             0 => f.len().saturating_sub(7),
             1 => f.len().saturating_sub(6),
@@ -228,7 +301,11 @@ pub fn arrivals(cases: u64) -> Result<u64, String> {
         refused[x.refusal as usize] += 1;
         verdicts[x.verdict as usize] += 1;
     }
-    all_seen("an arrival's refusal", &refused, &[0, 1, 2, 3, 4, 5, 6, 7, 8])?;
+    all_seen(
+        "an arrival's refusal",
+        &refused,
+        &[0, 1, 2, 3, 4, 5, 6, 7, 8],
+    )?;
     all_seen("an arrival's verdict", &verdicts, &[0, 1, 2, 3])?;
     Ok(cases)
 }

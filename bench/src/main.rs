@@ -1,8 +1,9 @@
 //! The proved calls beside the same calls in plain Rust: first their results are compared, then their times.
 //!
-//! `bench` compares and times; `bench only NAME` times just the cells whose name starts so. `bench compare` compares only,
-//! and `bench cases` writes the decisions compared, with the plain side's results, for bench/replay.c. `bench count CELL SIDE
-//! CALLS` makes so many calls of one cell on one side, for a tool that counts instructions; `bench cells` lists the names.
+//! `bench compare` compares, and `bench cases` writes the decisions compared, with the plain side's results, for bench/replay.c.
+//! `bench count` makes the same calls of each cell and side for callgrind, and tells `CELL SIDE CALLS` for each. `bench table
+//! COUNTS NAME..` times the cells whose names start so and prints the tables; COUNTS has a line `CELL SIDE INSTRUCTIONS` for
+//! each that was counted.
 mod cells;
 mod cells_arrivals;
 mod compare;
@@ -10,49 +11,37 @@ mod compare_arrivals;
 mod plain;
 mod proved;
 mod record;
+mod table;
 
 use std::io::Write;
 use std::time::Instant;
+use table::Row;
 
-const ROUNDS: usize = 250;
-const CALLS: u64 = 10_000;
+/// Many short rounds: the least of them is one that nothing disturbed.
+const ROUNDS: usize = 1000;
 
-struct Times {
-    plain: f64,
-    proved: f64,
-    ratio: f64,
-}
+/// A multiple of 128: each of 64 streams has the same turns, on both networks.
+const CALLS: u64 = 2560;
 
-fn nanos(work: &mut cells::Work, calls: u64) -> (f64, u64) {
-    let start = Instant::now();
-    let sum = work(calls);
-    (start.elapsed().as_nanos() as f64, sum)
-}
-
-/// Both sides in turn in each round. The least time of each, and the median of the rounds' ratios.
-fn measure(cell: &mut cells::Cell) -> Result<Times, String> {
+/// Each side in each round, in another order each time. The least time of each.
+fn measure(group: &cells::Group, cell: &mut cells::Cell) -> Result<Vec<f64>, String> {
     let calls = CALLS / cell.each;
-    let per = (calls * cell.each) as f64;
-    let mut ratios = Vec::with_capacity(ROUNDS);
-    let (mut least_plain, mut least_proved) = (f64::MAX, f64::MAX);
+    let sides = cell.works.len();
+    let mut least = vec![f64::MAX; sides];
+    let mut sums = vec![0; sides];
     for round in 0..ROUNDS {
-        let (a, b);
-        if round % 2 == 0 {
-            a = nanos(&mut cell.plain, calls);
-            b = nanos(&mut cell.proved, calls);
-        } else {
-            b = nanos(&mut cell.proved, calls);
-            a = nanos(&mut cell.plain, calls);
+        for turn in 0..sides {
+            let side = (round + turn) % sides;
+            let start = Instant::now();
+            sums[side] = (cell.works[side])(calls);
+            let ns = start.elapsed().as_nanos() as f64 / (calls * cell.each) as f64;
+            least[side] = least[side].min(ns);
         }
-        if a.1 != b.1 {
+        if sums[..group.alike].iter().any(|&s| s != sums[0]) {
             return Err(format!("DIFFERENT: {} in round {}", cell.name, round));
         }
-        least_plain = least_plain.min(a.0 / per);
-        least_proved = least_proved.min(b.0 / per);
-        ratios.push(b.0 / a.0);
     }
-    ratios.sort_by(|x, y| x.partial_cmp(y).unwrap());
-    Ok(Times { plain: least_plain, proved: least_proved, ratio: ratios[ROUNDS / 2] })
+    Ok(least)
 }
 
 fn compared() -> Result<(), String> {
@@ -69,74 +58,79 @@ fn compared() -> Result<(), String> {
 fn cases() -> Result<(), String> {
     let mut kept = compare::Cases(Some(Vec::new()));
     compare::decisions(100_000, &mut kept)?;
-    std::io::stdout().write_all(&kept.0.unwrap()).map_err(|e| e.to_string())
+    std::io::stdout()
+        .write_all(&kept.0.unwrap())
+        .map_err(|e| e.to_string())
 }
 
-/// How much more a gap of 63 costs than one of 1, where both cells were timed.
-fn tell_gap(what: &str, one: f64, gap: f64) {
-    if one > 0.0 && gap > 0.0 {
-        println!("A forward gap of 63 costs {:.2} times a gap of 1 (proved side, {}; aim: at most 2).", gap / one, what);
+/// Where callgrind writes down what it has counted, and starts again at 0.
+#[no_mangle]
+#[inline(never)]
+pub extern "C" fn bench_counted() {
+    cells::hidden(0u8);
+}
+
+/// Nothing but the calls between two ends of bench_counted; what was done is told at the end.
+fn count() {
+    let mut groups = cells::all();
+    bench_counted();
+    for group in &mut groups {
+        for cell in &mut group.cells {
+            for work in &mut cell.works {
+                cells::hidden(work(CALLS / cell.each));
+                bench_counted();
+            }
+        }
+    }
+    for group in &groups {
+        for cell in &group.cells {
+            for side in group.sides {
+                println!("{} {} {}", cell.name, side, CALLS / cell.each * cell.each);
+            }
+        }
     }
 }
 
-fn table(only: &str) -> Result<(), String> {
-    compared()?;
-    println!();
-    println!("| cell | plain ns | proved ns | ratio | aim | |");
-    println!("|---|---|---|---|---|---|");
-    let (mut one, mut gap) = ([0.0; 2], [0.0; 2]);
-    for mut cell in cells::all() {
-        if !cell.name.starts_with(only) {
-            continue;
+fn tables(counts: &str, names: &[&str]) -> Result<(), String> {
+    let counts = table::Counts::read(counts)?;
+    for (mut group, print) in
+        cells::all()
+            .into_iter()
+            .zip([table::arrivals, table::tags, table::decisions])
+    {
+        let mut cells = std::mem::take(&mut group.cells);
+        cells.retain(|c| names.iter().any(|n| c.name.starts_with(n)));
+        let mut rows = Vec::new();
+        for mut cell in cells {
+            let ns = measure(&group, &mut cell)?;
+            rows.push(Row {
+                ns,
+                counts: counts.of(&cell.name, group.sides),
+                name: cell.name,
+            });
         }
-        let t = measure(&mut cell)?;
-        let met = if t.ratio <= cell.aim { "met" } else { "missed" };
-        println!("| {} | {:.1} | {:.1} | {:.2} | {:.1} | {} |", cell.name, t.plain, t.proved, t.ratio, cell.aim, met);
-        match cell.name.as_str() {
-            "row-new" => one[0] = t.proved,
-            "row-gap63" => gap[0] = t.proved,
-            "arrival-64-1-gap1" => one[1] = t.proved,
-            "arrival-64-1-gap63" => gap[1] = t.proved,
-            _ => {}
+        if !rows.is_empty() {
+            println!();
+            print(&rows, group.aim);
         }
     }
-    println!();
-    tell_gap("decisions in a row", one[0], gap[0]);
-    tell_gap("arrivals of 64 bytes", one[1], gap[1]);
     Ok(())
-}
-
-fn count(name: &str, side: &str, calls: u64) -> Result<(), String> {
-    for mut cell in cells::all() {
-        if cell.name == name {
-            let sum = match side {
-                "plain" => (cell.plain)(calls),
-                "proved" => (cell.proved)(calls),
-                _ => return Err(String::from("a side is plain or proved")),
-            };
-            println!("{}", sum);
-            return Ok(());
-        }
-    }
-    Err(format!("no cell is called {}", name))
 }
 
 fn run() -> Result<(), String> {
     let words: Vec<String> = std::env::args().skip(1).collect();
     let words: Vec<&str> = words.iter().map(|w| w.as_str()).collect();
     match words[..] {
-        [] => table(""),
-        ["only", name] => table(name),
         ["compare"] => compared(),
         ["cases"] => cases(),
-        ["cells"] => {
-            for cell in cells::all() {
-                println!("{}", cell.name);
-            }
+        ["count"] => {
+            count();
             Ok(())
         }
-        ["count", name, side, calls] => count(name, side, calls.parse().map_err(|_| String::from("how many calls?"))?),
-        _ => Err(String::from("usage: bench [only NAME | compare | cases | cells | count CELL SIDE CALLS]")),
+        ["table", counts, ref names @ ..] => tables(counts, names),
+        _ => Err(String::from(
+            "usage: bench compare | cases | count | table COUNTS NAME..",
+        )),
     }
 }
 

@@ -1,6 +1,8 @@
 //! The plain side: the same calls in safe Rust, written from document 01 alone. Each is kept a call of its own, as the
 //! archive's are, so that both sides pay for one, and has C's convention, by which the answer comes back in registers.
-use crate::record::{ArrivalAnswer, Decided, Stream, TagAnswer, DAMAGED, DUPLICATE, HANDED_UP, ROGUE};
+use crate::record::{
+    ArrivalAnswer, Decided, Stream, TagAnswer, DAMAGED, DUPLICATE, HANDED_UP, ROGUE,
+};
 
 const SLOTS_MOST: usize = 64;
 const FRAME_MOST: usize = 2000;
@@ -22,7 +24,11 @@ fn word(s: &[u8], at: usize) -> u16 {
 }
 
 fn refused(refusal: u8) -> TagAnswer {
-    TagAnswer { length: 0, number: 0, refusal }
+    TagAnswer {
+        length: 0,
+        number: 0,
+        refusal,
+    }
 }
 
 /// The place of the type field; None for a frame that is short.
@@ -45,7 +51,11 @@ fn taken(frame: &[u8], at: usize, out: &mut [u8]) -> TagAnswer {
     let length = frame.len() - 6;
     out[..at].copy_from_slice(&frame[..at]);
     out[at..length].copy_from_slice(&frame[at + 6..]);
-    TagAnswer { length, number: word(frame, at + 4), refusal: 0 }
+    TagAnswer {
+        length,
+        number: word(frame, at + 4),
+        refusal: 0,
+    }
 }
 
 #[inline(never)]
@@ -82,7 +92,11 @@ fn written(frame: &[u8], at: usize, number: u16, out: &mut [u8]) -> TagAnswer {
     out[at + 2..at + 4].copy_from_slice(&[0, 0]);
     out[at + 4..at + 6].copy_from_slice(&number.to_be_bytes());
     out[at + 6..length].copy_from_slice(&frame[at..]);
-    TagAnswer { length, number, refusal: 0 }
+    TagAnswer {
+        length,
+        number,
+        refusal: 0,
+    }
 }
 
 #[inline(never)]
@@ -110,7 +124,13 @@ pub extern "C" fn write_tag(frame: &[u8], number: u16, out: &mut [u8]) -> TagAns
 
 #[inline(always)]
 fn lawful(s: &Stream) -> bool {
-    if s.used == 0 || (s.rule != 1 && s.rule != 2) || s.window < 2 || s.window > 64 || s.time == 0 || s.vlan > 4094 {
+    if s.used == 0
+        || (s.rule != 1 && s.rule != 2)
+        || s.window < 2
+        || s.window > 64
+        || s.time == 0
+        || s.vlan > 4094
+    {
         return false;
     }
     let t = &s.state;
@@ -164,7 +184,10 @@ fn decide_lawful(s: &mut Stream, number: u16, network: u8) -> u8 {
         } else {
             // The d places below L leave; each zero bit among them is lost.
             let leaving = s.state.history >> (window - d);
-            s.counts.lost = s.counts.lost.wrapping_add((d as u32 - leaving.count_ones()) as u64);
+            s.counts.lost = s
+                .counts
+                .lost
+                .wrapping_add((d as u32 - leaving.count_ones()) as u64);
             let cut = u64::MAX >> (64 - window);
             s.state.history = ((s.state.history << d) & cut) | 1;
             s.state.anchor = number;
@@ -221,19 +244,45 @@ pub fn row_at(t: &mut Stream, number: u16, step: u16, network: u8, times: u64) {
     }
 }
 
+/// A call with an arrival's arguments that does nothing.
+pub type Bare = fn(&mut [Stream], u8, &[u8], &mut [u8]) -> u64;
+
+pub fn nothing(_: &mut [Stream], _: u8, _: &[u8], _: &mut [u8]) -> u64 {
+    0
+}
+
+/// The frame's bytes copied, and nothing else: the floor of a frame that is handed up.
+#[inline(never)]
+pub fn copy(frame: &[u8], out: &mut [u8]) {
+    out[..frame.len()].copy_from_slice(frame);
+}
+
 /// The arrival of the second program, as it is.
 #[inline(never)]
-pub fn arrival(table: &mut [second::Stream], network: u8, frame: &[u8], out: &mut [u8]) -> Result<second::Arrival, second::Refusal> {
+pub fn arrival(
+    table: &mut [second::Stream],
+    network: u8,
+    frame: &[u8],
+    out: &mut [u8],
+) -> Result<second::Arrival, second::Refusal> {
     second::arrival(table, network, frame, out)
 }
 
 fn not_taken(refusal: u8) -> ArrivalAnswer {
-    ArrivalAnswer { refusal, ..ArrivalAnswer::default() }
+    ArrivalAnswer {
+        refusal,
+        ..ArrivalAnswer::default()
+    }
 }
 
 /// The arrival with the record changed where it lies, written for speed.
 #[inline(never)]
-pub fn arrival_at(table: &mut [Stream], network: u8, frame: &[u8], out: &mut [u8]) -> ArrivalAnswer {
+pub fn arrival_at(
+    table: &mut [Stream],
+    network: u8,
+    frame: &[u8],
+    out: &mut [u8],
+) -> ArrivalAnswer {
     if table.len() > SLOTS_MOST {
         return not_taken(TABLE);
     }
@@ -250,14 +299,28 @@ pub fn arrival_at(table: &mut [Stream], network: u8, frame: &[u8], out: &mut [u8
     // One check of the bounds for the whole tag and the type behind it.
     let tag = match frame.get(at..at + 8) {
         Some(tag) => tag,
-        None => return not_taken(if word(frame, at) == TAG { SHORT } else { UNTAGGED }),
+        None => {
+            return not_taken(if word(frame, at) == TAG {
+                SHORT
+            } else {
+                UNTAGGED
+            })
+        }
     };
     if word(tag, 0) != TAG {
         return not_taken(UNTAGGED);
     }
-    let dest = (u32::from_be_bytes([frame[0], frame[1], frame[2], frame[3]]) as u64) << 16 | word(frame, 4) as u64;
-    let vlan = if at == 16 { word(frame, 14) & 0x0FFF } else { 0 };
-    let slot = match table.iter().position(|s| s.dest == dest && s.vlan == vlan && s.used != 0) {
+    let dest = (u32::from_be_bytes([frame[0], frame[1], frame[2], frame[3]]) as u64) << 16
+        | word(frame, 4) as u64;
+    let vlan = if at == 16 {
+        word(frame, 14) & 0x0FFF
+    } else {
+        0
+    };
+    let slot = match table
+        .iter()
+        .position(|s| s.dest == dest && s.vlan == vlan && s.used != 0)
+    {
         Some(slot) => slot,
         None => return not_taken(UNKNOWN),
     };
@@ -272,7 +335,17 @@ pub fn arrival_at(table: &mut [Stream], network: u8, frame: &[u8], out: &mut [u8
     let verdict = decide_lawful(s, number, network);
     let mut length = 0;
     if verdict == HANDED_UP {
-        length = if at == 12 { taken(frame, 12, out).length } else { taken(frame, 16, out).length };
+        length = if at == 12 {
+            taken(frame, 12, out).length
+        } else {
+            taken(frame, 16, out).length
+        };
     }
-    ArrivalAnswer { slot, length, number, verdict, refusal: 0 }
+    ArrivalAnswer {
+        slot,
+        length,
+        number,
+        verdict,
+        refusal: 0,
+    }
 }

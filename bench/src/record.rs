@@ -1,5 +1,7 @@
 //! The types that cross: those of the crate nippitsun, and what one decision answers.
-pub use nippitsun::archive::{ArrivalAnswer, SlotAnswer, TagAnswer, TickAnswer, DUPLICATE, HANDED_UP, ROGUE};
+pub use nippitsun::archive::{
+    ArrivalAnswer, SlotAnswer, TagAnswer, TickAnswer, DUPLICATE, HANDED_UP, ROGUE,
+};
 pub use nippitsun::{Counts, State, Stream};
 
 /// A decision's verdict on a damaged record. In an arrival that is a refusal.

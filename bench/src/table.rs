@@ -1,0 +1,208 @@
+//! The tables, at most 120 columns wide, one row a cell.
+use std::collections::HashMap;
+
+/// The places of an arrival's sides. A tag call and a decision have the first two as well.
+const PRODUCT: usize = 0;
+const PLAIN: usize = 1;
+const SECOND: usize = 2;
+const MEMCPY: usize = 3;
+const BARE: usize = 4;
+
+/// What was measured of a cell, side by side: the least time, and the instructions inside the call.
+pub struct Row {
+    pub name: String,
+    pub ns: Vec<f64>,
+    pub counts: Vec<Option<f64>>,
+}
+
+impl Row {
+    fn ratio(&self, to: usize) -> f64 {
+        self.ns[PRODUCT] / self.ns[to]
+    }
+
+    /// The instructions of a side, or `-` where nothing counted them.
+    fn count(&self, side: usize) -> String {
+        self.counts[side].map_or(String::from("-"), |n| format!("{:.0}", n))
+    }
+}
+
+/// The instructions by cell and side.
+pub struct Counts(HashMap<String, f64>);
+
+impl Counts {
+    pub fn read(path: &str) -> Result<Counts, String> {
+        let text = std::fs::read_to_string(path).map_err(|e| format!("{}: {}", path, e))?;
+        let mut counts = HashMap::new();
+        for line in text.lines() {
+            let (what, number) = line
+                .rsplit_once(' ')
+                .ok_or_else(|| format!("{}: {}", path, line))?;
+            counts.insert(
+                String::from(what),
+                number.parse().map_err(|_| format!("{}: {}", path, line))?,
+            );
+        }
+        Ok(Counts(counts))
+    }
+
+    pub fn of(&self, cell: &str, sides: &[&str]) -> Vec<Option<f64>> {
+        sides
+            .iter()
+            .map(|side| self.0.get(&format!("{} {}", cell, side)).copied())
+            .collect()
+    }
+}
+
+/// What an arrival's cell is called after: its size, its streams and its mix.
+fn parts(name: &str) -> (usize, usize, &str) {
+    let words: Vec<&str> = name.split('-').collect();
+    (
+        words[1].parse().unwrap(),
+        words[2].parse().unwrap(),
+        words[3],
+    )
+}
+
+/// The time that one of two full networks leaves one core for an arrival, in ns: the frame and 20 bytes around it.
+fn line_time(size: usize, gigabits: f64) -> f64 {
+    ((size + 20) * 8) as f64 / gigabits / 2.0
+}
+
+/// The largest part of the product's time: the search, the copy, or the rest.
+fn most(row: &Row, rows: &[Row]) -> &'static str {
+    let (size, _, mix) = parts(&row.name);
+    let one = match rows.iter().find(|r| parts(&r.name) == (size, 1, mix)) {
+        Some(one) => one,
+        None => return "-",
+    };
+    let handed_up = match mix {
+        "duplicate" | "rogue" | "refused" => 0.0,
+        "pair" => 0.5,
+        _ => 1.0,
+    };
+    let search = row.ns[PRODUCT] - one.ns[PRODUCT];
+    let copy = handed_up * (row.ns[MEMCPY] - row.ns[BARE]);
+    let rest = row.ns[PRODUCT] - row.ns[BARE] - search - copy;
+    if search > copy && search > rest {
+        "search"
+    } else if copy > rest {
+        "copy"
+    } else {
+        "rest"
+    }
+}
+
+/// How many of the cells meet the aim beside one side, as the ratio is printed, and the range of the ratios.
+fn tell_aim(rows: &[Row], to: usize, beside: &str, aim: f64) {
+    let ratios: Vec<f64> = rows
+        .iter()
+        .map(|r| (r.ratio(to) * 100.0).round() / 100.0)
+        .collect();
+    let met = ratios.iter().filter(|&&r| r <= aim).count();
+    let least = ratios.iter().copied().fold(f64::MAX, f64::min);
+    let largest = ratios.iter().copied().fold(f64::MIN, f64::max);
+    println!(
+        "Beside {}: {:.2} to {:.2}; the aim, at most {:.1}, is met in {} of {} cells.",
+        beside,
+        least,
+        largest,
+        aim,
+        met,
+        rows.len()
+    );
+}
+
+/// How much more a gap of 63 costs than one of 1, where both cells were timed.
+fn tell_gap(rows: &[Row], one: &str, gap: &str) {
+    let time = |name: &str| rows.iter().find(|r| r.name == name).map(|r| r.ns[PRODUCT]);
+    if let (Some(one), Some(gap)) = (time(one), time(gap)) {
+        println!(
+            "A forward gap of 63 costs the product {:.2} times a gap of 1 (aim: at most 2).",
+            gap / one
+        );
+    }
+}
+
+/// The one table.
+pub fn arrivals(rows: &[Row], aim: f64) {
+    println!("the arrivals           |       ns an arrival         | instructions an arrival     |  product to  |  line rate  | most");
+    println!("size streams mix       | product plain second memcpy | product plain second memcpy | plain second |    1G   10G | of it");
+    println!("-----------------------+-----------------------------+-----------------------------+--------------+-------------+------");
+    for r in rows {
+        let (size, streams, mix) = parts(&r.name);
+        let ns = r.ns[PRODUCT];
+        println!(
+            "{:4} {:7} {:9} | {:7.1} {:5.1} {:6.1} {:6.1} | {:>7} {:>5} {:>6} {:>6} | {:5.2} {:6.2} | {:5.1} {:5.2} | {}",
+            size,
+            streams,
+            mix,
+            ns,
+            r.ns[PLAIN],
+            r.ns[SECOND],
+            r.ns[MEMCPY],
+            r.count(PRODUCT),
+            r.count(PLAIN),
+            r.count(SECOND),
+            r.count(MEMCPY),
+            r.ratio(PLAIN),
+            r.ratio(SECOND),
+            line_time(size, 1.0) / ns,
+            line_time(size, 10.0) / ns,
+            most(r, rows)
+        );
+    }
+    println!();
+    println!("plain: Rust written for speed. second: the second program's arrival. memcpy: the frame's bytes copied, nothing else.");
+    println!("line rate: the time that two full networks of 1 or 10 Gbit/s leave one core for an arrival (frame + 20 bytes),");
+    println!("divided by the product's time: above 1 it keeps up. most of it: the search, the copy, or the rest.");
+    tell_aim(rows, PLAIN, "the plain arrival written for speed", aim);
+    tell_aim(rows, SECOND, "the second program's arrival", aim);
+    tell_gap(rows, "arrival-64-1-new", "arrival-64-1-gap63");
+    let bare = rows.iter().map(|r| r.ns[BARE]);
+    let (least, largest) = (
+        bare.clone().fold(f64::MAX, f64::min),
+        bare.fold(0.0, f64::max),
+    );
+    println!("In every time: the loop that writes the frames and a bare call, together {:.1} to {:.1} ns.", least, largest);
+}
+
+fn small(what: &str, rows: &[Row], sides: &[&str]) {
+    let each = |cell: &dyn Fn(usize) -> String, from: usize| -> String {
+        (from..sides.len())
+            .map(|i| format!(" {:>8}", cell(i)))
+            .collect()
+    };
+    let names = |from: usize| each(&|i| String::from(sides[i]), from);
+    println!(
+        "{:22} |{:>w$} |{:>w$} |{:>v$}",
+        what,
+        "ns",
+        "instructions",
+        "product to",
+        w = 9 * sides.len(),
+        v = 2 + 9 * (sides.len() - 1)
+    );
+    println!("{:22} |{} |{} |{}", "", names(0), names(0), names(1));
+    for r in rows {
+        println!(
+            "{:22} |{} |{} |{}",
+            r.name,
+            each(&|i| format!("{:.1}", r.ns[i]), 0),
+            each(&|i| r.count(i), 0),
+            each(&|i| format!("{:.2}", r.ratio(i)), 1)
+        );
+    }
+    println!();
+}
+
+pub fn tags(rows: &[Row], aim: f64) {
+    small("tag calls", rows, &["product", "plain"]);
+    tell_aim(rows, PLAIN, "the plain call", aim);
+}
+
+pub fn decisions(rows: &[Row], aim: f64) {
+    small("decisions", rows, &["product", "plain", "in place"]);
+    tell_aim(rows, PLAIN, "the plain decision by value", aim);
+    tell_aim(rows, SECOND, "the plain decision in place", aim);
+    tell_gap(rows, "row-new", "row-gap63");
+}
