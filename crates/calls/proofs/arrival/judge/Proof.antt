@@ -40,6 +40,9 @@ weigh-requires c κs = search needs
 enum-told : tie.Need-enum-told
 enum-told c = search needs
 
+judged-as-requires : tie.Need-judged-as-requires
+judged-as-requires c κs = search needs
+
 returns : tie.Need-returns
 returns c = judge-damaged _ _ _ (no-verdict _ _ (sym (c .before .before .weigh .ensures) ∙ c .enum-told .given .1))
 
@@ -47,7 +50,7 @@ returns-2 : tie.Need-returns-2
 returns-2 c = judge-small _ _ _ (sound (c .before)) (not-true _ (c .if1 .taken))
 
 returns-3 : tie.Need-returns-3
-returns-3 c = judge-weighed _ _ _ (sound (c .before)) (not-false _ (c .if1 .left)) (c .before .before .weigh .ensures)
+returns-3 c = judge-weighed _ _ _ (sound (c .before .before)) (not-false _ (c .before .if1 .left)) (c .before .before .before .weigh .ensures) (c .judged-as .ensures)
 
 pub judge-spec : {M : Type 1} → statement M
-judge-spec = tie.close (tie.spec weigh-requires enum-told returns returns-2 returns-3)
+judge-spec = tie.close (tie.spec weigh-requires enum-told returns returns-2 judged-as-requires returns-3)
