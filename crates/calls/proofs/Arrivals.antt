@@ -53,12 +53,12 @@ weighed-verdict : (s : Stream) (number : ℕ) → lawful s ≡ true
 unfolding weighed weighedAs decisions.verdict
 weighed-verdict s number l = rw l
 
-left : (s : Stream) (network : ℕ) (w : Weighed) → recordOf s network (judgedAs w) ≡ recordAfter s network w
+after-judged : (s : Stream) (network : ℕ) (w : Weighed) → recordOf s network (judgedAs w) ≡ recordAfter s network w
 unfolding recordAfter
-left s network weighs.Damaged = refl
-left s network (weighs.HandedUp m) = refl
-left s network weighs.Duplicate = refl
-left s network weighs.Rogue = refl
+after-judged s network weighs.Damaged = refl
+after-judged s network (weighs.HandedUp m) = refl
+after-judged s network weighs.Duplicate = refl
+after-judged s network weighs.Rogue = refl
 
 module _ (t : Table) (network : ℕ) (f out : List ℕ) where
   -- 1 to 5 are asked first, and what follows goes by what was read
@@ -162,5 +162,5 @@ module _ (t : Table) (network : ℕ) (f out : List ℕ) where
               let e = weighed-verdict (at t i) number l in
               let n = bare-length f (typeAt f) (omega (arith, known .room)) in
               by-act t (arriving network f out) (arrive i number network (untagged f)) (arrive-act l (sym k))
-              (b ∙ rw (d, e, told v m, n)) (a ∙ rw (d, left (at t i) network (weighed (at t i) number), steps-decide (at t i) number network l))
+              (b ∙ rw (d, e, told v m, n)) (a ∙ rw (d, after-judged (at t i) network (weighed (at t i) number), steps-decide (at t i) number network l))
               (c ∙ rw (d, e) (written v m (sym k)))

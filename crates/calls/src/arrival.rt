@@ -70,13 +70,14 @@ pub fn judge(s: Stream, number: u16, room: bool) -> Judged
     ensures { λ r. ⌜ r ≡ judged s number room ⌝ }
 {
     let w = stream::weigh(s, number);
+    let j = judged_as(w);
     if let Weighed::Damaged = w {
         return Judged::Refused(refusal::DAMAGED);
     }
     if !room {
         return Judged::Refused(refusal::ROOM);
     }
-    judged_as(w)
+    j
 }
 
 // What the first step of the decision found: 7 where there is no verdict.
