@@ -20,6 +20,9 @@ const PORT_ROOM: i32 = 64 << 20;
 const TYPE_AT: usize = 12;
 const VLAN_TAG: usize = 4;
 
+/// The standard library's formatter, byte by byte, would take longer than all the rest of this program's own work.
+const DIGITS: &[u8; 16] = b"0123456789abcdef";
+
 /// Why the program ends early.
 enum Trouble {
     /// What was asked for can't be done.
@@ -94,7 +97,8 @@ impl Host {
     fn hand_up(&mut self, slot: usize, number: u16, frame: &[u8]) -> io::Result<()> {
         write!(self.up, "{slot} {number} {} ", frame.len())?;
         for byte in frame {
-            write!(self.up, "{byte:02x}")?;
+            let (high, low) = (usize::from(byte >> 4), usize::from(byte & 15));
+            self.up.write_all(&[DIGITS[high], DIGITS[low]])?;
         }
         writeln!(self.up)
     }
