@@ -4,7 +4,7 @@ use mathlib.Core.List.{List, [], _∷_}
 use Rattle.frame.specs.TagCalls.{takeTag, writeTag}
 use Rattle.frame.specs.Refusals.{takeChecks, writeChecks}
 use Rattle.frame.proofs.Refusals.{take-refused-exactly, write-refused-exactly}
-use Rattle.frame.proofs.Others.{take-refused-keeps, write-refused-keeps}
+use Rattle.frame.proofs.Laws.{take-refused-keeps, write-refused-keeps}
 use Rattle.calls.specs.Table.{Table}
 use Rattle.calls.specs.Calls.{Call}
 use Rattle.calls.proofs.Exactly.{refused-exactly}

@@ -1,15 +1,14 @@
 -- What `readAt` and `eventOf` are, by the tests that a reader makes. Assumes nothing.
-use mathlib.Core.Path.{_≡_, refl, sym, ap, _∙_}
+use mathlib.Core.Path.{_≡_, refl, ap}
 use Prim.Native.Nat.{ℕ, _+_, _≤_, _<_}
 use native.Mathlib.Omega.{arith}
 use mathlib.Core.List.{List, [], _∷_}
 use lib.ListN.{length, getD}
-use borrow.Author.Tests.{lt-ltb, le-ltb, le-leb, lt-leb, eq-eqb, ne-eqb}
+use borrow.Author.Tests.{lt-ltb, le-ltb, le-leb, lt-leb, ne-eqb}
 use Rattle.frame.specs.Bytes.{word}
 use Rattle.event_file.specs.Records.{OPEN, CLOSE, RESET, ARRIVAL, TICK, readAt, settingsOf, eventOf}
 use Rattle.event_file.specs.declared.reader.Read.the-variants.{More, Body}
 use Rattle.event_file.specs.declared.reader.Settings.{Settings}
-use Rattle.event_file.specs.declared.reader.Event.{Event}
 use Rattle.event_file.specs.declared.reader.Event.the-variants.{Bad, Open, Close, Reset, Arrival, Tick}
 
 module _ (s : List ℕ) (at : ℕ) where

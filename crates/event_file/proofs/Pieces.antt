@@ -8,12 +8,12 @@ use mathlib.Core.List.{List, [], _∷_, _++_, append-assoc, append-nil}
 use lib.ListN.{length, take, drop, length-append, length-drop}
 use lib.Seq.{take-append-le, drop-append-le}
 use lib.Dec.{leb}
-use borrow.Author.Tests.{le-leb, lt-leb, leb-true, leb-false}
-use Rattle.event_file.specs.Records.{File, recordsIn, recordsOf}
-use Rattle.event_file.specs.Records.File.{ended, cut, body}
+use borrow.Author.Tests.{leb-true}
+use Rattle.event_file.specs.Records.{recordsIn, recordsOf}
+use Rattle.event_file.specs.Records.File.{cut, body}
 use Rattle.event_file.specs.Pieces.{restIn, restOf, andThen, piecesOf, allOf}
 use Rattle.event_file.specs.Laws.{AnyPieces}
-use Rattle.event_file.proofs.Framing.{same, front}
+use Rattle.event_file.proofs.Framing.{front}
 
 -- one record in front, whatever follows
 one-more : (a b : ℕ) (s t : List ℕ) → a * 256 + b ≤ length s → recordsOf (a ∷ (b ∷ (s ++ t))) ≡ body (take (a * 256 + b) s) (recordsOf (drop (a * 256 + b) s ++ t))

@@ -21,7 +21,6 @@ use Rattle.record.proofs.Stream as Stream-type
 use Rattle.record.proofs.Stream.Laws as Stream-laws
 use Rattle.receiver.proofs.Rows.{R, val, tells, makes}
 use Rattle.event_run.specs.declared.Place.{Place}
-use Rattle.event_run.specs.declared.Round.{Round}
 use Rattle.event_run.proofs.Round as Round-type
 use Rattle.event_run.proofs.Round.Laws as Round-laws
 use Rattle.event_run.proofs.Values.{place-ok, round-ok}

@@ -1,5 +1,4 @@
 -- What making a value asks, and what one that is owned says of its fields. Assumes nothing.
-use mathlib.Core.Path.{refl}
 use Prim.Native.Nat.{ℕ, _<_, _^_}
 use denote.Struct.Laws as Struct-laws
 use denote.Enum.Laws as Enum-laws

@@ -9,7 +9,6 @@ use lib.ListN.{length, take, drop, getD, length-take, drop-of-length-le, take-ap
 use lib.Seq.{length-take-le, take-take, take-add, drop-at}
 use lib.Dec.{eqb}
 use borrow.Author.Tests.{lt-leb, eq-eqb, ne-eqb}
-use Rattle.record.specs.Words.{if_then_else_}
 use Rattle.record.specs.Sizes.{frameMost}
 use Rattle.calls.specs.Table.{Table}
 use Rattle.event_file.specs.Records.{recordsOf, readAt}
@@ -21,9 +20,8 @@ use Rattle.event_file.proofs.Framing.{last-record}
 use Rattle.event_file.proofs.Writing.{front-of, writes-put}
 use Rattle.event_run.specs.declared.Place.{Place}
 use Rattle.event_turns.specs.declared.Held.{Held}
-use Rattle.event_turns.specs.declared.Turn.{Turn}
 use Rattle.event_run.specs.Run.{due, Kept, Drained}
-use Rattle.event_turns.specs.Turns.{placeOf, heldIn, dueFrom, pieceOf, stays, Turned, startsOne, startOf, Goes, here, turn, RunsPrint, VersionPrints}
+use Rattle.event_turns.specs.Turns.{placeOf, dueFrom, pieceOf, stays, Turned, startsOne, startOf, Goes, here, turn, RunsPrint, VersionPrints}
 
 -- ---- a buffer that is read up to a place
 

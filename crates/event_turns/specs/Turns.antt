@@ -1,11 +1,11 @@
 -- Document 01, "Event file and the program `events`": a run in turns. A turn answers what can be answered, hands its lines
 -- over to be written, and reads a piece more. No contract can speak of the bytes that go through a descriptor; these speak
 -- of the bytes that stand in the buffers when the calls are made. Assumes nothing.
-use Prim.Native.Nat.{ℕ, _-_, _≤_}
+use Prim.Native.Nat.{ℕ, _-_}
 use mathlib.Core.Path.{_≡_}
 use mathlib.Core.Bool.{Bool, true, false}
 use mathlib.Core.List.{List, [], _∷_, _++_}
-use lib.ListN.{length, take, drop}
+use lib.ListN.{take, drop}
 use lib.Dec.{eqb}
 use Rattle.calls.specs.Table.{Table}
 use Rattle.event_file.specs.Text.{text}

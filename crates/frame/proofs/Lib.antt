@@ -7,4 +7,4 @@ pub mod PutThenTake
 pub mod TakeThenPut
 pub mod Refusals
 pub mod Reading
-pub mod Others
+pub mod Laws

@@ -1,7 +1,7 @@
 -- A part of a `&[u8]` at the slice's own lifetime, as `&s[a..e]` makes it: what the slice owns becomes what the part owns.
 --     slice-part       [what a `&κ [u8]` owns; the token; …] to [what a `&κ [u8]` on its bytes from a up to e owns, under a new name; the token; …]
 -- Assumes `Given`.
-use mathlib.Core.Path.{_≡_, refl, ap, _∙_, subst}
+use mathlib.Core.Path.{refl, ap, _∙_, subst}
 use Prim.Native.Nat.{ℕ, _+_, _-_, _≤_}
 use native.Mathlib.Nat.{le-trans}
 use mathlib.Core.List.{List, [], _∷_}

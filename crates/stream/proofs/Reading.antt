@@ -3,6 +3,7 @@ use mathlib.Core.Path.{_≡_, refl, ap, ap₂, _∙_, sym}
 use mathlib.Core.Bool.{Bool, true, false}
 use Prim.Native.Nat.{ℕ, zero, suc, _+_, _-_, _%_, _<_, _≤_, _^_}
 use native.Mathlib.Omega.{arith}
+use native.Mathlib.Decide.{decLt}
 use lib.IntN.{ℤ, pos, negsuc, negℤ, _-ℤ_, natAbs, +ℤ-idl}
 use lib.Signed.{mag, leZ, ltZ, nonNeg}
 use lib.Dec.{T, eqb, ltb}
@@ -17,9 +18,6 @@ use Rattle.stream.specs.Decisions.{Signed, ahead, behind, signed, differ
 pub wide : (w : ℕ) → w < 2 ^ 16 → toZ w32 w ≡ pos w
 wide w h = toZ-pos w32 (omega arith)
 
-below : (w : ℕ) → w < 2 ^ 16 → pos w -ℤ pos 65536 ≡ negsuc (65535 - w)
-below w h = simp (lt-ltb w 65536 h) (ap negsuc (omega arith))
-
 pub signed-low : (w : ℕ) → w < 32768 → asInt (signed w) ≡ pos w
 unfolding signed
 signed-low zero h = refl
@@ -31,15 +29,26 @@ signed-high w l h =
     let n : 65536 - w ≡ suc (65535 - w) = omega arith in
     rw (ne-eqb w 0 (omega arith), le-ltb w 32768 l, n)
 
-pub sub-fits : (w : ℕ) → w < 2 ^ 16 → SFits w32 (toZ w32 w -ℤ pos 65536)
-sub-fits w h = record { sfits = rw (wide w h, below w h) (omega arith) }
+-- Half the range is added, modulo 65536, which gives r, and taken away again.
+module _ (w r : ℕ) (hw : w < 2 ^ 16) (e : r ≡ (w + 32768) % 2 ^ 16) where
+  less-half : toZ w32 r -ℤ pos 32768 ≡ asInt (signed w)
+  less-half = elim (decLt w 32768) [
+    | yes l ↦ rw (wide r (omega arith), signed-low w l, le-ltb r 32768 (omega arith)) (ap pos (omega arith))
+    | no l ↦
+        rw (wide r (omega arith), signed-high w (omega arith) hw, lt-ltb r 32768 (omega arith)) (ap negsuc (omega arith))
+  ]
 
-pub read-low : (w : ℕ) → w < 32768 → w < 2 ^ 16 → toZ w32 w ≡ asInt (signed w)
-read-low w l h = wide w h ∙ sym (signed-low w l)
+  mag-signed : mag (asInt (signed w)) < 2 ^ 31
+  mag-signed = elim (decLt w 32768) [
+    | yes l ↦ rw (signed-low w l) (omega arith)
+    | no l ↦ rw (signed-high w (omega arith) hw) (omega arith)
+  ]
 
-pub read-high : (w : ℕ) → 32768 ≤ w → w < 2 ^ 16 → toZ w32 (ofZ w32 (toZ w32 w -ℤ pos 65536)) ≡ asInt (signed w)
-read-high w l h =
-    toZ-ofZ (sub-fits w h) ∙ ap (λ (z : ℤ). z -ℤ pos 65536) (wide w h) ∙ below w h ∙ sym (signed-high w l h)
+  pub sub-fits : SFits w32 (toZ w32 r -ℤ pos 32768)
+  sub-fits = record { sfits = rw less-half mag-signed }
+
+  pub read : toZ w32 (ofZ w32 (toZ w32 r -ℤ pos 32768)) ≡ asInt (signed w)
+  read = toZ-ofZ sub-fits ∙ less-half
 
 -- what wraps back to number is the difference
 pub wraps : (r number anchor : ℕ) → r < 2 ^ 16 → anchor < 2 ^ 16 → (r + anchor) % 2 ^ 16 ≡ number
