@@ -104,7 +104,8 @@ int open_port(const char *interface, int receives)
 {
     // A port that only sends is given no frame by the kernel.
     uint16_t every = receives ? htons(ETH_P_ALL) : 0;
-    int s = socket(AF_PACKET, SOCK_RAW, every);
+    // Type 0 here: until it is bound, the socket would take the frames of every interface.
+    int s = socket(AF_PACKET, SOCK_RAW, 0);
     if (s < 0) fail("packet socket");
     struct sockaddr_ll where = {.sll_family = AF_PACKET, .sll_protocol = every};
     where.sll_ifindex = (int)if_nametoindex(interface);

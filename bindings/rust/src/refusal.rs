@@ -22,14 +22,12 @@ macro_rules! refusals {
                     _ => None,
                 }
             }
-        }
 
-        impl fmt::Display for Refusal {
-            fn fmt(&self, f: &mut fmt::Formatter<'_>) -> fmt::Result {
-                let says = match self {
+            /// When this refusal is given, in words.
+            pub const fn words(self) -> &'static str {
+                match self {
                     $(Refusal::$name => $says,)+
-                };
-                write!(f, "refused ({}): {}", self.number(), says)
+                }
             }
         }
     };
@@ -77,6 +75,12 @@ impl Refusal {
         }
         Err(Refusal::of_number(number)
             .expect("an archive of another version: its refusal has no name here"))
+    }
+}
+
+impl fmt::Display for Refusal {
+    fn fmt(&self, f: &mut fmt::Formatter<'_>) -> fmt::Result {
+        write!(f, "refused ({}): {}", self.number(), self.words())
     }
 }
 

@@ -6,7 +6,6 @@ use Prim.Native.Nat.{ℕ, _-_, _+_, _≤_, _<_}
 use mathlib.Core.Path.{_≡_, refl, sym, ap, _∙_}
 use mathlib.Core.Bool.{Bool, true, false, cond}
 use mathlib.Core.List.{List}
-use mathlib.Core.Option.{some}
 use native.Mathlib.Omega.{arith}
 use lib.Dec.{ltb}
 use lib.ListN.{length, set, length-append, length-take, length-drop}
@@ -15,6 +14,7 @@ use borrow.Author.Tests.{lt-ltb, le-ltb, lt-leb, le-leb, leb-true, leb-false}
 use Rattle.refusal.specs.Checks.Said.{refused, answers}
 use Rattle.refusal.specs.Numbers.{TABLE, NETWORK, UNKNOWN, DAMAGED, ROOM}
 use Rattle.refusal.proofs.Checks.{passed}
+use Rattle.record.specs.declared.Stream.{Stream}
 use Rattle.record.specs.Sizes.{slotsMost}
 use Rattle.frame.specs.Frame.{Tag, typeAt, cutAt, untagged, readOf}
 use Rattle.frame.specs.TagCalls.{writtenWithout}
@@ -23,12 +23,16 @@ use Rattle.frame.proofs.Heads.{TagIs, tag-of}
 use Rattle.frame.proofs.Writes.{type-place, without-fits}
 use Rattle.stream.specs.Record.{lawful}
 use Rattle.stream.specs.Decisions as decisions
-use Rattle.stream.specs.Steps.{weighed}
-use Rattle.stream.proofs.Steps.{steps-tell-verdict, steps-decide}
+use Rattle.stream.specs.Steps.{marksOf, weighedAs, weighed, recordAfter}
+use Rattle.stream.specs.Steps as steps
+use Rattle.stream.specs.declared.Marks.{Marks}
+use Rattle.stream.specs.declared.Weighed.{Weighed}
+use Rattle.stream.specs.declared.Weighed.the-variants as weighs
+use Rattle.stream.proofs.Steps.{steps-decide}
 use Rattle.calls.specs.Table.{Table, blank, at, search, found, hasKey}
-use Rattle.calls.specs.Calls.{arriving, refuse, arrive, arrivalAt, arrival, checked, act, after, answer, output, writtenFor, Meets}
+use Rattle.calls.specs.Calls.{arriving, refuse, arrive, arrivalAt, arrival, checked, act, after, answer, arrived, verdictWith, output, writtenFor, Meets}
 use Rattle.calls.specs.Said.{saidArrival}
-use Rattle.calls.specs.Steps.{asked, saidAsked, hasRoom, judged, recordOf, finished, bytesFor, bytesOf}
+use Rattle.calls.specs.Steps.{asked, saidAsked, hasRoom, judgedAs, judged, recordOf, finished, bytesOf}
 use Rattle.calls.specs.declared.Found.the-variants.{At, Nothing}
 use Rattle.calls.specs.declared.Asked.{Asked}
 use Rattle.calls.specs.declared.Asked.the-variants as asks
@@ -42,6 +46,19 @@ use Rattle.calls.proofs.Places.{found-at, found-none, some-place, no-pl
 pub bare-length : (f : List ℕ) (o : ℕ) → o + 6 ≤ length f → length (cutAt f o) ≡ length f - 6
 unfolding cutAt
 bare-length f o h = simp (length-append, length-take, length-drop) (omega arith)
+
+-- What the first step of the decision found, by the verdict; and the record after it.
+weighed-verdict : (s : Stream) (number : ℕ) → lawful s ≡ true
+    → weighed s number ≡ steps.answer (decisions.verdict s number) (marksOf s number (decisions.caseOf s number))
+unfolding weighed weighedAs decisions.verdict
+weighed-verdict s number l = rw l
+
+after-judged : (s : Stream) (network : ℕ) (w : Weighed) → recordOf s network (judgedAs w) ≡ recordAfter s network w
+unfolding recordAfter
+after-judged s network weighs.Damaged = refl
+after-judged s network (weighs.HandedUp m) = refl
+after-judged s network weighs.Duplicate = refl
+after-judged s network weighs.Rogue = refl
 
 module _ (t : Table) (network : ℕ) (f out : List ℕ) where
   -- 1 to 5 are asked first, and what follows goes by what was read
@@ -108,13 +125,20 @@ module _ (t : Table) (network : ℕ) (f out : List ℕ) where
       known : TagIs f h number
       known = asked-tag (record { header = h; number = number }) tag
 
-      written : (v : decisions.Verdict) → hasRoom f out ≡ true → bytesFor (some v) (h .at) f out ≡ writtenFor v (untagged f) out
-      written decisions.up r =
+      told : (v : decisions.Verdict) (m : Marks)
+          → finished (judgedAs (steps.answer v m)) i number f ≡ answers (arrived i number (verdictWith (length f - 6) v))
+      told decisions.up m = refl
+      told decisions.duplicate m = refl
+      told decisions.rogue m = refl
+
+      written : (v : decisions.Verdict) (m : Marks) → hasRoom f out ≡ true
+          → bytesOf (judgedAs (steps.answer v m)) (h .at) f out ≡ writtenFor v (untagged f) out
+      written decisions.up m r =
           let k = known in
           let l = leb-true (length f - 6) (length out) r in
           ap (λ (o : ℕ). writtenWithout f o out) (k .at) ∙ without-fits f (typeAt f) out (type-place f) (omega arith) (k .few) (omega arith)
-      written decisions.duplicate r = refl
-      written decisions.rogue r = refl
+      written decisions.duplicate m r = refl
+      written decisions.rogue m r = refl
 
       pub arrival-settled : (r : Answer) {room : Bool} {j : Judged} {u : Table} {o : List ℕ}
           → room ≡ hasRoom f out → j ≡ judged (at t i) number room → u ≡ set t i (recordOf (at t i) network j)
@@ -132,8 +156,11 @@ module _ (t : Table) (network : ℕ) (f out : List ℕ) where
               let d : j ≡ judges.Refused ROOM = g ∙ rw l in
               by-act t (arriving network f out) (refuse ROOM) (small-act l (sym k)) (b ∙ rw d) (a ∙ rw d (set-getD t i blank)) (c ∙ rw d)
           go true true l k g =
-              let d : j ≡ judges.Weighed (weighed (at t i) number) = g ∙ rw l in
-              let v = steps-tell-verdict (at t i) number l in
+              let v = decisions.verdict (at t i) number in
+              let m = marksOf (at t i) number (decisions.caseOf (at t i) number) in
+              let d : j ≡ judgedAs (weighed (at t i) number) = g ∙ rw l in
+              let e = weighed-verdict (at t i) number l in
               let n = bare-length f (typeAt f) (omega (arith, known .room)) in
               by-act t (arriving network f out) (arrive i number network (untagged f)) (arrive-act l (sym k))
-              (b ∙ rw (d, v, n)) (a ∙ rw (d, steps-decide (at t i) number network l)) (c ∙ rw (d, v) (written (decisions.verdict (at t i) number) (sym k)))
+              (b ∙ rw (d, e, told v m, n)) (a ∙ rw (d, after-judged (at t i) network (weighed (at t i) number), steps-decide (at t i) number network l))
+              (c ∙ rw (d, e) (written v m (sym k)))

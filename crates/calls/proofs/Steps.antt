@@ -25,10 +25,11 @@ use Rattle.stream.specs.Steps.{weighed, said}
 use Rattle.stream.proofs.Steps.{steps-tell-verdict}
 use Rattle.calls.specs.declared.Found.the-variants.{At, Nothing}
 use Rattle.calls.specs.declared.Survey.{Survey}
+use Rattle.calls.specs.declared.Judged.{Judged}
 use Rattle.calls.specs.declared.Judged.the-variants as judges
 use Rattle.calls.specs.declared.Opened.the-variants as opened
 use Rattle.calls.specs.declared.Done.the-variants as done
-use Rattle.calls.specs.Steps.{asked, judged, notPlaced, placingOf, unchanged, closeChange, resetChange}
+use Rattle.calls.specs.Steps.{asked, judgedAs, judged, notPlaced, placingOf, unchanged, closeChange, resetChange}
 
 -- ---- ask
 
@@ -75,9 +76,9 @@ module _ (s : Stream) (number : ℕ) (room : Bool) where
   unfolding judged
   judge-small l r = rw (l, r)
 
-  pub judge-weighed : {w : Weighed} → lawful s ≡ true → room ≡ true → w ≡ weighed s number → judges.Weighed w ≡ judged s number room
+  pub judge-weighed : {w : Weighed} {j : Judged} → lawful s ≡ true → room ≡ true → w ≡ weighed s number → j ≡ judgedAs w → j ≡ judged s number room
   unfolding judged
-  judge-weighed l r e = rw (l, r, e)
+  judge-weighed l r e k = k ∙ rw (l, r, e)
 
 -- ---- place
 

@@ -3,7 +3,6 @@
 use Prim.Native.Nat.{ℕ, _-_}
 use mathlib.Core.Bool.{Bool, _&&_, not}
 use mathlib.Core.List.{List}
-use mathlib.Core.Option.{Option, none, some}
 use lib.Dec.{ltb, leb}
 use lib.ListN.{length}
 use Rattle.refusal.specs.Checks.{Said}
@@ -16,9 +15,10 @@ use Rattle.frame.specs.Frame.{Tag, readOf}
 use Rattle.frame.specs.TagCalls.{writtenWithout}
 use Rattle.stream.specs.Record.{settled, lawful, closed}
 use Rattle.stream.specs.Decisions.{reset}
-use Rattle.stream.specs.Decisions as decisions
-use Rattle.stream.specs.Steps.{weighed, said, recordAfter}
-use Rattle.calls.specs.Calls.{Answer, arrived, verdictWith}
+use Rattle.stream.specs.Steps.{weighed, recordAfter}
+use Rattle.stream.specs.declared.Weighed.{Weighed}
+use Rattle.stream.specs.declared.Weighed.the-variants as weighs
+use Rattle.calls.specs.Calls.{Answer, arrived, handedUp, duplicate, rogue}
 use Rattle.calls.specs.declared.Found.{Found}
 use Rattle.calls.specs.declared.Found.the-variants as found
 use Rattle.calls.specs.declared.Survey.{Survey}
@@ -53,38 +53,40 @@ refusalIn (asks.For h number) = 0
 abbrev pub hasRoom : (frame out : List ℕ) → Bool
 hasRoom f out = leb (length f - 6) (length out)
 
+-- What the first step of the decision found: 7 where there is no verdict.
+abbrev pub judgedAs : Weighed → Judged
+judgedAs weighs.Damaged = judges.Refused DAMAGED
+judgedAs (weighs.HandedUp m) = judges.HandedUp m
+judgedAs weighs.Duplicate = judges.Duplicate
+judgedAs weighs.Rogue = judges.Rogue
+
 -- 7 and 8, then what the arrival is to its record. The room is known before anything is marked.
 unfoldable pub judged : Stream → (number : ℕ) → (room : Bool) → Judged
 judged s number room =
     if not (lawful s) then judges.Refused DAMAGED
     else if not room then judges.Refused ROOM
-    else judges.Weighed (weighed s number)
+    else judgedAs (weighed s number)
 
 -- The record after it; a refused arrival leaves it.
 abbrev pub recordOf : Stream → (network : ℕ) → Judged → Stream
 recordOf s network (judges.Refused n) = s
-recordOf s network (judges.Weighed w) = recordAfter s network w
+recordOf s network (judges.HandedUp m) = recordAfter s network (weighs.HandedUp m)
+recordOf s network judges.Duplicate = recordAfter s network weighs.Duplicate
+recordOf s network judges.Rogue = recordAfter s network weighs.Rogue
 
--- The answer, by the verdict. (There is one for every record that was judged and not refused; where there is none, as for
--- a damaged record, the answer is 7.)
-abbrev pub answerFor : Option decisions.Verdict → (slot number length : ℕ) → Said Answer
-answerFor none slot number l = refused DAMAGED
-answerFor (some v) slot number l = answers (arrived slot number (verdictWith l v))
-
+-- The answer.
 abbrev pub finished : Judged → (slot number : ℕ) (frame : List ℕ) → Said Answer
 finished (judges.Refused n) slot number f = refused n
-finished (judges.Weighed w) slot number f = answerFor (said w) slot number (length f - 6)
+finished (judges.HandedUp m) slot number f = answers (arrived slot number (handedUp (length f - 6)))
+finished judges.Duplicate slot number f = answers (arrived slot number duplicate)
+finished judges.Rogue slot number f = answers (arrived slot number rogue)
 
 -- The output bytes: handed up writes the frame without the tag at its type field, and nothing else writes.
-abbrev pub bytesFor : Option decisions.Verdict → (place : ℕ) (frame out : List ℕ) → List ℕ
-bytesFor none o f out = out
-bytesFor (some decisions.up) o f out = writtenWithout f o out
-bytesFor (some decisions.duplicate) o f out = out
-bytesFor (some decisions.rogue) o f out = out
-
 abbrev pub bytesOf : Judged → (place : ℕ) (frame out : List ℕ) → List ℕ
 bytesOf (judges.Refused n) o f out = out
-bytesOf (judges.Weighed w) o f out = bytesFor (said w) o f out
+bytesOf (judges.HandedUp m) o f out = writtenWithout f o out
+bytesOf judges.Duplicate o f out = out
+bytesOf judges.Rogue o f out = out
 
 -- ---- open, close and reset: the answer, and what is stored in which slot
 

@@ -12,7 +12,7 @@ ghost use lib.ListN.{length};
 ghost use Rattle.refusal.specs.Checks.Said.{refused};
 ghost use Rattle.refusal.specs.Numbers.{UNKNOWN};
 ghost use Rattle.calls.specs.Said.{saidArrival};
-ghost use Rattle.calls.specs.Steps.{saidAsked, asked, refusalIn, hasRoom, judged, recordOf, finished, bytesOf};
+ghost use Rattle.calls.specs.Steps.{saidAsked, asked, refusalIn, hasRoom, judgedAs, judged, recordOf, finished, bytesOf};
 
 // Arrival: 1 and 2, then 3, 4 and 5 as the frame's reader gives them.
 pub fn ask(slots: usize, network: u8, frame: &[u8]) -> Asked
@@ -70,13 +70,26 @@ pub fn judge(s: Stream, number: u16, room: bool) -> Judged
     ensures { λ r. ⌜ r ≡ judged s number room ⌝ }
 {
     let w = stream::weigh(s, number);
+    let j = judged_as(w);
     if let Weighed::Damaged = w {
         return Judged::Refused(refusal::DAMAGED);
     }
     if !room {
         return Judged::Refused(refusal::ROOM);
     }
-    Judged::Weighed(w)
+    j
+}
+
+// What the first step of the decision found: 7 where there is no verdict.
+fn judged_as(w: Weighed) -> Judged
+    ensures { λ r. ⌜ r ≡ judgedAs w ⌝ }
+{
+    match w {
+        Weighed::Damaged => Judged::Refused(refusal::DAMAGED),
+        Weighed::HandedUp(m) => Judged::HandedUp(m),
+        Weighed::Duplicate => Judged::Duplicate,
+        Weighed::Rogue => Judged::Rogue,
+    }
 }
 
 // The record after it. A refused arrival leaves it as it is.
@@ -85,7 +98,9 @@ pub fn record_after(s: Stream, network: u8, j: Judged) -> Stream
 {
     match j {
         Judged::Refused(_) => s,
-        Judged::Weighed(w) => stream::next(s, network, w),
+        Judged::HandedUp(m) => stream::next(s, network, Weighed::HandedUp(m)),
+        Judged::Duplicate => stream::next(s, network, Weighed::Duplicate),
+        Judged::Rogue => stream::next(s, network, Weighed::Rogue),
     }
 }
 
@@ -103,17 +118,7 @@ pub fn finish(
 {
     match j {
         Judged::Refused(n) => Answer::Refused(n),
-        Judged::Weighed(w) => tell(w, slot, at, number, frame, out),
-    }
-}
-
-fn tell(w: Weighed, slot: usize, at: usize, number: u16, frame: &[u8], out: &mut [u8]) -> Answer
-    ensures { λ r. ⌜ saidArrival r ≡ finished (Judged.Weighed w) slot number (now (frame .entry)) ⌝ }
-    ensures { λ _. ⌜ now (out .exit) ≡ bytesOf (Judged.Weighed w) at (now (frame .entry)) (now (out .entry)) ⌝ }
-{
-    match w {
-        Weighed::Damaged => Answer::Refused(refusal::DAMAGED),
-        Weighed::HandedUp(_) => {
+        Judged::HandedUp(_) => {
             frame::write_without(frame, at, out);
             Answer::Arrival {
                 slot,
@@ -121,12 +126,12 @@ fn tell(w: Weighed, slot: usize, at: usize, number: u16, frame: &[u8], out: &mut
                 verdict: Verdict::HandedUp(bare_length(frame)),
             }
         }
-        Weighed::Duplicate => Answer::Arrival {
+        Judged::Duplicate => Answer::Arrival {
             slot,
             number,
             verdict: Verdict::Duplicate,
         },
-        Weighed::Rogue => Answer::Arrival {
+        Judged::Rogue => Answer::Arrival {
             slot,
             number,
             verdict: Verdict::Rogue,

@@ -17,7 +17,7 @@ use record::Stream;
 pub use slot::close;
 pub use slot::place;
 pub use slot::reset;
-use stream::Weighed;
+use stream::Marks;
 ghost use mathlib.Core.Path.{_≡_};
 ghost use mathlib.Core.Bool.{_||_};
 ghost use Rattle.calls.specs.Ticks.{noSums, visited};
@@ -68,7 +68,9 @@ pub enum Asked {
 // What an arrival is to its record; or 7 and 8.
 pub enum Judged {
     Refused(u8),
-    Weighed(Weighed),
+    HandedUp(Marks),
+    Duplicate,
+    Rogue,
 }
 
 // The answer of an open, and what it stores. Where it is refused the slot lies beyond the table, so nothing is stored.

@@ -27,27 +27,30 @@ verdict w e k = go (rw e at k)
     go (inr (inr a)) = omega arith
 
 -- so a record that has one is lawful
-sound : (c : tie.At-match-keys2) → lawful (c .before .before .args .s) ≡ true
-sound c = go (lawful (c .before .before .args .s)) refl
+sound : (c : tie.At-match-keys2) → lawful (c .before .before .before .args .s) ≡ true
+sound c = go (lawful (c .before .before .before .args .s)) refl
   where
-    go : (b : Bool) → lawful (c .before .before .args .s) ≡ b → lawful (c .before .before .args .s) ≡ true
+    go : (b : Bool) → lawful (c .before .before .before .args .s) ≡ b → lawful (c .before .before .before .args .s) ≡ true
     go true l = l
-    go false l = absurd (verdict (c .before .weigh .result) (c .before .weigh .ensures ∙ steps-damaged _ _ l) (c .match .keys2))
+    go false l = absurd (verdict (c .before .before .weigh .result) (c .before .before .weigh .ensures ∙ steps-damaged _ _ l) (c .match .keys2))
 
 weigh-requires : tie.Need-weigh-requires
 weigh-requires c κs = search needs
+
+judged-as-requires : tie.Need-judged-as-requires
+judged-as-requires c κs = search needs
 
 enum-told : tie.Need-enum-told
 enum-told c = search needs
 
 returns : tie.Need-returns
-returns c = judge-damaged _ _ _ (no-verdict _ _ (sym (c .before .before .weigh .ensures) ∙ c .enum-told .given .1))
+returns c = judge-damaged _ _ _ (no-verdict _ _ (sym (c .before .before .before .weigh .ensures) ∙ c .enum-told .given .1))
 
 returns-2 : tie.Need-returns-2
 returns-2 c = judge-small _ _ _ (sound (c .before)) (not-true _ (c .if1 .taken))
 
 returns-3 : tie.Need-returns-3
-returns-3 c = judge-weighed _ _ _ (sound (c .before)) (not-false _ (c .if1 .left)) (c .before .before .weigh .ensures)
+returns-3 c = judge-weighed _ _ _ (sound (c .before)) (not-false _ (c .if1 .left)) (c .before .before .before .weigh .ensures) (c .before .before .judged-as .ensures)
 
 pub judge-spec : {M : Type 1} → statement M
-judge-spec = tie.close (tie.spec weigh-requires enum-told returns returns-2 returns-3)
+judge-spec = tie.close (tie.spec weigh-requires judged-as-requires enum-told returns returns-2 returns-3)

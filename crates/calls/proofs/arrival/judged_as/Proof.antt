@@ -1,0 +1,33 @@
+-- `calls::arrival::judged_as` meets its contract. Assumes nothing.
+use borrow.Author.Needs.{needs}
+use Rattle.calls.proofs.arrival.judged_as.Statement.{statement}
+use Rattle.calls.proofs.arrival.judged_as.Tie as tie
+
+enum-told : tie.Need-enum-told
+enum-told c = search needs
+
+enum-known-w : tie.Need-enum-known-w
+enum-known-w c = search needs
+
+enum-told-2 : tie.Need-enum-told-2
+enum-told-2 c = search needs
+
+enum-told-3 : tie.Need-enum-told-3
+enum-told-3 c = search needs
+
+returns : tie.Need-returns
+returns c = rw (c .enum-told .given .1)
+
+returns-2 : tie.Need-returns-2
+returns-2 c = rw (c .before .w .given .1)
+
+returns-3 : tie.Need-returns-3
+returns-3 c = rw (c .enum-told2 .given .1)
+
+returns-4 : tie.Need-returns-4
+returns-4 c = rw (c .enum-told3 .given .1)
+
+pub judged-as-spec : {M : Type 1} → statement M
+judged-as-spec =
+    tie.close
+    (tie.spec enum-told enum-known-w enum-told-2 enum-told-3 returns returns-2 returns-3 returns-4)
