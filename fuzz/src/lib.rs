@@ -67,31 +67,7 @@ fn from_bytes(b: &[u8; RECORD]) -> Stream {
 
 /// The record with one of its bytes changed.
 fn changed(s: Stream, place: usize, value: u8) -> Stream {
-    let mut b = [0; RECORD];
-    b[0..8].copy_from_slice(&s.dest.to_le_bytes());
-    b[8..10].copy_from_slice(&s.vlan.to_le_bytes());
-    b[10..12].copy_from_slice(&s.window.to_le_bytes());
-    b[12..14].copy_from_slice(&s.time.to_le_bytes());
-    b[14] = s.rule;
-    b[15] = s.used;
-    b[16..24].copy_from_slice(&s.state.history.to_le_bytes());
-    b[24..26].copy_from_slice(&s.state.anchor.to_le_bytes());
-    b[26..28].copy_from_slice(&s.state.remaining.to_le_bytes());
-    b[28] = s.state.any;
-    let c = s.counts;
-    let counts = [
-        c.arrivals0,
-        c.arrivals1,
-        c.passed,
-        c.discarded,
-        c.rogue,
-        c.disorder,
-        c.lost,
-        c.resets,
-    ];
-    for (place, count) in b[32..].chunks_exact_mut(8).zip(counts) {
-        place.copy_from_slice(&count.to_le_bytes());
-    }
+    let mut b = s.to_bytes();
     b[place % RECORD] = value;
     from_bytes(&b)
 }

@@ -38,6 +38,22 @@ pub struct Counts {
     pub resets: u64,
 }
 
+impl Counts {
+    /// All eight, in the order of document 01.
+    pub fn all(&self) -> [u64; 8] {
+        [
+            self.arrivals0,
+            self.arrivals1,
+            self.passed,
+            self.discarded,
+            self.rogue,
+            self.disorder,
+            self.lost,
+            self.resets,
+        ]
+    }
+}
+
 /// One slot of a table.
 ///
 /// Every value of every field is taken. A record in use that breaks the rules is damaged: an arrival for it is refused, a tick
@@ -87,7 +103,7 @@ impl Stream {
 
     /// The record's bytes as they lie in memory, low byte first, its padding zero: for a file, or for another program.
     pub fn to_bytes(&self) -> [u8; size_of::<Stream>()] {
-        let (state, c) = (&self.state, &self.counts);
+        let state = &self.state;
         let mut bytes = Vec::with_capacity(size_of::<Stream>());
         bytes.extend_from_slice(&self.dest.to_le_bytes());
         for field in [self.vlan, self.window, self.time] {
@@ -98,16 +114,7 @@ impl Stream {
         bytes.extend_from_slice(&state.anchor.to_le_bytes());
         bytes.extend_from_slice(&state.remaining.to_le_bytes());
         bytes.extend_from_slice(&[state.any, 0, 0, 0]);
-        for counter in [
-            c.arrivals0,
-            c.arrivals1,
-            c.passed,
-            c.discarded,
-            c.rogue,
-            c.disorder,
-            c.lost,
-            c.resets,
-        ] {
+        for counter in self.counts.all() {
             bytes.extend_from_slice(&counter.to_le_bytes());
         }
         bytes.try_into().unwrap()

@@ -398,19 +398,6 @@ fn place(call: &Call) -> usize {
     }
 }
 
-fn numbers(c: &Counts) -> [u64; 8] {
-    [
-        c.arrivals0,
-        c.arrivals1,
-        c.passed,
-        c.discarded,
-        c.rogue,
-        c.disorder,
-        c.lost,
-        c.resets,
-    ]
-}
-
 impl Seen {
     fn new() -> Seen {
         Seen {
@@ -473,11 +460,7 @@ impl Seen {
         if !matches!(call, Call::Open(_)) {
             for (b, a) in before.iter().zip(after) {
                 if b.counts != a.counts {
-                    for (n, (b, a)) in numbers(&b.counts)
-                        .iter()
-                        .zip(numbers(&a.counts))
-                        .enumerate()
-                    {
+                    for (n, (b, a)) in b.counts.all().iter().zip(a.counts.all()).enumerate() {
                         self.wrapped[n] += u64::from(a < *b);
                     }
                 }
