@@ -38,8 +38,9 @@ pub data Act : Type 0 where
 
 -- ---- the checks, in their order
 
--- Arrival: 1 to 8 in this order. The lowest slot with the key is taken. 8 is given when the output holds fewer than
--- length - 6 bytes, for every arrival that gets this far, even a duplicate.
+-- Arrival: 1 to 8 in this order; 1 stands in `act`, 2 in `checked`, 3 to 5 in `readOf`, and the rest here. The lowest
+-- slot with the key is taken. 8 is given when the output holds fewer than length - 6 bytes, for every arrival that gets
+-- this far, even a duplicate.
 unfoldable pub arrivalAt : (t : Table) (slot number network : ℕ) (frame out : List ℕ) → Act
 arrivalAt t i number network f out =
     if leb (length t) i then refuse UNKNOWN
@@ -64,6 +65,7 @@ open-call t s =
     else if not (someSlot isFree t) then refuse FULL
     else opens (search isFree t) s
 
+-- Each call, once 1 is passed.
 unfoldable pub checked : Table → Call → Act
 checked t (arriving network f out) = if ltb 1 network then refuse NETWORK else arrival t network f out (readOf f)
 checked t (opening dest vlan rule window time) = open-call t (opened (destOf dest) vlan rule window time)
@@ -77,6 +79,7 @@ checked t (resetting i) =
 -- Tick: 1.
 checked t ticking = ticks
 
+-- 1 is the first check of every call.
 unfoldable pub act : Table → Call → Act
 act t c = if ltb slotsMost (length t) then refuse TABLE else checked t c
 

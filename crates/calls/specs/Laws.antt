@@ -74,7 +74,7 @@ abbrev pub NoneDamaged : Type 0
 NoneDamaged =
     (t : Table) (c : Call) → ((j : ℕ) → damaged (at t j) ≡ false) → (j : ℕ) → damaged (at (after t (act t c)) j) ≡ false
 
--- An open fills its slot with a lawful record, and "this mends a damaged record": so does a reset, whatever it held.
+-- An open fills its slot with a lawful record.
 abbrev pub OpenLawful : Type 0
 OpenLawful = (t : Table) (c : Call) (i : ℕ) (s : Stream) → act t c ≡ opens i s → lawful (at (after t (act t c)) i) ≡ true
 
@@ -82,6 +82,7 @@ OpenLawful = (t : Table) (c : Call) (i : ℕ) (s : Stream) → act t c ≡ opens
 abbrev pub OpenTakesFree : Type 0
 OpenTakesFree = (t : Table) (c : Call) (i : ℕ) (s : Stream) → act t c ≡ opens i s → (i < length t) × (isFree (at t i) ≡ true)
 
+-- "This mends a damaged record": a reset leaves a lawful one, whatever state it found.
 abbrev pub ResetLawful : Type 0
 ResetLawful = (t : Table) (c : Call) (i : ℕ) → act t c ≡ resets i → lawful (at (after t (act t c)) i) ≡ true
 

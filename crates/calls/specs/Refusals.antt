@@ -18,7 +18,7 @@ use Rattle.stream.specs.Record.{settled, lawful, opened}
 use Rattle.calls.specs.Table.{Table, at, search, hasKey, isFree}
 use Rattle.calls.specs.Calls.{Call, arriving, opening, closing, resetting, ticking, act, answer}
 
--- some record of a table passes the test
+-- some record of a table passes the test: said without the search that the calls go by
 unfoldable pub some : (Stream → Bool) → Table → Bool
 some p [] = false
 some p (s ∷ t) = p s || some p t

@@ -17,12 +17,13 @@ use Rattle.demands.specs.Seen.{told, log, numbers, verdicts, lasting, ev
 use Rattle.demands.specs.Unlimited.{elem, highest, unlimited, allNear}
 use Rattle.demands.specs.Demand3.{numberOf, Silent, Premises}
 
--- The indices of the arrivals that were handed up.
+-- The indices of the arrivals that were handed up,
 unfoldable pub handedOf : List Verdict → (indices : List ℕ) → List ℕ
 handedOf [] xs = []
 handedOf (v ∷ vs) [] = []
 handedOf (v ∷ vs) (x ∷ xs) = if isUp v then x ∷ handedOf vs xs else handedOf vs xs
 
+-- and those of the run behind a gap.
 abbrev pub handed : Receiver → Table → (slot : ℕ) → (gap later : List Call) → (indices : List ℕ) → List ℕ
 handed receive t i gap later indices = handedOf (verdicts (log receive i (run receive t gap) later)) indices
 
@@ -65,7 +66,7 @@ OpenedDecides receive =
     → verdicts (log receive i (receive t (opening dest vlan vectorRule window time) .table) later) ≡ unlimited window [] indices
 
 -- After a sender restart and R silent ticks the first new frame is handed up: R is the stream's reset time, the frame's
--- number may be any, and the stream may be of either rule.
+-- number may be any, and the stream may be of either rule. (A frame that is refused does not count.)
 abbrev pub RestartGetsThrough : Receiver → Type 0
 RestartGetsThrough receive =
     (t : Table) (i : ℕ) (gap : List Call) (c : Call) (number : ℕ) (v : calls.Verdict)

@@ -17,6 +17,7 @@ use Rattle.demands.specs.Receiver.{Receiver, run}
 use Rattle.demands.specs.Seen.{log, numbers, verdicts, ticks, calm, lasting, every}
 use Rattle.demands.specs.Unlimited.{unlimited, allNear}
 
+-- "A frame's number is its index modulo 65536."
 abbrev pub numberOf : (index : ℕ) → ℕ
 numberOf index = index % 65536
 

@@ -30,10 +30,11 @@ frame k n = 2 ∷ 0 ∷ 0 ∷ 0 ∷ 0 ∷ k ∷ 2 ∷ 0 ∷ 0 ∷ 0 ∷ 0 ∷ 9 
 unfoldable pub from : (network k n : ℕ) → Call
 from network k n = arriving network (frame k n) (replicate 14 0)
 
--- A record for destination k, with this state and whatever counters.
+-- Counters may hold anything: three of these wrap with their next rise.
 unfoldable pub odd : Counts
 odd = record { arrivals0 = 5; arrivals1 = 0; passed = 2 ^ 64 - 1; discarded = 1; rogue = 0; disorder = 9; lost = 2 ^ 64 - 1; resets = 2 ^ 64 - 1 }
 
+-- A record for destination k, with this state and those counters.
 unfoldable pub stream : (k rule window time : ℕ) → State → Stream
 stream k rule window time t = with (opened (destOf (address k)) 0 rule window time) t odd
 
@@ -100,7 +101,7 @@ pub record WrapMeets : Type 0 where
       ≡ up ∷ up ∷ duplicate ∷ up ∷ up ∷ rogue ∷ rogue ∷ duplicate ∷ up ∷ []
   pub wanted : unlimited 4 [] indices ≡ up ∷ up ∷ duplicate ∷ up ∷ up ∷ rogue ∷ rogue ∷ duplicate ∷ up ∷ []
 
--- ---- each premise is needed
+-- ---- what the premises say of the gap, of the run behind it and of the bound is needed
 
 -- A table with one stream in slot 0 whose last number handed up is 9, and silent ticks.
 unfoldable pub alone : (window time remaining : ℕ) → Table
@@ -131,8 +132,9 @@ BoundSharp =
     × OneFurther 4 100 65633 × OneFurther 4 65633 100
     × OneFurther 64 100 65573 × OneFurther 64 65573 100
 
--- The other premises. A run from a table with one stream, L = 4 and R = 3, breaks one of them and keeps the others: the
--- receiver's verdicts, and those of the one with unlimited memory.
+-- The premises `long` and `calm` of the gap, and `lasts`: a run from a table with one stream, L = 4 and R = 3, does not
+-- meet the premises, though `numbered` and `near` hold; and the receiver's verdicts are not those of the one with unlimited
+-- memory. (Of `vector`, `lawful` and `numbered` no such run is given.)
 pub record Broken (before after : List Call) (xs : List ℕ) (ours theirs : List Verdict) : Type 0 where
   pub broken : Premises theReceiver (alone 4 3 3) 0 before after xs → ⊥
   pub numbered : numbers (seenAfter (alone 4 3 3) before after) ≡ map numberOf xs

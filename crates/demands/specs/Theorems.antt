@@ -33,10 +33,11 @@ pub record Theorems : Type 0 where
   pub tags-2 : (tagger : Tagger) → MeetsTags tagger → Demand2Tags tagger
   -- The receiver with unlimited memory hands no index up twice.
   pub unlimited-never-twice : UnlimitedNeverTwice
-  -- The wrong receivers of document 01 fail, and are wrong in nothing else.
+  -- The wrong receivers of document 01 fail, and those that are made by `deciding` are wrong in nothing else.
   pub ruled-out : RuledOut
   pub right-otherwise : RightOtherwise
-  -- Demand 3's premises can be met, by a run over the wrap; its bound is sharp; and each of its premises is needed.
+  -- Demand 3's premises can be met, by a run over the wrap; its bound is sharp; and R ticks, no hand-up among them, and
+  -- neither a reset nor a closing afterwards are needed.
   pub wrap-meets : WrapMeets
   pub bound-sharp : BoundSharp
   pub premises-needed : PremisesNeeded

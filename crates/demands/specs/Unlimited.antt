@@ -13,6 +13,7 @@ unfoldable pub elem : ℕ → List ℕ → Bool
 elem x [] = false
 elem x (y ∷ ys) = eqb x y || elem x ys
 
+-- the highest of a list (0 of none, which is never asked for)
 unfoldable pub highest : List ℕ → ℕ
 highest [] = 0
 highest (x ∷ xs) = max x (highest xs)

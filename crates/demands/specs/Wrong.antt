@@ -72,7 +72,7 @@ rogueRenews = deciding verdict (λ s n network.
 abbrev pub RightOtherwise : Type 0
 RightOtherwise = MeetsContract (deciding verdict decided)
 
--- Each fails the demand that document 01 names for it.
+-- Each fails the demand that document 01 names for it. It names none for the two that renew the ticks: they fail 2 and 3.
 pub record RuledOut : Type 0 where
   pub refuses-everything : Demand2 refusesEverything → ⊥
   pub finds-duplicates : Demand2 findsDuplicates → ⊥

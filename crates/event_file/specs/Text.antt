@@ -15,7 +15,7 @@ text (c then s) = code c ∷ text s
 abbrev pub digit : ℕ → ℕ
 digit n = code "0" + n % 10
 
--- the last `places` digits of a number, without zeros in front
+-- a number's digits, with no zero in front; of a number with more digits than `places` the last ones
 unfoldable pub digitsOf : (places n : ℕ) → List ℕ
 digitsOf zero n = []
 digitsOf (suc places) n = (if ltb n 10 then [] else digitsOf places (n / 10)) ++ (digit n ∷ [])

@@ -1,5 +1,5 @@
--- Document 01, "Event file and the program `events`": a run over an event file that is read in pieces. What it has printed
--- and what it will print stay the lines of the file. Assumes nothing.
+-- Document 01, "Event file and the program `events`": the records in a buffer are answered, whatever the input brings after
+-- it. The lines that wait and those still to come stay the lines of the file. Assumes nothing.
 use Prim.Native.Nat.{ℕ, _+_, _-_, _%_, _^_, _≤_}
 use mathlib.Core.Path.{_≡_}
 use mathlib.Core.Bool.{_&&_}
@@ -50,7 +50,7 @@ pub record Kept (t : Table) (p : Place) (input old : List ℕ) (u : Table) (r : 
   pub within : p .at ≤ length input → r .at ≤ length input
   pub room : p .used ≤ length old → r .used ≤ length new
 
--- All records that can be answered are: what is due stays, and no such record is left.
+-- All records that can be answered are: with an output buffer of 2000 bytes what is due stays, and no such record is left.
 pub record Drained (t : Table) (p : Place) (input old out : List ℕ) (u : Table) (r : Place) (new : List ℕ) : Type 0 where
   pub kept : length out ≡ frameMost → Kept t p input old u r new
   pub none : nextOf r input (length new) ≡ More

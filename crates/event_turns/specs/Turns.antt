@@ -60,7 +60,7 @@ pub data Goes (h : Held) (old : List ℕ) : (k : Held) (now read written : List 
   turn : {k : Held} {now after lines read written : List ℕ} {r : Turn} → Goes h old k now read written → Turned k now after lines r
       → Goes h old (r .held) after (read ++ pieceOf r after) (written ++ take (r .wrote) lines)
 
--- The loop over the turns keeps this: it has come by such turns to where it is.
+-- The loop of `turns` has this as its invariant: it has come by such turns to where it is.
 pub record Gone (h : Held) (old : List ℕ) (k : Held) (now : List ℕ) : Type 0 where
   pub read : List ℕ
   pub written : List ℕ

@@ -21,11 +21,11 @@ destOf f = word f 0 * 2 ^ 32 + word f 2 * 2 ^ 16 + word f 4
 unfoldable pub hasVlan : List ℕ → Bool
 hasVlan f = eqb (word f 12) 0x8100
 
--- its VLAN id is the low 12 bits of the bytes at 14 and 15, otherwise the VLAN id is 0;
+-- its VLAN id is the low 12 bits of the bytes at 14 and 15. Without one the VLAN id is 0.
 unfoldable pub vlanOf : List ℕ → ℕ
 vlanOf f = if hasVlan f then word f 14 % 4096 else 0
 
--- the type field is at 16, otherwise at 12.
+-- Behind a VLAN tag the type field is at 16, otherwise at 12.
 unfoldable pub typeAt : List ℕ → ℕ
 typeAt f = if hasVlan f then 16 else 12
 
@@ -57,10 +57,11 @@ headShort f = ltb (length f) 14 || (hasVlan f && ltb (length f) 18)
 unfoldable pub tagShort : List ℕ → Bool
 tagShort f = isTagged f && ltb (length f) (typeAt f + 8)
 
--- What the reader finds before a frame's data, and with its tag the number.
+-- What the reader finds before a frame's data,
 unfoldable pub headerOf : List ℕ → Header
 headerOf f = record { dest = destOf f; vlan = vlanOf f; at = typeAt f; tagged = isTagged f }
 
+-- and with the tag of a tagged frame, the number too.
 pub record Tag : Type 0 where
   pub header : Header
   pub number : ℕ
@@ -69,7 +70,8 @@ pub record Tag : Type 0 where
 unfoldable pub headOf : List ℕ → Said Header
 headOf f = if headShort f then refused SHORT else answers (headerOf f)
 
--- The header and number of a tagged frame: what an arrival and the call that takes a tag out read.
+-- The header and number of a tagged frame: what an arrival and the call that takes a tag out read. The third short rule
+-- speaks of tagged frames only, so that it may stand behind 5 here; `takeChecks` has 4 before 5, as document 01 has it.
 unfoldable pub readOf : List ℕ → Said Tag
 readOf f =
     if ltb frameMost (length f) then refused LONG
@@ -92,7 +94,7 @@ tagAt f o n = take o f ++ tagBytes n ++ drop o f
 abbrev pub tagged : (f : List ℕ) (number : ℕ) → List ℕ
 tagged f n = tagAt f (typeAt f) n
 
--- The tagged frame: 3 above 1994 bytes, 4 by the 14 and 18 byte rules only, 13.
+-- What the writer makes of a frame: 3 above 1994 bytes, 4 by the 14 and 18 byte rules only, 13, or the tagged frame.
 unfoldable pub writeOf : (f : List ℕ) (number : ℕ) → Said (List ℕ)
 writeOf f n =
     if ltb untaggedMost (length f) then refused LONG

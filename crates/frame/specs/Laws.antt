@@ -45,11 +45,12 @@ TakeRefusedKeeps = (f out : List ℕ) (n : ℕ) → takeTag f out .said ≡ refu
 abbrev pub WriteRefusedKeeps : Type 0
 WriteRefusedKeeps = (f : List ℕ) (number : ℕ) (out : List ℕ) (n : ℕ) → writeTag f number out .said ≡ refused n → writeTag f number out .bytes ≡ out
 
--- Two outcomes that meet a contract coincide: for an answer enum whose cases say different things, r with the bytes x
--- and s with the bytes y are the same wherever both are what the outcome o gives.
+-- The cases of an answer enum say different things.
 abbrev pub Telling : {A B : Type 0} → (A → Said B) → Type 0
 Telling {A} said = (r s : A) → said r ≡ said s → r ≡ s
 
+-- Two outcomes that meet a contract coincide: for such an enum, r with the bytes x and s with the bytes y are the same
+-- wherever both are what the outcome o gives.
 abbrev pub Coincide : Type 1
 Coincide =
     (A B : Type 0) (said : A → Said B) → Telling said → (o : Outcome B) (r s : A) (x y : List ℕ)

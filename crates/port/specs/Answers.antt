@@ -20,7 +20,7 @@ tellVerdict slot number rogue = record { slot = slot; length = 0; number = numbe
 abbrev pub noArrival : (refusal : ℕ) → ArrivalAnswer
 noArrival n = record { slot = 0; length = 0; number = 0; verdict = 0; refusal = n }
 
--- (The other answers are no arrival's; the same of each call below.)
+-- (The last three are answers of other calls, which an arrival never has; so it is of each call below.)
 abbrev pub tellArrival : Said Answer → ArrivalAnswer
 tellArrival (refused n) = noArrival n
 tellArrival (answers (arrived slot number v)) = tellVerdict slot number v
@@ -49,8 +49,8 @@ tellSwept (answers (arrived slot number v)) = record { resets = 0; damaged = 0; 
 tellSwept (answers (placed slot)) = record { resets = 0; damaged = 0; refusal = 0 }
 tellSwept (answers done) = record { resets = 0; damaged = 0; refusal = 0 }
 
--- The contract of every exported call: what document 01 says of the call is told, and the table and the output bytes are
--- those that it gives.
+-- The contract of every exported call on a table: what document 01 says of the call is told, and the table and the output
+-- bytes are those that it gives.
 pub record Told {A : Type 0} (tell : Said Answer → A) (t : Table) (c : Call) (told : A) (rows : Table) (bytes : List ℕ) : Type 0 where
   pub said : told ≡ tell (answer t (act t c))
   pub table : rows ≡ after t (act t c)

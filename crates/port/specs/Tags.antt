@@ -7,6 +7,8 @@ use Rattle.refusal.specs.Checks.Said.{refused, answers}
 use Rattle.frame.specs.TagCalls.{Bare, takeTag, writeTag}
 use Rattle.port.specs.declared.TagAnswer.{TagAnswer}
 
+-- Take a tag out tells its number and the length, write a tag the number that it was given and the length. A refusal tells
+-- its number, and 0 in all other fields.
 abbrev pub tellTaken : Said Bare → TagAnswer
 tellTaken (refused n) = record { length = 0; number = 0; refusal = n }
 tellTaken (answers b) = record { length = b .length; number = b .number; refusal = 0 }

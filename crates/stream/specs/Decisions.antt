@@ -79,11 +79,11 @@ isRogue up = false
 isRogue duplicate = false
 isRogue rogue = true
 
--- Handed up ends take-any and sets remaining to R. A late number leaves the anchor; every other is the new one.
+-- Handed up ends take-any and sets remaining to R. A late number leaves the anchor; every other one becomes it.
 abbrev pub handedUp : Stream → (anchor : ℕ) → History → State
 handedUp s anchor history = record { history = history; anchor = anchor; remaining = s .time; any = 0 }
 
--- A discard of either kind leaves the state.
+-- The state after each case: a discard of either kind leaves it.
 unfoldable pub stateAfter : Stream → (number : ℕ) → Case → State
 stateAfter s number first = handedUp s number (if eqb (s .rule) vectorRule then single else empty)
 stateAfter s number far = s .state
@@ -92,6 +92,7 @@ stateAfter s number (late k) = handedUp s (s .state .anchor) (setBit k (s .state
 stateAfter s number (next d) = handedUp s number (advance (s .window) d (s .state .history))
 stateAfter s number (moved inOrder) = handedUp s number (s .state .history)
 
+-- Out of order rises with a late number, and where d is not 1; never with the first arrival or a discard.
 unfoldable pub outOfOrder : Case → Bool
 outOfOrder first = false
 outOfOrder far = false

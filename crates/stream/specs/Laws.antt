@@ -95,14 +95,14 @@ OnlyUpPasses =
     (s : Stream) (number network : ℕ)
     → decided s number network .counts .passed ≡ (if isUp (verdict s number) then rise (s .counts .passed) 1 else s .counts .passed)
 
--- Vector, d from -(L-1) to 0: "The anchor stays", handed up or not.
+-- Vector, d from -(L-1) to 0: "The anchor stays", handed up or not. (So it does for a rogue further behind.)
 abbrev pub AnchorStays : Type 0
 AnchorStays =
     (s : Stream) (number network k : ℕ) → yes (s .state .any) ≡ false → eqb (s .rule) vectorRule ≡ true
     → difference number (s .state .anchor) ≡ behind k
     → decided s number network .state .anchor ≡ s .state .anchor
 
--- A tick leaves damaged records "and the free ones untouched"; and so it does a lawful one that has no tick left.
+-- A tick leaves damaged records "and the free ones untouched", and so it leaves a lawful one that has no tick left.
 abbrev pub TickLeaves : Type 0
 TickLeaves = (s : Stream) → lawful s ≡ false → ticked s ≡ s
 
