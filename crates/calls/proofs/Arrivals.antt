@@ -1,4 +1,4 @@
--- The steps of an arrival together are the arrival: each law of three ends a walk. Assumes nothing.
+-- The steps of an arrival together are the arrival: each of three laws ends a walk. Assumes nothing.
 --     arrival-refused    refused by 1 to 5
 --     arrival-unknown    refused by 6
 --     arrival-settled    every other arrival, refused by 7 and 8 or not

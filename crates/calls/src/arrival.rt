@@ -1,4 +1,5 @@
-// An arrival: what it asks of the table, what it is to its record, and how it ends.
+// An arrival: what it asks of the table, what it is to its record, and how it ends (document 01, "Calls and the order of
+// checks").
 use super::Answer;
 use super::Asked;
 use super::Judged;
@@ -31,7 +32,7 @@ pub fn ask(slots: usize, network: u8, frame: &[u8]) -> Asked
     Asked::For(h, number)
 }
 
-// The answer where that refuses, for the else of a `let .. else`; 0 for a frame that is not refused.
+// The answer where `ask` refuses, for the else of a `let .. else`; 0 for a frame that is not refused.
 pub fn refused(q: Asked) -> Answer
     ensures { λ r. ⌜ saidArrival r ≡ refused (refusalIn q) ⌝ }
 {
@@ -65,7 +66,7 @@ fn bare_length(frame: &[u8]) -> usize
     frame.len() - 6
 }
 
-// Arrival: 7 and 8, then what it is to its record. Nothing is marked yet.
+// Arrival: 7, then 8, then what it is to its record. Nothing is marked yet: the room for it has to be known before.
 pub fn judge(s: Stream, number: u16, room: bool) -> Judged
     ensures { λ r. ⌜ r ≡ judged s number room ⌝ }
 {

@@ -1,4 +1,5 @@
-// Open, close and reset: what they answer, and what they store in which slot.
+// Open, close and reset: what they answer, and what they store in which slot (document 01, "Calls and the order of
+// checks").
 use super::Change;
 use super::Done;
 use super::Found;

@@ -1,4 +1,5 @@
-// The line that answers a record: numbers, letters and words into a buffer at a place.
+// The line that answers a record (document 01, "Event file and the program `events`"): numbers, letters and words. Each
+// writer puts its bytes at a place of a buffer and answers the place behind them.
 use calls::Answer;
 use calls::Done;
 use calls::Opened;
@@ -83,7 +84,8 @@ fn pair(a: u64, b: u64, buf: &mut [u8], at: usize) -> usize
     decimal(b, buf, y)
 }
 
-// A refusal's number in decimal: its digits, or a number that document 01 has no name for.
+// A refusal's number in decimal: its digits, or a number that document 01 has not. (Document 01, "Which form goes where": a
+// match on refusal numbers for printing.)
 enum Numeral {
     One(u8),
     Two(u8, u8),
@@ -145,6 +147,7 @@ fn verdict_word(v: Verdict, buf: &mut [u8], at: usize) -> usize
     }
 }
 
+// An answer takes at most 47 bytes: a word of five, a space, and two numbers.
 fn arrival(a: Answer, buf: &mut [u8], at: usize) -> usize
     requires { ⌜ at + 47 ≤ length (now buf) ⌝ }
     ensures { λ r. ⌜ (Put (answerOf (saidArrival a)) at (now (buf .entry)) (now (buf .exit)) r) × (r ≤ at + 47) ⌝ }
@@ -231,7 +234,7 @@ fn line(number: u64, r: Reply, buf: &mut [u8], at: usize) -> usize
     byte(b'\n', buf, e)
 }
 
-// The line of one that did not.
+// The line of a bad record.
 fn bad(number: u64, buf: &mut [u8], at: usize) -> usize
     requires { ⌜ at + lineMost ≤ length (now buf) ⌝ }
     ensures { λ r. ⌜ Put (lineOf number bad) at (now (buf .entry)) (now (buf .exit)) r ⌝ }

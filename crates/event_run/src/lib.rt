@@ -1,4 +1,5 @@
-// An event file, read in pieces, and the lines that answer it (document 01, "Event file and the program `events`").
+// The records of an event file that stand in a buffer, and the lines that answer them (document 01, "Event file and the
+// program `events`"). Reading the buffer and writing the lines is for the crate `event_turns`.
 use calls::Answer;
 use calls::Done;
 use calls::Opened;
@@ -76,6 +77,7 @@ fn frame_at(start: usize) -> usize
     start + 2
 }
 
+// What is told of each call's answer. These are covered functions, so that the walk of `handle` has calls only.
 fn tell_open(a: Opened) -> Told
     ensures { λ r. ⌜ r ≡ Told.Answered (Reply.Open a) ⌝ }
 {
@@ -158,12 +160,13 @@ fn drain(table: &mut [Stream], p: Place, input: &[u8], lines: &mut [u8], out: &m
     p
 }
 
-// The same with a table of 8 by value: it is lent once for a whole buffer.
+// The table after the records of a buffer, and where the run is then.
 pub struct Round {
     pub table: [Stream; 8],
     pub place: Place,
 }
 
+// `drain` with a table of 8 by value, which is lent once for a whole buffer: so a caller needs no walk.
 pub fn drain8(table: [Stream; 8], p: Place, input: &[u8], lines: &mut [u8], out: &mut [u8]) -> Round
     ensures { λ r. ⌜ Drained table p (now (input .entry)) (now (lines .entry)) (now (out .entry)) (r .table) (r .place) (now (lines .exit)) ⌝ }
 {

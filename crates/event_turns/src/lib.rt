@@ -1,5 +1,6 @@
-// The run over an event file: it is read in large pieces, what is left of a record is kept, and the lines are written as
-// soon as no record is left that can be answered. Nothing that is printed depends on how the input is cut into reads.
+// The run over an event file (document 01, "Event file and the program `events`"): it is read in large pieces, what is left
+// of a record is kept, and the lines are written as soon as no record is left that can be answered. Nothing that is printed
+// depends on how the input is cut into reads.
 use event_file::reader::Read;
 use event_run::Place;
 use event_run::Round;
@@ -248,6 +249,7 @@ fn turns(from: i32, onto: i32, h: Held, input: &mut [u8], lines: &mut [u8], out:
     }
 }
 
+// Reads a first piece, and goes on where it starts with the version byte.
 fn serve(from: i32, onto: i32, input: &mut [u8], lines: &mut [u8], out: &mut [u8])
     requires { ⌜ (65537 ≤ length (now input)) × (length (now out) ≡ frameMost) × (lastMost ≤ length (now lines)) ⌝ }
 {
@@ -269,7 +271,8 @@ const INPUT: usize = 262144;
 
 const LINES: usize = 65536;
 
-// Runs the event file that a descriptor gives, and writes the lines onto another.
+// Runs the event file that a descriptor gives, and writes the lines onto another. No contract can speak of the bytes that
+// go through a descriptor: specs/Turns.antt says what is shown of the turns.
 pub fn run(from: i32, onto: i32) {
     let mut input = [0u8; INPUT];
     let mut lines = [0u8; LINES];

@@ -1,5 +1,5 @@
--- What else holds of one frame's bytes: short in the paper's words, the destination as one number, reserved bytes,
--- refusals, and that two outcomes coincide. Assumes nothing.
+-- What else holds of one frame's bytes: the destination as one number, that two outcomes coincide, and that a refusal
+-- changes nothing. Assumes nothing.
 use mathlib.Core.Path.{_≡_, refl, sym, ap, ap₂, _∙_}
 use Prim.Native.Nat.{ℕ, _+_, _-_, _*_, _<_}
 use native.Mathlib.Omega.{arith}

@@ -43,6 +43,7 @@ pub enum Written {
     Out(usize),
 }
 
+// A byte as a wider number; the contract keeps that it is below 256.
 fn wide(x: u8) -> u32
     ensures { λ r. ⌜ (r ≡ x) × (r < 256) ⌝ }
 {
@@ -140,6 +141,7 @@ pub fn refusal_of(r: Read) -> u8
     }
 }
 
+// Copies src to the start of dst, byte by byte.
 fn copy_bytes(src: &[u8], dst: &mut [u8])
     requires { ⌜ length (now src) ≤ length (now dst) ⌝ }
     ensures { λ _. ⌜ now (dst .exit) ≡ overlay (now (src .entry)) (now (dst .entry)) ⌝ }
@@ -151,8 +153,8 @@ fn copy_bytes(src: &[u8], dst: &mut [u8])
     }
 }
 
-// Copies src to the start of dst. It goes through a room of its own: so the compiler knows that the two do not
-// overlap, leaves the room out and calls memmove once.
+// The same through a room of its own: so the compiler knows that src and dst do not overlap, leaves the room out and calls
+// memmove once.
 fn copy(src: &[u8], dst: &mut [u8])
     requires { ⌜ length (now src) ≤ frameMost ⌝ }
     requires { ⌜ length (now src) ≤ length (now dst) ⌝ }
@@ -177,6 +179,7 @@ fn write_six(number: u16, dst: &mut [u8])
     dst[5] = (number % 256) as u8;
 }
 
+// The frame without the six bytes at a place, at the start of out.
 fn cut_at(frame: &[u8], at: usize, out: &mut [u8])
     requires { ⌜ at + 6 ≤ length (now frame) ⌝ }
     requires { ⌜ length (now frame) ≤ frameMost ⌝ }
@@ -187,6 +190,7 @@ fn cut_at(frame: &[u8], at: usize, out: &mut [u8])
     copy(&frame[at + 6..], &mut out[at..]);
 }
 
+// The frame with a tag put in at a place, at the start of out.
 fn tag_at(frame: &[u8], at: usize, number: u16, out: &mut [u8])
     requires { ⌜ at ≤ length (now frame) ⌝ }
     requires { ⌜ length (now frame) ≤ frameMost ⌝ }
@@ -198,8 +202,8 @@ fn tag_at(frame: &[u8], at: usize, number: u16, out: &mut [u8])
     copy(&frame[at..], &mut out[at + 6..]);
 }
 
-// Writes a frame without the tag at a place to the start of out, or nothing where the bytes do not fit. The place is
-// 12 or 16: with a constant the front is one or two moves.
+// Writes a frame without the tag at a place, 12 or 16, to the start of out: nothing for any other place, or where the bytes
+// do not fit. With a constant for the place the front is one or two moves.
 pub fn write_without(frame: &[u8], at: usize, out: &mut [u8])
     ensures { λ _. ⌜ now (out .exit) ≡ writtenWithout (now (frame .entry)) at (now (out .entry)) ⌝ }
 {
@@ -225,7 +229,7 @@ pub fn write_without(frame: &[u8], at: usize, out: &mut [u8])
     cut_at(frame, 16, out);
 }
 
-// Writes a frame with a tag put in at a place to the start of out, or nothing where the bytes do not fit.
+// Writes a frame with a tag put in at a place, 12 or 16, to the start of out, in the same way.
 pub fn write_with(frame: &[u8], at: usize, number: u16, out: &mut [u8])
     ensures { λ _. ⌜ now (out .exit) ≡ writtenWith (now (frame .entry)) at number (now (out .entry)) ⌝ }
 {

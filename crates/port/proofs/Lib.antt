@@ -1,4 +1,6 @@
+-- Nothing is lost in what the calls tell, and what ends a walk.
 pub mod Tags
 pub mod Answers
 pub mod Told
+-- What the walks name.
 mod Values

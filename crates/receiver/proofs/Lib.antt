@@ -1,3 +1,4 @@
+-- The library for walks over a lent table, which other crates may cite (docs/WALKS.md).
 pub mod Rows
 pub mod Values
 pub mod Enums

@@ -1,5 +1,6 @@
 // The stream record: its types and its sizes (document 01, "The stream record" and "Sizes").
-// No functions: the crate `stream` decides on a record, and `receiver` keeps a table of them.
+// No functions: the crate `stream` decides on a record, and `receiver` walks over the table that a caller lends. Each type
+// is `repr(C)`, since that caller may be written in C.
 
 // What an arrival and a tick change. This order of the fields leaves no padding between them.
 #[repr(C)]

@@ -149,6 +149,7 @@ fn is_marked(rule: u8, window: u16, h: u64) -> bool
     history::is_empty(h)
 }
 
+// In use, its settings within the sizes, and its state as document 01 shapes it. Counters may hold anything.
 pub fn lawful(s: Stream) -> bool
     ensures { λ r. ⌜ r ≡ lawful s ⌝ }
 {

@@ -1,4 +1,4 @@
--- `event_turns::run` meets its contract: the buffers are long enough. Assumes nothing.
+-- `event_turns::run` is safe: the buffers are long enough. Assumes nothing.
 use borrow.Author.Needs.{needs}
 use Rattle.event_turns.proofs.run.Statement.{statement}
 use Rattle.event_turns.proofs.run.Tie as tie

@@ -1,4 +1,4 @@
--- `event_turns::serve` meets its contract: behind the version byte there is a first record, or none. Assumes nothing.
+-- `event_turns::serve` is safe: behind the version byte there is a first record, or none. Assumes nothing.
 use mathlib.Core.Path.{sym, _∙_}
 use Prim.Native.Nat.{_≤_}
 use native.Mathlib.Omega.{arith}

@@ -1,4 +1,4 @@
--- `event_turns::turns` meets its contract: the loop goes by turns. How many are left is the measure. Assumes nothing.
+-- `event_turns::turns` is safe, and its loop goes by turns (`Gone`). How many are left is the measure. Assumes nothing.
 use Prim.Native.Nat.{_≤_}
 use mathlib.Core.Path.{_≡_}
 use lib.ListN.{length}

@@ -1,3 +1,4 @@
+-- `frame::cut_at` meets its contract: the front, and what is behind the six bytes, copied behind it. Assumes nothing.
 use borrow.Author.Needs.{needs}
 use native.Mathlib.Omega.{arith}
 use Prim.Native.Nat.{_+_}

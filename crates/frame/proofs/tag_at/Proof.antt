@@ -1,3 +1,4 @@
+-- `frame::tag_at` meets its contract: the front, the six bytes, and the rest, one behind the other. Assumes nothing.
 use borrow.Author.Needs.{needs}
 use native.Mathlib.Omega.{arith}
 use Prim.Native.Nat.{_+_}

@@ -1,3 +1,4 @@
+-- `frame::write_six` meets its contract: six bytes, one by one. Assumes nothing.
 use borrow.Author.Needs.{needs}
 use native.Mathlib.Omega.{arith}
 use lib.ListN.{length-set}
