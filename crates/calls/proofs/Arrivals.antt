@@ -1,7 +1,7 @@
 -- The steps of an arrival together are the arrival: each of three laws ends a walk. Assumes nothing.
 --     arrival-refused    refused by 1 to 5
 --     arrival-unknown    refused by 6
---     arrival-settled    every other arrival, refused by 7 and 8 or not
+--     arrival-settled    every other arrival, refused by 7 or 8, or not refused
 use Prim.Native.Nat.{ℕ, _-_, _+_, _≤_, _<_}
 use mathlib.Core.Path.{_≡_, refl, sym, ap, _∙_}
 use mathlib.Core.Bool.{Bool, true, false, cond}

@@ -131,7 +131,7 @@ module _ (i : ℕ) (t : Table) (within : i < length t) where
   unfolding act
   act-sound c = branch (ltb slotsMost (length t)) (λ e. refuses TABLE) (λ e. checked-sound c)
 
--- THE LIFT: what slot i sees of a run traces its record.
+-- Over a whole run: its record moves as slot i sees it.
 pub traced : (t : Table) (i : ℕ) (cs : List Call) → i < length t
     → Trace (at t i) (log theReceiver i t cs) (at (run theReceiver t cs) i)
 unfolding log run theReceiver

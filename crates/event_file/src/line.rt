@@ -147,7 +147,7 @@ fn verdict_word(v: Verdict, buf: &mut [u8], at: usize) -> usize
     }
 }
 
-// An answer takes at most 47 bytes: a word of five, a space, and two numbers.
+// An answer takes at most 47 bytes: a word of five, a space, and a pair of numbers.
 fn arrival(a: Answer, buf: &mut [u8], at: usize) -> usize
     requires { ⌜ at + 47 ≤ length (now buf) ⌝ }
     ensures { λ r. ⌜ (Put (answerOf (saidArrival a)) at (now (buf .entry)) (now (buf .exit)) r) × (r ≤ at + 47) ⌝ }

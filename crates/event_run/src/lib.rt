@@ -77,7 +77,7 @@ fn frame_at(start: usize) -> usize
     start + 2
 }
 
-// What is told of each call's answer. These are covered functions, so that the walk of `handle` has calls only.
+// What is told of each call's answer: covered functions, which keep the walk of `handle` short.
 fn tell_open(a: Opened) -> Told
     ensures { λ r. ⌜ r ≡ Told.Answered (Reply.Open a) ⌝ }
 {

@@ -4,7 +4,7 @@ use Prim.Native.Nat.{ℕ, _+_, _*_, _%_, _^_, _<_}
 use native.Mathlib.Omega.{arith}
 use lib.Bits.{bitOr, or-shifted}
 
--- a high part, shifted up by k digits, and a low part of k digits
+-- a high part, shifted up by k bits, and a low part of k bits
 join : (k : ℕ) {x y : ℕ} (a b : ℕ) → x ≡ a * 2 ^ k → y ≡ b → b < 2 ^ k → bitOr x y ≡ a * 2 ^ k + b
 join k a b p q h = ap₂ bitOr p q ∙ or-shifted a k b h
 

@@ -17,7 +17,7 @@ bit-suc : (k h : ℕ) → bitOf (suc k) h ≡ bitOf k (h / 2)
 unfolding bitOf
 bit-suc k h = ap (λ (n : ℕ). eqb (n % 2) 1) (ap (λ (n : ℕ). h / 2 ^ n) (omega arith) ∙ sym (shr-shr h 1 k))
 
--- an even number has bitOf 0 clear
+-- an even number has bit 0 clear
 pub even : (h : ℕ) → bitOf 0 (h * 2) ≡ false
 even h = bit-zero (h * 2) ∙ ne-eqb (h * 2 % 2) 1 (λ e. omega arith)
 
@@ -37,7 +37,7 @@ below (suc k) (suc l) h b =
     ∙ below k l (h / 2) (omega arith)
     ∙ sym (bit-suc k h)
 
--- a clear bitOf is set by adding its weight
+-- a clear bit is set by adding its weight
 pub added : (k j h : ℕ) → bitOf k h ≡ false → bitOf j (h + 2 ^ k) ≡ eqb j k || bitOf j h
 added zero zero h e =
     let o : h % 2 ≡ 1 → ⊥ = eqb-false (h % 2) 1 (sym (bit-zero h) ∙ e) in

@@ -46,7 +46,7 @@ fn ahead(s: Stream, number: u16, k: u16) -> Weighed
     })
 }
 
-// Vector. Both rogue tests go first, so that the history is looked at within the window only.
+// Vector. The two rogue tests come before the history is looked at, so that its bits are asked for within the window only.
 pub fn by_vector(s: Stream, number: u16) -> Weighed
     requires { ⌜ (windowLeast ≤ s .window) × ((s .window ≤ windowMost) × (s .rule ≡ vectorRule)) ⌝ }
     ensures { λ r. ⌜ r ≡ weighedAs s number (caseOf s number) ⌝ }
