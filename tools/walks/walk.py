@@ -225,6 +225,8 @@ def source(here, f):
 
 
 def main():
+    if len(sys.argv) < 3:
+        raise SystemExit('usage: tools/walks/walk.py CRATE F.. | CRATE --check')
     crate, want = sys.argv[1], sys.argv[2:]
     here = f'tools/walks/{crate}'
     check = want == ['--check']

@@ -4,7 +4,7 @@ use nippitsun::{Settings, Stream};
 use std::str::FromStr;
 use std::time::Duration;
 
-pub const USAGE: &str = "usage: receive [OPTION].. INTERFACE0 INTERFACE1
+pub const USAGE: &str = "usage: receive-rust [OPTION].. INTERFACE0 INTERFACE1
   --open DEST,VLAN,RULE,L,R   a stream: address in hex, id, vector or match, window, reset time in ticks; again for more
   --tick MS                   a tick every MS milliseconds (100)
   --quiet MS                  end after MS milliseconds without a frame, with the counters";
