@@ -25,11 +25,6 @@ pub copy-end : (src old : List ℕ) {now : List ℕ} (i : ℕ) → now ≡ take 
 unfolding overlay
 copy-end src old i e h = e ∙ rw (h, take-length)
 
--- the length of the old list stays
-pub overlay-length : (new old : List ℕ) → length new ≤ length old → length (overlay new old) ≡ length old
-unfolding overlay
-overlay-length new old h = simp (length-append, length-drop) (omega arith)
-
 -- what was written first, then what the second part writes behind it
 pub overlay-append : (a b d : List ℕ) → take (length a) (overlay a d) ++ overlay b (drop (length a) (overlay a d)) ≡ overlay (a ++ b) d
 unfolding overlay
