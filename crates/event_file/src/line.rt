@@ -9,7 +9,6 @@ ghost use mathlib.Core.Path.{_≡_};
 ghost use Prim.Native.Nat.{_+_, _≤_};
 ghost use mathlib.Core.List.{[], _∷_, _++_};
 ghost use lib.ListN.{length};
-ghost use Rattle.refusal.specs.Checks.{Said};
 ghost use Rattle.calls.specs.Said.{saidVerdict, saidArrival, saidOpened, saidDone, saidSwept};
 ghost use Rattle.event_file.specs.Text.{text, decimalOf};
 ghost use Rattle.event_file.specs.Lines.{pairOf, verdictWord, answerOf, lineOf, bad, told, lastLine, numeralOf, letterOf, saidReply, saidTold};

@@ -58,11 +58,8 @@ last-room {most} {at} {r} {new} {old} {now} w l h = elim (decLt (length old) (at
     fits k = let q = writes-put most at k w in omega (arith, q .room, q .place)
 
 -- and where there is room for it, it stands there
-pub last-written : (left : ℕ) {old now : List ℕ} {r : ℕ} → Writes lastMost (lastLine left) 0 old now r → lastMost ≤ length old → take (length (lastLine left)) now ≡ lastLine left
-last-written left {old} {now} {r} w h =
-    let q = writes-put lastMost 0 h w in
-    let e : length (lastLine left) ≡ r = omega (arith, q .place) in
-    ap (λ (n : ℕ). take n now) e ∙ front-of q
+pub last-written : (left : ℕ) {old now : List ℕ} {r : ℕ} → Writes lastMost (lastLine left) 0 old now r → lastMost ≤ length old → take r now ≡ lastLine left
+last-written left {old} {now} {r} w h = front-of (writes-put lastMost 0 h w)
 
 -- ---- parts of a list
 

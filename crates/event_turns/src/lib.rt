@@ -189,13 +189,15 @@ fn stay(table: [Stream; 8], number: u64, at: usize, to: usize, wrote: usize, goi
     }
 }
 
-// Writes the last line: the input has ended, and no whole record is left.
-fn finish(onto: i32, h: Held, lines: &mut [u8])
+// Writes the last line: the input has ended, and no whole record is left. Answers how many of the first bytes of the lines
+// were handed over to be written.
+fn finish(onto: i32, h: Held, lines: &mut [u8]) -> usize
     requires { ⌜ (h .at ≤ h .to) × (lastMost ≤ length (now lines)) ⌝ }
-    ensures { λ _. ⌜ take (length (lastLine (leftOf h))) (now (lines .exit)) ≡ lastLine (leftOf h) ⌝ }
+    ensures { λ r. ⌜ take r (now (lines .exit)) ≡ lastLine (leftOf h) ⌝ }
 {
     let used = event_file::line::say_last(h.to - h.at, lines, 0);
-    flush(onto, lines, used);
+    let sent = flush(onto, lines, used);
+    sent.wrote
 }
 
 // The table has 8 slots, free at first; records are numbered from 1; the first stands behind the version byte.

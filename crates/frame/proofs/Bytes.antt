@@ -3,7 +3,6 @@ use mathlib.Core.Path.{_≡_, refl, ap, _∙_}
 use mathlib.Core.List.{List, [], _∷_, _++_, append-assoc, append-nil}
 use Prim.Native.Nat.{ℕ, zero, suc, _+_, _-_, _≤_, _<_}
 use native.Mathlib.Nat.{le-of-suc-le-suc, not-suc-le-zero, le-of-eq}
-use native.Mathlib.Omega.{arith}
 use lib.ListN.{length, take, drop, getD, set, length-append, length-drop, drop-of-length-le}
 use native.Mathlib.Numerals.{add-one}
 use lib.Seq.{take-all, take-length, take-append-seam, drop-append-seam, drop-drop}
@@ -24,11 +23,6 @@ copy-step src old i e h k = rw (e, add-one) (store src old i h k)
 pub copy-end : (src old : List ℕ) {now : List ℕ} (i : ℕ) → now ≡ take i src ++ drop i old → i ≡ length src → now ≡ overlay src old
 unfolding overlay
 copy-end src old i e h = e ∙ rw (h, take-length)
-
--- the length of the old list stays
-pub overlay-length : (new old : List ℕ) → length new ≤ length old → length (overlay new old) ≡ length old
-unfolding overlay
-overlay-length new old h = simp (length-append, length-drop) (omega arith)
 
 -- what was written first, then what the second part writes behind it
 pub overlay-append : (a b d : List ℕ) → take (length a) (overlay a d) ++ overlay b (drop (length a) (overlay a d)) ≡ overlay (a ++ b) d

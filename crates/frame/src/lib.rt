@@ -5,7 +5,7 @@ ghost use Prim.Native.Nat.{_+_, _*_, _≤_, _<_};
 ghost use lib.ListN.{length};
 ghost use Rattle.record.specs.Sizes.{frameMost};
 ghost use Rattle.frame.specs.Bytes.{word, overlay};
-ghost use Rattle.frame.specs.Frame.{headOf, destOf, readOf, writeOf, tagBytes, cutAt, tagAt};
+ghost use Rattle.frame.specs.Frame.{headOf, destOf, readOf, tagBytes, cutAt, tagAt};
 ghost use Rattle.frame.specs.TagCalls.{saidHead, saidRead, saidTaken, saidWritten, refusalOf, takeTag, writeTag, writtenWithout, writtenWith};
 
 // What stands before a frame's data.

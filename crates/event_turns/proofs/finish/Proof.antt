@@ -18,7 +18,9 @@ same-length : tie.Need-same-length
 same-length c = search needs
 
 returns : tie.Need-returns
-returns c = let d = c .before .before .before .before .say-last in last-written _ (d .ensures) (c .before .before .before .before .before .before .before .before .pre .1)
+returns c =
+    let d = c .before .before .before .before .say-last in
+    rw (c .flush .ensures) (last-written _ (d .ensures) (c .before .before .before .before .before .before .before .before .pre .1))
 
 pub finish-spec : {M : Type 1} → statement M
 finish-spec = tie.close (tie.spec sub-say-last say-last-requires flush-requires same-length returns)
