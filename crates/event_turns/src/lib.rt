@@ -196,8 +196,8 @@ fn finish(onto: i32, h: Held, lines: &mut [u8]) -> usize
     ensures { λ r. ⌜ take r (now (lines .exit)) ≡ lastLine (leftOf h) ⌝ }
 {
     let used = event_file::line::say_last(h.to - h.at, lines, 0);
-    let sent = flush(onto, lines, used);
-    sent.wrote
+    let last = flush(onto, lines, used);
+    last.wrote
 }
 
 // The table has 8 slots, free at first; records are numbered from 1; the first stands behind the version byte.
