@@ -8,6 +8,7 @@ use crate::{plain, proved};
 use second::{Arrival, Refusal, Settings, Verdict};
 
 /// The second program's record as the archive has it. Every one has such a form, so records are compared in this form.
+/// (`compare` has the like; naming it here would switch the second program's wrong variants on, which cost time.)
 pub fn record_of(s: &second::Stream) -> Stream {
     let d = s.destination;
     Stream {

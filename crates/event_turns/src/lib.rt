@@ -41,16 +41,26 @@ struct Sent {
     out: bool,
 }
 
-// Writes the first bytes of the lines, and says so on standard error where they did not go out.
+// Hands bytes over to be written, and says so on standard error where they did not go out.
+fn hand_over(onto: i32, bytes: &[u8]) -> Sent
+    ensures { λ r. ⌜ r .wrote ≡ length (now (bytes .entry)) ⌝ }
+{
+    let out = io::write_all(onto, bytes);
+    if !out {
+        io::write_all(STDERR_FILENO, b"events: cannot write\n");
+    }
+    Sent {
+        wrote: bytes.len(),
+        out,
+    }
+}
+
+// Hands over the first bytes of the lines.
 fn flush(onto: i32, lines: &[u8], used: usize) -> Sent
     requires { ⌜ used ≤ length (now lines) ⌝ }
     ensures { λ r. ⌜ r .wrote ≡ used ⌝ }
 {
-    let out = io::write_all(onto, &lines[..used]);
-    if !out {
-        io::write_all(STDERR_FILENO, b"events: cannot write\n");
-    }
-    Sent { wrote: used, out }
+    hand_over(onto, &lines[..used])
 }
 
 // What one read brought: the place up to which the buffer is read now, and the read's answer.
@@ -262,7 +272,7 @@ fn serve(from: i32, onto: i32, input: &mut [u8], lines: &mut [u8], out: &mut [u8
     let to = p.to;
     if !versioned(&input[..to]) {
         let line = version_line();
-        flush(onto, &line, 8);
+        hand_over(onto, &line);
         return;
     }
     turns(from, onto, start(to), input, lines, out);

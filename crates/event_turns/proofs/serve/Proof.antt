@@ -30,11 +30,11 @@ versioned-requires c κs = search needs
 version-line-requires : tie.Need-version-line-requires
 version-line-requires c = search needs
 
-slice-aggregate-flush : tie.Need-slice-aggregate-flush
-slice-aggregate-flush c = search needs
+slice-aggregate-hand-over : tie.Need-slice-aggregate-hand-over
+slice-aggregate-hand-over c = search needs
 
-flush-requires : tie.Need-flush-requires
-flush-requires c κs = search needs
+hand-over-requires : tie.Need-hand-over-requires
+hand-over-requires c κs = search needs
 
 same-length-2 : tie.Need-same-length-2
 same-length-2 c = search needs
@@ -77,8 +77,8 @@ serve-spec =
     slice-aggregate-versioned
     versioned-requires
     version-line-requires
-    slice-aggregate-flush
-    flush-requires
+    slice-aggregate-hand-over
+    hand-over-requires
     same-length-2
     returns-2
     start-requires
