@@ -1,3 +1,3 @@
 /* Also calls the benchmark's own exports. */
 #define DECISIONS
-#include "../tools/replay.c"
+#include "../compare/replay.c"

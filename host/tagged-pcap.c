@@ -1,6 +1,6 @@
 // tagged-pcap: frames on standard input, each with the number for its tag; a capture of the tagged frames on standard output.
 // A record of the input is the number and the frame's length, two bytes each, high byte first, and the frame.
-// tools/test-tshark lets tshark read the tags that the proved writer has written here.
+// checks/tshark lets tshark read the tags that the proved writer has written here.
 #include "host.h"
 #include "nippitsun.h"
 

@@ -1,4 +1,4 @@
-//! Calls with what they should answer and leave, written for tools/replay.c, which gives them to the archive itself under an
+//! Calls with what they should answer and leave, written for compare/replay.c, which gives them to the archive itself under an
 //! emulator.
 
 use crate::{Answer, Call};

@@ -4,7 +4,7 @@
 //!     calls                    the comparison, 4,000,000 calls
 //!     calls SEED COUNT         the same from another seed, or with fewer or more calls
 //!     calls wrong              each wrong variant of the second program that shows in calls alone must be found
-//!     calls cases COUNT        writes so many calls for tools/replay.c, with what they answer and leave
+//!     calls cases COUNT        writes so many calls for compare/replay.c, with what they answer and leave
 //!
 //! The inputs are only worth something if they reach everything, so the run counts what came up, and fails where something
 //! came up fewer than 100 times.

@@ -3,7 +3,7 @@
 //!
 //!     vectors product    the list on the compiled product
 //!     vectors second     the list on the second program
-//!     vectors cases      writes the list for tools/replay.c, with what the second program answers and leaves
+//!     vectors cases      writes the list for compare/replay.c, with what the second program answers and leaves
 //!
 //! Both must write compare/vectors.out, byte for byte (compare/run). A line has the call, its answer, and all that changed.
 

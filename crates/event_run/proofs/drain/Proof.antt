@@ -1,5 +1,5 @@
 -- `event_run::drain` meets its contract: a loop that seeks a record, answers it and notes its line, until there is none; table, lines and output stay lent over all its turns.
--- A walk of its MIR, made by tools/walks/walk.py from tools/walks/event_run/drain.walk: edit that. Assumes nothing.
+-- A walk of its MIR, made by walks/walk.py from walks/event_run/drain.walk: edit that. Assumes nothing.
 use mathlib.Core.Path.{_≡_, refl, sym, _∙_, subst}
 use Prim.Native.Nat.{ℕ, _-_, _<_, _≤_, _^_}
 use native.Mathlib.Omega.{arith}

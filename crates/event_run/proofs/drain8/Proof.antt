@@ -1,5 +1,5 @@
 -- `event_run::drain8` meets its contract: the table, a local, is lent to `drain` once; input, lines and output are handed on for good.
--- A walk of its MIR, made by tools/walks/walk.py from tools/walks/event_run/drain8.walk: edit that. Assumes nothing.
+-- A walk of its MIR, made by walks/walk.py from walks/event_run/drain8.walk: edit that. Assumes nothing.
 use mathlib.Core.Path.{_≡_, refl, sym, _∙_, subst}
 use Prim.Native.Nat.{ℕ}
 use mathlib.Core.List.{List, [], _∷_}

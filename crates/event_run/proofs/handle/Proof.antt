@@ -1,5 +1,5 @@
 -- `event_run::handle` meets its contract: what the body says is asked; in each arm but the first a call of the receiver is lent the table, and its answer is told.
--- A walk of its MIR, made by tools/walks/walk.py from tools/walks/event_run/handle.walk: edit that. Assumes nothing.
+-- A walk of its MIR, made by walks/walk.py from walks/event_run/handle.walk: edit that. Assumes nothing.
 use mathlib.Core.Path.{_≡_, refl, sym, subst}
 use Prim.Native.Nat.{ℕ, _+_, _-_, _<_, _≤_, _^_}
 use native.Mathlib.Nat.{lt-of-le-of-lt, sub-le}

@@ -1,5 +1,5 @@
 -- `port::nippitsun_tick` meets its contract: the receiver's call is lent the table, and what it says is told.
--- A walk of its MIR, made by tools/walks/walk.py from tools/walks/port/nippitsun_tick.walk: edit that. Assumes nothing.
+-- A walk of its MIR, made by walks/walk.py from walks/port/nippitsun_tick.walk: edit that. Assumes nothing.
 use mathlib.Core.Path.{_≡_, refl}
 use Prim.Native.Nat.{ℕ}
 use mathlib.Core.List.{List, [], _∷_}

@@ -1,5 +1,5 @@
 -- `receiver::arrival` meets its contract: seven calls; two of them are followed by a `let .. else`, whose other arm answers and returns.
--- A walk of its MIR, made by tools/walks/walk.py from tools/walks/receiver/arrival.walk: edit that. Assumes nothing.
+-- A walk of its MIR, made by walks/walk.py from walks/receiver/arrival.walk: edit that. Assumes nothing.
 use mathlib.Core.Path.{_≡_, refl, sym, subst}
 use Prim.Native.Nat.{ℕ, _<_, _^_}
 use mathlib.Core.Bool.{Bool}

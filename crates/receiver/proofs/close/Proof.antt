@@ -1,5 +1,5 @@
 -- `receiver::close` meets its contract: a record is copied out, the call of the same name decides on it by value, and what that gives is stored.
--- A walk of its MIR, made by tools/walks/walk.py from tools/walks/receiver/close.walk: edit that. Assumes nothing.
+-- A walk of its MIR, made by walks/walk.py from walks/receiver/close.walk: edit that. Assumes nothing.
 use mathlib.Core.Path.{_≡_, refl}
 use Prim.Native.Nat.{ℕ, _<_, _^_}
 use mathlib.Core.List.{List, [], _∷_}

@@ -1,5 +1,5 @@
 -- `receiver::find` meets its contract: a loop that stops at the first record that `has_key` accepts, and yields its place.
--- A walk of its MIR, made by tools/walks/walk.py from tools/walks/receiver/find.walk: edit that. Assumes nothing.
+-- A walk of its MIR, made by walks/walk.py from walks/receiver/find.walk: edit that. Assumes nothing.
 use mathlib.Core.Path.{_≡_, refl, sym, _∙_, ap}
 use Prim.Native.Nat.{ℕ, suc, _+_, _-_, _<_, _≤_, _*_, _^_}
 use native.Mathlib.Omega.{arith}

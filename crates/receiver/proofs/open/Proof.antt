@@ -1,5 +1,5 @@
 -- `receiver::open` meets its contract: the table is surveyed, `place` decides, and what it gives is stored.
--- A walk of its MIR, made by tools/walks/walk.py from tools/walks/receiver/open.walk: edit that. Assumes nothing.
+-- A walk of its MIR, made by walks/walk.py from walks/receiver/open.walk: edit that. Assumes nothing.
 use mathlib.Core.Path.{_≡_, refl}
 use Prim.Native.Nat.{ℕ, _<_, _^_}
 use mathlib.Core.List.{List, [], _∷_}

@@ -1,5 +1,5 @@
 -- `receiver::record_at` meets its contract: the slot is copied out, or a free record is made.
--- A walk of its MIR, made by tools/walks/walk.py from tools/walks/receiver/record_at.walk: edit that. Assumes nothing.
+-- A walk of its MIR, made by walks/walk.py from walks/receiver/record_at.walk: edit that. Assumes nothing.
 use mathlib.Core.Path.{_≡_, refl, sym, _∙_}
 use Prim.Native.Nat.{ℕ, _<_, _*_, _^_}
 use mathlib.Core.List.{List, [], _∷_}

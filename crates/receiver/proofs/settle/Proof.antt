@@ -1,5 +1,5 @@
 -- `receiver::settle` meets its contract: a record is read, judged, read again and stored as it is after that; the borrow stays open throughout.
--- A walk of its MIR, made by tools/walks/walk.py from tools/walks/receiver/settle.walk: edit that. Assumes nothing.
+-- A walk of its MIR, made by walks/walk.py from walks/receiver/settle.walk: edit that. Assumes nothing.
 use mathlib.Core.Path.{_≡_, refl, sym, ap}
 use Prim.Native.Nat.{ℕ, _<_, _*_, _^_}
 use mathlib.Core.Bool.{Bool}

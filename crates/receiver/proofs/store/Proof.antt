@@ -1,5 +1,5 @@
 -- `receiver::store` meets its contract: a record is stored, where the slot is there.
--- A walk of its MIR, made by tools/walks/walk.py from tools/walks/receiver/store.walk: edit that. Assumes nothing.
+-- A walk of its MIR, made by walks/walk.py from walks/receiver/store.walk: edit that. Assumes nothing.
 use mathlib.Core.Path.{_≡_, refl, sym}
 use Prim.Native.Nat.{ℕ, _<_, _*_, _^_}
 use mathlib.Core.List.{List, [], _∷_}

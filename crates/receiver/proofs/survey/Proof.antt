@@ -1,5 +1,5 @@
 -- `receiver::survey` meets its contract: a fold over the table, of which `look` is one step.
--- A walk of its MIR, made by tools/walks/walk.py from tools/walks/receiver/survey.walk: edit that. Assumes nothing.
+-- A walk of its MIR, made by walks/walk.py from walks/receiver/survey.walk: edit that. Assumes nothing.
 use mathlib.Core.Path.{_≡_, refl, sym, _∙_, ap}
 use Prim.Native.Nat.{ℕ, suc, _+_, _-_, _<_, _≤_, _*_, _^_}
 use native.Mathlib.Omega.{arith}

@@ -1,5 +1,5 @@
 -- `receiver::sweep` meets its contract: a loop that ticks each record in its place and carries the sums, of which `visit` is one step.
--- A walk of its MIR, made by tools/walks/walk.py from tools/walks/receiver/sweep.walk: edit that. Assumes nothing.
+-- A walk of its MIR, made by walks/walk.py from walks/receiver/sweep.walk: edit that. Assumes nothing.
 use mathlib.Core.Path.{_≡_, refl, sym, _∙_, ap, subst}
 use Prim.Native.Nat.{ℕ, suc, _+_, _-_, _<_, _≤_, _*_, _^_}
 use native.Mathlib.Omega.{arith}

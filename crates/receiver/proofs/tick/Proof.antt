@@ -1,5 +1,5 @@
 -- `receiver::tick` meets its contract: a table that is too long is refused, any other is swept.
--- A walk of its MIR, made by tools/walks/walk.py from tools/walks/receiver/tick.walk: edit that. Assumes nothing.
+-- A walk of its MIR, made by walks/walk.py from walks/receiver/tick.walk: edit that. Assumes nothing.
 use mathlib.Core.Path.{_≡_, refl}
 use Prim.Native.Nat.{ℕ}
 use mathlib.Core.List.{List, [], _∷_}

@@ -1,7 +1,7 @@
 #!/usr/bin/env python3
 """Prints MIR a statement to a line, with the head of a walk for each function.
 
-    rt mir CRATE | tools/walks/mirp.py F G ..      the functions F and G (none named: all)
+    rt mir CRATE | walks/mirp.py F G ..      the functions F and G (none named: all)
 
 _3 of the listing is local 3 of a walk. After it stand the lines %param, %result, %calls, %locals and %ty for F.walk;
 the parameters' names are to be put in."""

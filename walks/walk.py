@@ -1,8 +1,8 @@
 #!/usr/bin/env python3
-"""Expands a walk: tools/walks/CRATE/F.walk to crates/CRATE/proofs/F/Proof.antt.
+"""Expands a walk: walks/CRATE/F.walk to crates/CRATE/proofs/F/Proof.antt.
 
-    tools/walks/walk.py CRATE F G ..       from the repository's root, then `rt fmt`
-    tools/walks/walk.py CRATE --check      do the proofs say what their walks expand to?
+    walks/walk.py CRATE F G ..       from the repository's root, then `rt fmt`
+    walks/walk.py CRATE --check      do the proofs say what their walks expand to?
 
 A walk is a proof in antt with these short forms. docs/WALKS.md says how one is written.
 
@@ -203,7 +203,7 @@ class Walk(Steps):
         body = self.stayed() + self.known() + '\n'.join(out).strip('\n') + '\n'
         body = re.sub(r'\n\n\n+', '\n\n', body)
         f, mine = dash(self.name), f'Rattle.{self.crate}.proofs'
-        head = [f'-- `{self.crate}::{self.name}` meets its contract: {self.about}', f'-- A walk of its MIR, made by tools/walks/walk.py from tools/walks/{self.crate}/{self.name}.walk: edit that. Assumes nothing.']
+        head = [f'-- `{self.crate}::{self.name}` meets its contract: {self.about}', f'-- A walk of its MIR, made by walks/walk.py from walks/{self.crate}/{self.name}.walk: edit that. Assumes nothing.']
         ours = imports(own(self.crate), body, mine + '.')
         theirs = imports(own('receiver'), body, 'Rattle.receiver.proofs.', taken(uses + ours)) if self.crate != 'receiver' else []
         head += imports(IMPORTS, body, '') + uses + theirs + ours + self.callee_uses()
@@ -226,9 +226,9 @@ def source(here, f):
 
 def main():
     if len(sys.argv) < 3:
-        raise SystemExit('usage: tools/walks/walk.py CRATE F.. | CRATE --check')
+        raise SystemExit('usage: walks/walk.py CRATE F.. | CRATE --check')
     crate, want = sys.argv[1], sys.argv[2:]
-    here = f'tools/walks/{crate}'
+    here = f'walks/{crate}'
     check = want == ['--check']
     for f in sorted(x[:-5] for x in os.listdir(here) if x.endswith('.walk')) if check else want:
         text = Walk(crate, f, source(here, f)).expanded()
