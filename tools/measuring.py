@@ -5,6 +5,7 @@ highest so far, so arrivals that follow each other must lie less than 32768 apar
 stretch of its own: the sender restarted, or both networks were out. No figure goes across stretches.
 """
 import heapq
+import math
 from fractions import Fraction
 
 from capture_files import Refused, read_capture
@@ -99,8 +100,13 @@ class Measured:
         longest = max(self.stretches, key=lambda stretch: len(stretch.copies))
         if len(longest.copies) < POINTS_LEAST:
             return None
-        other = spacing + Fraction(round(longest.slope(spacing) * 1000), 1000)
-        return other if other > 0 and 4 * self.spread(other) <= 3 * self.spread(spacing) else None
+        spread = self.spread(spacing)
+        if not spread:
+            return None
+        # To so many places that it drifts by a tenth of the spread at most.
+        place = Fraction(10) ** math.floor(math.log10(spread / (10 * len(longest.copies))))
+        other = place * round((spacing + Fraction(longest.slope(spacing))) / place)
+        return other if other > 0 and 4 * self.spread(other) <= 3 * spread else None
 
 
 def of_network(name, network, found):
