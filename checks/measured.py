@@ -109,7 +109,9 @@ def several(bench):
     """Captures of more than one stream, and of none."""
     runs = with_both(stream(known()), stream(known(150), vlan=100), stream(known(160), dest="01005e000007", vlan=100 | 0xE000))
     other = b"\xff" * 12 + b"\x08\x06" + bytes(46)
-    both = [pcapng(sorted(packets + [(START, other), (START, frame(1)[:17])])) for packets in runs]
+    # Frames that are cut short, too short and too long are no arrivals.
+    no_arrivals = [(START, other), (START, frame(1)[:17], 100), (START, frame(1)[:19]), (START, frame(1) + bytes(1981))]
+    both = [pcapng(sorted(packets + no_arrivals)) for packets in runs]
     bench.case(both, "T=1ms tau=1ms", 2, "choose: refused: more than one stream, --key chooses one of 01:00:5e:00:00:07,100 (",
                "; 02:00:00:00:00:01,0 (", "; 02:00:00:00:00:01,100 (")
     bench.case(both, "T=1ms tau=1ms --key 020000000001,0 --margin 0 wait=0", 0, "stream 02:00:00:00:00:01,0: ", " of 400 from", "\nL 8: ")

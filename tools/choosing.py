@@ -18,6 +18,7 @@ def size(name):
 
 WINDOW_LEAST, WINDOW_MOST = size("windowLeast"), size("windowMost")
 TIME_LEAST, TIME_MOST = size("timeLeast"), size("timeMost")
+FRAME_MOST = size("frameMost")
 NUMBERS = 65536
 
 

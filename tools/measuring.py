@@ -9,7 +9,7 @@ import math
 from fractions import Fraction
 
 from capture_files import Refused, read_capture
-from choosing import NUMBERS
+from choosing import FRAME_MOST, NUMBERS
 
 # 16 times the largest window: a network may be so far behind the other and is still measured.
 JUMP = 1024
@@ -19,12 +19,13 @@ RECENT = 8
 POINTS_LEAST = 30
 
 
-def tagged(frame):
-    """The key and the number of a frame with a redundancy tag. What stands behind the tag may have been cut."""
+def tagged(frame, length):
+    """The key and the number of a frame with a redundancy tag, if its length is allowed. What stands behind the tag may have been
+    cut when it was captured."""
     at, vlan = 12, 0
     if frame[12:14] == b"\x81\x00":
         at, vlan = 16, int.from_bytes(frame[14:16], "big") & 0xFFF
-    if frame[at:at + 2] != b"\xf1\xc1" or len(frame) < at + 6:
+    if frame[at:at + 2] != b"\xf1\xc1" or len(frame) < at + 6 or not at + 8 <= length <= FRAME_MOST:
         return None
     return (frame[:6], vlan), int.from_bytes(frame[at + 4:at + 6], "big")
 
@@ -112,11 +113,11 @@ class Measured:
 def of_network(name, network, found):
     """Arrivals of each key are put into `found`. How many time stamps are earlier than the one before."""
     last, back = None, 0
-    for time, _, frame in read_capture(name):
+    for time, length, frame in read_capture(name):
         if last is not None and time < last:
             back += 1
         last = time
-        seen = tagged(frame)
+        seen = tagged(frame, length)
         if seen:
             found.setdefault(seen[0], ([], []))[network].append((time, network, seen[1]))
     return back
