@@ -62,14 +62,16 @@ class Stretch:
 
     def spread(self, spacing):
         """The largest arrival less index times T, less the smallest."""
-        late = max(latest - index * spacing for index, (_, latest, _, _) in self.copies.items())
-        return late - min(soonest - index * spacing for index, (soonest, _, _, _) in self.copies.items())
+        # In whole parts of a nanosecond: fractions are slow.
+        times, parts = spacing.numerator, spacing.denominator
+        late = max(parts * latest - index * times for index, (_, latest, _, _) in self.copies.items())
+        return Fraction(late - min(parts * soonest - index * times for index, (soonest, _, _, _) in self.copies.items()), parts)
 
     def slope(self, spacing):
         """How much arrival less index times T grows with each index: the straight line of least squares through the first
         copies."""
-        start = min(soonest for soonest, _, _, _ in self.copies.values())
-        points = [(index - self.first, float(soonest - start - (index - self.first) * spacing))
+        start, each = min(soonest for soonest, _, _, _ in self.copies.values()), float(spacing)
+        points = [(index - self.first, soonest - start - (index - self.first) * each)
                   for index, (soonest, _, _, _) in self.copies.items()]
         middle = sum(x for x, _ in points) / len(points)
         below = sum((x - middle) ** 2 for x, _ in points)
