@@ -149,7 +149,7 @@ def refusals(bench):
     bench.case([b"no capture at all", good], "", 2, "choose: refused: network0: neither pcap nor pcapng")
     bench.case([good, good[:-1]], "", 2, "choose: refused: network1: the file ends within packet 1")
     bench.case([good, pcap([], link=113)], "", 2, "choose: refused: network1: link type 113 is not Ethernet")
-    for words, why in (("J=1ms", "no J, net0 or net1"), ("T=1ms", "tau is missing"), ("--margin -1", "margin '-1' is no number of percent"),
+    for words, why in (("J=1ms", "no J, net0 or net1"), ("T=1ms", "tau is missing"), ("m=3", "there is none without T"), ("--margin -1", "margin '-1' is no number of percent"),
                        ("--margin x", "margin 'x' is no"), ("--key 01,0", "'01,0' is not DEST,VLAN"), ("--key 020000000001", "is not DEST,VLAN"),
                        ("T=0 tau=1ms", "T is more than 0"), ("open=never", "open=before or no word open"), ("S=1", "'S=1' is not understood")):
         bench.case([good, good], words, 2, f"{why}")
