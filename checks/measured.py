@@ -146,6 +146,8 @@ def refusals(bench):
     later = pcap([(START + 10**12, frame(30000))])
     bench.case([good, later], "", 2, "choose: refused: no index of 02:00:00:00:00:01,0 is in both captures: ")
     bench.case([good, pcap([])], "T=1ms tau=1ms", 2, "is in both captures")
+    doubled = pcap([(START, frame(1)), (START + MS, frame(1))])
+    bench.case([doubled, later], "T=1ms tau=1ms", 2, "is in both captures")
     bench.case([b"no capture at all", good], "", 2, "choose: refused: network0: neither pcap nor pcapng")
     bench.case([good, good[:-1]], "", 2, "choose: refused: network1: the file ends within packet 1")
     bench.case([good, pcap([], link=113)], "", 2, "choose: refused: network1: link type 113 is not Ethernet")
