@@ -98,6 +98,9 @@ def not_known(bench):
     runs = [pcap(packets) for packets in stream(known())]
     for words, more in (("", ()), ("tau=1ms", ("R at least 5: ",)), ("tau=1ms ticks=exact", ("R at least 4: ",))):
         bench.case(runs, words, 1, "m at least 2", "J at least 2.4 ms", "\nL at least ", *more, "\nnone: T is not known", without=("\nL 8", "\nJ 2.5"))
+    # The distance is that from the highest, not from the last: 14 is 2 from 12 and 3 from 11.
+    first, second = [(START + at * MS, frame(n)) for at, n in ((0, 10), (2, 12), (4, 14))], [(START + at * MS, frame(n)) for at, n in ((1, 10), (3, 11))]
+    bench.case([pcap(first), pcap(second)], "", 1, "\nL at least 3: no arrival was more than 2 from the highest index before it\n")
     # T is off by half a microsecond: 4 ms over 8000 frames.
     delays = known(8000)
     bench.case([pcap(packets, "<", True) for packets in stream(delays, MS + 500)], "T=1ms tau=1ms", 0,
