@@ -6,7 +6,7 @@ use Rattle.demands.proofs.One.{demand-1, demand-1-tags}
 use Rattle.demands.proofs.Told.{arrivals-recovered}
 use Rattle.demands.proofs.Three.{demand-3, fresh-decides}
 use Rattle.demands.proofs.After.{never-twice, unlimited-never-twice, opened-decides, restart-gets-through, counts-once, resets-seen}
-use Rattle.demands.proofs.Runs.{wrap-meets, bound-sharp, premises-needed}
+use Rattle.demands.proofs.Runs.{wrap-meets, bound-reached, premises-are, bound-sharp, premises-needed}
 use Rattle.demands.proofs.Wrong.{right-otherwise, ruled-out}
 
 pub demands : {receive : Receiver} → MeetsContract receive → Demands receive
@@ -34,6 +34,8 @@ theorems = record {
   ruled-out = ruled-out;
   right-otherwise = right-otherwise;
   wrap-meets = wrap-meets;
+  bound-reached = bound-reached;
+  premises-are = premises-are;
   bound-sharp = bound-sharp;
   premises-needed = premises-needed;
 }

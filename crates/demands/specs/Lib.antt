@@ -7,4 +7,5 @@ pub mod Unlimited
 pub mod Demand3
 pub mod Corollaries
 pub mod Examples
+pub mod Needed
 pub mod Theorems

@@ -7,7 +7,8 @@ use Rattle.demands.specs.Seen.{ResetsSeen}
 use Rattle.demands.specs.Demand3.{Demand3}
 use Rattle.demands.specs.Corollaries.{NeverTwice, UnlimitedNeverTwice, FreshDecides, OpenedDecides, RestartGetsThrough, CountsOnce}
 use Rattle.demands.specs.Wrong.{RightOtherwise, RuledOut}
-use Rattle.demands.specs.Examples.{WrapMeets, BoundSharp, PremisesNeeded}
+use Rattle.demands.specs.Examples.{WrapMeets}
+use Rattle.demands.specs.Needed.{BoundReached, PremisesAre, BoundSharp, PremisesNeeded}
 
 -- Of a receiver.
 pub record Demands (receive : Receiver) : Type 0 where
@@ -36,8 +37,10 @@ pub record Theorems : Type 0 where
   -- The wrong receivers of document 01 fail, and those that are made by `deciding` are wrong in nothing else.
   pub ruled-out : RuledOut
   pub right-otherwise : RightOtherwise
-  -- Demand 3's premises can be met, by a run over the wrap; its bound is sharp; and R ticks, no hand-up among them, and
-  -- neither a reset nor a closing afterwards are needed.
+  -- Demand 3's premises can be met, by a run over the wrap and by runs that reach its bound; the bound is sharp; and each of
+  -- the premises is needed.
   pub wrap-meets : WrapMeets
+  pub bound-reached : BoundReached
+  pub premises-are : PremisesAre
   pub bound-sharp : BoundSharp
   pub premises-needed : PremisesNeeded
