@@ -2,6 +2,7 @@
 use Rattle.demands.specs.Receiver.{Receiver, MeetsContract}
 use Rattle.demands.specs.Theorems.{Demands, Theorems}
 use Rattle.demands.proofs.Alike.{the-receiver-meets, runs-coincide}
+use Rattle.demands.proofs.Coded.{code-meets}
 use Rattle.demands.proofs.One.{demand-1, demand-1-tags}
 use Rattle.demands.proofs.Told.{arrivals-recovered}
 use Rattle.demands.proofs.Three.{demand-3, fresh-decides}
@@ -27,6 +28,7 @@ pub theorems : Theorems
 theorems = record {
   demands = λ receive m. demands m;
   met = the-receiver-meets;
+  code-meets = code-meets;
   runs-coincide = runs-coincide;
   tags-1 = λ tagger m. demand-1-tags m;
   tags-2 = λ tagger m. m;

@@ -8,4 +8,5 @@ pub mod Demand3
 pub mod Corollaries
 pub mod Examples
 pub mod Needed
+pub mod Code
 pub mod Theorems
