@@ -18,7 +18,7 @@ use Rattle.frame.proofs.write_tag as write
 use Rattle.frame.proofs.write_tag.Met as write-met
 use Rattle.frame.proofs.write_tag.Symbol.{routine as writeCode}
 use Rattle.receiver.proofs.arrival.Met as arrival
-use Rattle.receiver.proofs.open.Met as opened
+use Rattle.receiver.proofs.open.Met as open-stream
 use Rattle.receiver.proofs.close.Met as close
 use Rattle.receiver.proofs.reset.Met as reset
 use Rattle.receiver.proofs.tick.Met as tick
@@ -35,7 +35,7 @@ outcome 𝓤 s bs o =
 pub code-meets : CodeMeets
 code-meets M 𝓤 H 𝓜 𝓖 𝓡 = record {
   arrival = arrival.met 𝓤 H 𝓜 𝓖 𝓡;
-  opened = opened.met 𝓤 H 𝓜 𝓖 𝓡;
+  open-stream = open-stream.met 𝓤 H 𝓜 𝓖 𝓡;
   close = close.met 𝓤 H 𝓜 𝓖 𝓡;
   reset = reset.met 𝓤 H 𝓜 𝓖 𝓡;
   tick = tick.met 𝓤 H 𝓜 𝓖 𝓡;
