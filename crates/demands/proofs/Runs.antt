@@ -103,6 +103,7 @@ premises-needed = record {
   free = record { broken = (refl, (false≢true, (lit≤ tt, (refl, (refl, (refl, (refl, tt))))))); given = refl; wanted = refl };
   short = record { broken = (refl, (refl, (λ e. (let z : 3 ≤ 2 = e in omega arith), (refl, (refl, (refl, (refl, tt))))))); given = refl; wanted = refl };
   handing = record { broken = (refl, (refl, (lit≤ tt, (false≢true, (refl, (refl, (refl, tt))))))); given = refl; wanted = refl };
+  refilled = record { broken = (refl, (refl, (lit≤ tt, (false≢true, (refl, (refl, (refl, tt))))))); given = refl; wanted = refl };
   ticked = record { broken = (refl, (refl, (lit≤ tt, (refl, (false≢true, (refl, (refl, tt))))))); given = refl; wanted = refl };
   reset = record { broken = (refl, (refl, (lit≤ tt, (refl, (false≢true, (refl, (refl, tt))))))); given = refl; wanted = refl };
   closed = record { broken = (refl, (refl, (lit≤ tt, (refl, (false≢true, (refl, (refl, tt))))))); given = refl; wanted = refl };

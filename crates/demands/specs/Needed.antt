@@ -87,8 +87,9 @@ pub record PremisesNeeded : Type 0 where
   pub free : Broken 1 (closed (stream 1 vectorRule 4 3 (since 9 0b0001 3)) ∷ []) (silence 3) (opening (address 1) 0 vectorRule 64 3 ∷ two 7 11) (7 ∷ 11 ∷ []) (up ∷ up ∷ []) (up ∷ rogue ∷ [])
   -- R - 1 ticks are not enough
   pub short : Broken 2 (alone 4 3 3) (silence 2) (from 0 1 5000 ∷ []) (5000 ∷ []) (rogue ∷ []) (up ∷ [])
-  -- nor are R ticks with a hand-up among them
+  -- nor are R ticks with a hand-up among them, or with a close, after which an open fills the slot with a stream of L = 64
   pub handing : Broken 3 (alone 4 3 3) (ticking ∷ from 0 1 10 ∷ silence 2) (from 0 1 5000 ∷ []) (5000 ∷ []) (rogue ∷ []) (up ∷ [])
+  pub refilled : Broken 3 (alone 4 3 3) (closing 0 ∷ opening (address 1) 0 vectorRule 64 3 ∷ silence 3) (two 7 11) (7 ∷ 11 ∷ []) (up ∷ up ∷ []) (up ∷ rogue ∷ [])
   -- a reset by tick, a reset by call, and a close with an open after it, let an index be handed up again
   pub ticked : Broken 4 (alone 4 3 3) (silence 3) (from 0 1 7 ∷ ticking ∷ ticking ∷ ticking ∷ from 1 1 7 ∷ []) (7 ∷ 7 ∷ []) (up ∷ up ∷ []) (up ∷ duplicate ∷ [])
   pub reset : Broken 4 (alone 4 3 3) (silence 3) (from 0 1 7 ∷ resetting 0 ∷ from 1 1 7 ∷ []) (7 ∷ 7 ∷ []) (up ∷ up ∷ []) (up ∷ duplicate ∷ [])
