@@ -1,0 +1,277 @@
+//! What the program tells of itself: the counters in lines and in the text form that Prometheus reads, and alarms.
+
+use crate::order::NETWORKS;
+use crate::port;
+use crate::silence::{News, Silences, Watch};
+use nippitsun::{Counts, Refusal, Stream};
+use std::fmt::{Display, Write};
+use std::fs;
+use std::io;
+use std::path::Path;
+
+/// One of the counters of each stream: name, words, which field.
+type OfStream = (&'static str, &'static str, fn(&Counts) -> u64);
+/// One of the figures of each stream on each network.
+type OfWatch = (&'static str, &'static str, &'static str, fn(&Watch) -> u64);
+/// One of the figures of each network.
+type OfNetwork = (
+    &'static str,
+    &'static str,
+    &'static str,
+    fn(&Network) -> u64,
+);
+
+pub struct Network {
+    pub counts: port::Counts,
+    pub open: bool,
+}
+
+/// All counters at one time.
+pub struct Report<'a> {
+    pub records: &'a [Stream],
+    pub silences: &'a Silences,
+    /// How often each refusal was given, by its number.
+    pub refused: &'a [u64],
+    pub damaged: u64,
+    pub networks: [Network; NETWORKS],
+    pub ticks: u64,
+    pub late: u64,
+    pub steps: u64,
+}
+
+const STREAM_COUNTERS: [OfStream; 6] = [
+    ("passed_total", "frames handed up", |c| c.passed),
+    ("discarded_total", "duplicates", |c| c.discarded),
+    ("rogue_total", "arrivals outside the window", |c| c.rogue),
+    ("out_of_order_total", "frames handed up out of order", |c| {
+        c.disorder
+    }),
+    (
+        "lost_total",
+        "numbers that left the window and never came",
+        |c| c.lost,
+    ),
+    ("resets_total", "times a stream became fresh", |c| c.resets),
+];
+
+const WATCHES: [OfWatch; 3] = [
+    (
+        "silent",
+        "gauge",
+        "1 while a network has no arrival of a stream and the other has",
+        |w| w.silent.into(),
+    ),
+    (
+        "silences_total",
+        "counter",
+        "times a network became silent",
+        |w| w.silences,
+    ),
+    (
+        "returns_total",
+        "counter",
+        "times a silent network had arrivals again",
+        |w| w.returns,
+    ),
+];
+
+const NETWORK_FIGURES: [OfNetwork; 6] = [
+    (
+        "frames_total",
+        "counter",
+        "frames read from a network",
+        |n| n.counts.frames,
+    ),
+    (
+        "outgoing_total",
+        "counter",
+        "frames that this machine sent, left out",
+        |n| n.counts.outgoing,
+    ),
+    (
+        "dropped_total",
+        "counter",
+        "frames that the kernel dropped for want of room",
+        |n| n.counts.dropped,
+    ),
+    (
+        "unstamped_total",
+        "counter",
+        "frames without a stamp of the kernel",
+        |n| n.counts.unstamped,
+    ),
+    (
+        "reopened_total",
+        "counter",
+        "times an interface was opened anew",
+        |n| n.counts.reopened,
+    ),
+    (
+        "open",
+        "gauge",
+        "1 while the interface is there and open",
+        |n| n.open.into(),
+    ),
+];
+
+/// Text that grows. Writing to a string does not fail.
+struct Text(String);
+
+impl Text {
+    /// The head of a family.
+    fn family(&mut self, name: &str, kind: &str, what: &str) {
+        let _ = writeln!(self.0, "# HELP nippitsun_{name} {what}");
+        let _ = writeln!(self.0, "# TYPE nippitsun_{name} {kind}");
+    }
+
+    /// One value of a family, with its labels in braces if it has some.
+    fn value(&mut self, name: &str, labels: &dyn Display, value: u64) {
+        let _ = writeln!(self.0, "nippitsun_{name}{labels} {value}");
+    }
+}
+
+impl Report<'_> {
+    fn streams(&self) -> impl Iterator<Item = (usize, &Stream)> {
+        let records = self.records.iter().enumerate();
+        records.filter(|(_, stream)| stream.is_used())
+    }
+
+    /// A line a stream, a line a refusal that was given, a line a network, and one of the turns.
+    pub fn lines(&self) -> String {
+        let mut text = String::new();
+        for (slot, s) in self.streams() {
+            let (c, [w0, w1]) = (&s.counts, self.silences.of(slot));
+            let _ = writeln!(
+                text,
+                "{} rule {} L {} R {} arrivals0 {} arrivals1 {} passed {} discarded {} rogue {} disorder {} lost {} resets {} \
+                 silent0 {} back0 {} silent1 {} back1 {}",
+                name_of(slot, s),
+                s.rule,
+                s.window,
+                s.time,
+                c.arrivals0,
+                c.arrivals1,
+                c.passed,
+                c.discarded,
+                c.rogue,
+                c.disorder,
+                c.lost,
+                c.resets,
+                w0.silences,
+                w0.returns,
+                w1.silences,
+                w1.returns,
+            );
+        }
+        for refusal in Refusal::ALL {
+            let (number, words) = (refusal.number(), refusal.words());
+            match self.refused[usize::from(number)] {
+                0 => {}
+                count => {
+                    let _ = writeln!(text, "refused {number} ({words}) {count}");
+                }
+            }
+        }
+        if self.damaged != 0 {
+            let _ = writeln!(text, "damaged {}", self.damaged);
+        }
+        for (i, network) in self.networks.iter().enumerate() {
+            let c = &network.counts;
+            let _ = writeln!(
+                text,
+                "network {i} frames {} outgoing {} dropped {} unstamped {} reopened {}",
+                c.frames, c.outgoing, c.dropped, c.unstamped, c.reopened
+            );
+        }
+        let (ticks, late, steps) = (self.ticks, self.late, self.steps);
+        let _ = writeln!(text, "ticks {ticks} late {late} steps {steps}");
+        text
+    }
+
+    /// The same in the text form that Prometheus reads.
+    pub fn prometheus(&self) -> String {
+        let mut text = Text(String::new());
+        let name = "arrivals_total";
+        let what = "arrivals of a stream on a network, whatever the verdict";
+        text.family(name, "counter", what);
+        for (slot, s) in self.streams() {
+            let arrivals = [s.counts.arrivals0, s.counts.arrivals1];
+            for (network, count) in arrivals.into_iter().enumerate() {
+                text.value(name, &labels(slot, s, Some(network)), count);
+            }
+        }
+        for (name, what, field) in STREAM_COUNTERS {
+            text.family(name, "counter", what);
+            for (slot, s) in self.streams() {
+                text.value(name, &labels(slot, s, None), field(&s.counts));
+            }
+        }
+        for (name, kind, what, field) in WATCHES {
+            text.family(name, kind, what);
+            for (slot, s) in self.streams() {
+                for (network, watch) in self.silences.of(slot).iter().enumerate() {
+                    text.value(name, &labels(slot, s, Some(network)), field(watch));
+                }
+            }
+        }
+        text.family("refused_total", "counter", "calls refused, by number");
+        for refusal in Refusal::ALL {
+            let number = refusal.number();
+            let labels = format!("{{number=\"{number}\"}}");
+            text.value("refused_total", &labels, self.refused[usize::from(number)]);
+        }
+        text.family("damaged", "gauge", "damaged records at the last tick");
+        text.value("damaged", &"", self.damaged);
+        for (name, kind, what, field) in NETWORK_FIGURES {
+            text.family(name, kind, what);
+            for (i, network) in self.networks.iter().enumerate() {
+                text.value(name, &format!("{{network=\"{i}\"}}"), field(network));
+            }
+        }
+        for (name, what, count) in [
+            ("ticks_total", "ticks called", self.ticks),
+            ("late_turns_total", "turns that came late", self.late),
+            ("clock_steps_total", "steps of the clock", self.steps),
+        ] {
+            text.family(name, "counter", what);
+            text.value(name, &"", count);
+        }
+        text.0
+    }
+}
+
+/// What lines call a stream.
+fn name_of(slot: usize, stream: &Stream) -> String {
+    format!("slot {slot} dest {:012x} vlan {}", stream.dest, stream.vlan)
+}
+
+/// The labels of a stream, and of one network behind them.
+fn labels(slot: usize, stream: &Stream, network: Option<usize>) -> String {
+    let dest: Vec<String> = stream.dest.to_be_bytes()[2..]
+        .iter()
+        .map(|byte| format!("{byte:02x}"))
+        .collect();
+    let (dest, vlan) = (dest.join(":"), stream.vlan);
+    let network = network.map_or(String::new(), |n| format!(",network=\"{n}\""));
+    format!("{{slot=\"{slot}\",dest=\"{dest}\",vlan=\"{vlan}\"{network}}}")
+}
+
+/// An alarm after a silence of so many milliseconds, or its end.
+pub fn news_line(news: News, stream: &Stream, alarm_ms: i64) -> String {
+    let (name, network) = (name_of(news.slot, stream), news.network);
+    let other = 1 - network;
+    match news.silent {
+        true => format!(
+            "alarm: {name}: no arrival on network {network} for {alarm_ms} ms, while network {other} has arrivals"
+        ),
+        false => format!("back: {name}: arrivals on network {network} again"),
+    }
+}
+
+/// Writes the text beside the file and renames it over it, so that no reader sees half of it.
+pub fn write_over(file: &Path, text: &str) -> io::Result<()> {
+    let mut beside = file.as_os_str().to_owned();
+    beside.push(".new");
+    fs::write(&beside, text)?;
+    fs::rename(&beside, file)
+}
