@@ -4,6 +4,10 @@
 use crate::order::Time;
 use std::time::{Instant, SystemTime, UNIX_EPOCH};
 
+/// A change of real time against monotonic time from here on, in nanoseconds, is a step. Smaller ones add up until they are
+/// one: so a stamp is wrong by no more than this.
+const STEP: i64 = 200_000;
+
 pub struct Clock {
     start: Instant,
 }
@@ -19,9 +23,19 @@ impl Clock {
         self.start.elapsed().as_nanos() as Time
     }
 
-    /// Real time less monotonic time, by one reading of both.
-    pub fn ahead(&self) -> i64 {
-        real() - self.now()
+    /// Real time less monotonic time. It is what was known unless it has stepped.
+    pub fn ahead(&self, known: i64) -> i64 {
+        let is_known = |ahead: i64| (ahead - known).abs() < STEP;
+        if is_known(real() - self.now()) {
+            return known;
+        }
+        // The thread may have been held up between the two clocks.
+        let ahead = self.measure_ahead();
+        if is_known(ahead) {
+            known
+        } else {
+            ahead
+        }
     }
 
     /// The same from the tightest of some readings.

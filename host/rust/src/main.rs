@@ -54,9 +54,8 @@ impl Host {
         for port in &mut self.ports {
             port.fill(&mut self.order)?;
         }
-        if self.order.doubts(self.clock.ahead()) {
-            self.order.ahead_is(self.clock.measure_ahead());
-        }
+        let ahead = self.clock.ahead(self.order.ahead());
+        self.order.known(self.clock.now(), ahead);
         let mut taken = 0;
         while let Some(call) = self.order.next() {
             match call {
@@ -76,14 +75,12 @@ impl Host {
                 }
             }
         }
-        self.say_silences(self.order.horizon());
         // Whoever reads standard output has each frame before the next wait.
         self.up.flush().map_err(failed("standard output"))?;
         Ok(taken)
     }
 
     fn arrival(&mut self, network: usize, place: usize, time: Time) -> Result<(), Trouble> {
-        self.say_silences(time);
         let frame = match self.ports[network].frame(place) {
             Some(frame) => frame,
             None => return Ok(()),
@@ -101,9 +98,8 @@ impl Host {
                     self.hand_up(a.slot, a.number, &out[..length])
                         .map_err(failed("standard output"))?;
                 }
-                if let Some(news) = self.silences.arrival(a.slot, network, up, time) {
-                    self.say_news(news);
-                }
+                let news = self.silences.arrival(a.slot, network, up, time);
+                news.into_iter().flatten().for_each(|one| self.say(one));
             }
             Err(refusal) => self.refused[usize::from(refusal.number())] += 1,
         }
@@ -130,13 +126,7 @@ impl Host {
         }
     }
 
-    fn say_silences(&mut self, now: Time) {
-        while let Some(news) = self.silences.said_by(now) {
-            self.say_news(news);
-        }
-    }
-
-    fn say_news(&self, news: News) {
+    fn say(&self, news: News) {
         let stream = &self.options.receiver.records()[news.slot];
         eprintln!("{}", report::news_line(news, stream, self.options.alarm_ms));
     }
@@ -187,13 +177,11 @@ impl Host {
         let mut end = None;
         loop {
             let now = self.clock.now();
-            let mut until = second.min(self.silences.due());
-            if let Some(quiet) = self.options.quiet {
-                until = until.min(last + quiet);
-            }
-            if end.is_some() {
-                until = now;
-            }
+            let quiet_ends = self.options.quiet.map_or(Time::MAX, |quiet| last + quiet);
+            let until = match end {
+                Some(_) => now,
+                None => second.min(quiet_ends),
+            };
             let pause = self.order.pause(now, until);
             let sockets = [self.ports[0].socket(), self.ports[1].socket()];
             socket::wait(sockets, signals, pause).map_err(failed("ppoll"))?;
@@ -205,7 +193,7 @@ impl Host {
                 last = now;
             }
             if now >= second {
-                second = (second + SECOND).max(now);
+                second = now + SECOND;
                 for port in &mut self.ports {
                     port.look(&self.setup)?;
                 }
@@ -270,7 +258,7 @@ fn receive(options: Options) -> Result<(), Trouble> {
 }
 
 fn run() -> Result<(), Trouble> {
-    match options::read(std::env::args().skip(1)).map_err(Trouble::Refused)? {
+    match options::read(std::env::args().skip(1))? {
         Asked::Run(options) => receive(*options),
         Asked::Version => {
             println!("nippitsun {}", nippitsun::VERSION);
@@ -291,7 +279,11 @@ fn main() -> ExitCode {
             ExitCode::from(1)
         }
         Err(Trouble::Refused(what)) => {
-            eprintln!("refused: {}", what.trim_end());
+            eprintln!("refused: {what}");
+            ExitCode::from(2)
+        }
+        Err(Trouble::Misused(what)) => {
+            eprint!("{what}{}", options::USAGE);
             ExitCode::from(2)
         }
     }

@@ -1,6 +1,7 @@
 //! The words of the command line. The library judges a stream's settings; here only what no such field can hold is refused.
 
 use crate::order::Time;
+use crate::trouble::Trouble;
 use nippitsun::{Receiver, Settings, Stream};
 use std::path::PathBuf;
 use std::str::FromStr;
@@ -53,7 +54,7 @@ pub enum Asked {
     Help,
 }
 
-pub fn read(words: impl IntoIterator<Item = String>) -> Result<Asked, String> {
+pub fn read(words: impl IntoIterator<Item = String>) -> Result<Asked, Trouble> {
     let mut words = words.into_iter();
     let mut receiver = Receiver::new(Stream::SLOTS_MOST);
     let mut warnings = Vec::new();
@@ -74,36 +75,36 @@ pub fn read(words: impl IntoIterator<Item = String>) -> Result<Asked, String> {
             Some((name, value)) => (name, Some(value.to_string())),
             None => (word.as_str(), None),
         };
-        let mut value = || {
-            let value = given.take().or_else(|| words.next());
-            value.ok_or(format!("nothing behind {name}\n{USAGE}"))
+        let misused = |what: &str| Trouble::Misused(format!("receive-rust: {what}\n"));
+        let mut value = || match given.take().or_else(|| words.next()) {
+            Some(value) => Ok(value),
+            None => Err(misused(&format!("option '{name}' requires an argument"))),
         };
         match name {
             "--open" => warnings.extend(open(&mut receiver, &value()?)?),
             "--tick" => period = read_number("tick", &value()?, 1, HOUR_IN_MS)? * MILLISECOND,
             "--room" => room_kb = read_number("room", &value()?, 1, 1 << 20)?,
-            "--all" => all = true,
             "--alarm" => alarm_ms = read_number("alarm", &value()?, 0, HOUR_IN_MS)?,
             "--stats" => stats = Some(value()?.into()),
             "--quiet" => {
                 quiet = Some(read_number("quiet", &value()?, 1, HOUR_IN_MS)? * MILLISECOND)
             }
             "--give" => give = read_give(&value()?)?,
+            "--all" | "--version" | "--help" if given.is_some() => {
+                return Err(misused(&format!(
+                    "option '{name}' doesn't allow an argument"
+                )));
+            }
+            "--all" => all = true,
             "--version" => return Ok(Asked::Version),
             "--help" => return Ok(Asked::Help),
-            _ => return Err(format!("there is no option '{name}'\n{USAGE}")),
+            _ => return Err(misused(&format!("unrecognized option '{name}'"))),
         }
     }
-    let interfaces = <[String; 2]>::try_from(interfaces)
-        .map_err(|given| format!("{} interfaces, not two\n{USAGE}", given.len()))?;
+    let interfaces =
+        <[String; 2]>::try_from(interfaces).map_err(|_| Trouble::Misused(String::new()))?;
     if !receiver.records().iter().any(Stream::is_used) {
-        return Err("no stream: --open names one".to_string());
-    }
-    if interfaces[0] == interfaces[1] {
-        return Err(format!(
-            "both networks are on interface '{}'",
-            interfaces[0]
-        ));
+        return Err("no stream: --open names one".to_string().into());
     }
     Ok(Asked::Run(Box::new(Options {
         receiver,
@@ -176,7 +177,7 @@ fn read_give(text: &str) -> Result<Give, String> {
         "lines" => Ok(Give::Lines),
         "raw" => Ok(Give::Raw),
         "nothing" => Ok(Give::Nothing),
-        _ => Err(format!("give '{text}' is none of lines, raw, nothing")),
+        _ => Err("--give is lines, raw or nothing".to_string()),
     }
 }
 
@@ -196,7 +197,7 @@ where
 mod tests {
     use super::*;
 
-    fn run(line: &str) -> Result<Asked, String> {
+    fn run(line: &str) -> Result<Asked, Trouble> {
         read(line.split_whitespace().map(str::to_string))
     }
 
@@ -208,8 +209,10 @@ mod tests {
     }
 
     fn refused(line: &str) -> String {
-        let said = run(line).expect_err(line);
-        said.lines().next().unwrap_or_default().to_string()
+        match run(line) {
+            Err(Trouble::Refused(what)) => what,
+            other => panic!("{line}: {other:?}"),
+        }
     }
 
     const OPEN: &str = "--open 01:00:5e:00:00:07,100,vector,5,3";
@@ -244,21 +247,39 @@ mod tests {
     }
 
     #[test]
-    fn help_and_version_come_first_where_they_stand_first() {
+    fn help_and_version_where_they_stand_first() {
         assert!(matches!(run("--help --no"), Ok(Asked::Help)));
         assert!(matches!(run("--version"), Ok(Asked::Version)));
-        assert_eq!(refused("--no --help"), "there is no option '--no'");
+        for (line, said) in [
+            ("--no --help", "receive-rust: unrecognized option '--no'\n"),
+            (
+                "a b --open",
+                "receive-rust: option '--open' requires an argument\n",
+            ),
+            (
+                "--all=x",
+                "receive-rust: option '--all' doesn't allow an argument\n",
+            ),
+            ("a", ""),
+            ("a b c", ""),
+        ] {
+            match run(line) {
+                Err(Trouble::Misused(what)) => assert_eq!(what, said),
+                other => panic!("{line}: {other:?}"),
+            }
+        }
     }
 
     #[test]
     fn what_is_refused() {
+        let setting = "020000000001,0,vector,65,3";
+        let id = "020000000001,4095,vector,5,3";
         for (line, said) in [
             ("a b", "no stream: --open names one"),
-            ("a", "1 interfaces, not two"),
-            ("a b --open", "nothing behind --open"),
-            ("--give x", "give 'x' is none of lines, raw, nothing"),
+            ("--give x", "--give is lines, raw or nothing"),
             ("--tick 0", "tick '0' is no number from 1 to 3600000"),
             ("--tick +1", "tick '+1' is no number from 1 to 3600000"),
+            ("--alarm -1", "alarm '-1' is no number from 0 to 3600000"),
             (
                 "--room 1048577",
                 "room '1048577' is no number from 1 to 1048576",
@@ -268,24 +289,36 @@ mod tests {
                 "--open 02,0,vector,5,3",
                 "'02' is no address of six bytes in hex",
             ),
-            (
-                "--open 020000000001,0,vector,65,3",
-                "open 020000000001,0,vector,65,3: 9, a setting outside the sizes",
-            ),
-            (
-                "--open 020000000001,4095,vector,5,3",
-                "open 020000000001,4095,vector,5,3: 9, a setting outside the sizes",
-            ),
         ] {
             assert_eq!(refused(line), said);
         }
-        assert_eq!(
-            refused(&format!("{OPEN} {OPEN}")),
-            "open 01:00:5e:00:00:07,100,vector,5,3: 10, a slot in use has the key"
-        );
-        assert_eq!(
-            refused(&format!("{OPEN} x x")),
-            "both networks are on interface 'x'"
-        );
+        for text in [setting, id] {
+            let said = format!("open {text}: 9, a setting outside the sizes");
+            assert_eq!(refused(&format!("--open {text}")), said);
+        }
+        let twice = "open 01:00:5e:00:00:07,100,vector,5,3: 10, a slot in use has the key";
+        assert_eq!(refused(&format!("{OPEN} {OPEN}")), twice);
+    }
+
+    #[test]
+    fn addresses() {
+        let good = [0x01, 0x00, 0x5E, 0x00, 0x00, 0x07];
+        for text in ["01005e000007", "01:00:5E:00:00:07", "01005e:00:0007"] {
+            assert_eq!(read_address(text), Ok(good));
+        }
+        for text in [
+            "",
+            "01",
+            ":01005e000007",
+            "01::005e000007",
+            "01005e0000070",
+            "01005e000007:",
+            "+1005e000007",
+            "0 005e000007",
+            "é1005e00007",
+        ] {
+            let said = format!("'{text}' is no address of six bytes in hex");
+            assert_eq!(read_address(text), Err(said));
+        }
     }
 }

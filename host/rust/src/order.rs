@@ -2,7 +2,7 @@
 //! stands here; times are nanoseconds of the monotonic clock, and whoever calls has read it.
 //!
 //! A turn: the clock is read first (`begin`), then each port until it says that it is empty or the batch is full (`read`,
-//! `empty`), then the difference of the clocks (`doubts`, `ahead_is`); `next` then answers the calls one by one.
+//! `empty`), then the clocks once more (`known`); `next` then answers the calls one by one.
 
 /// Nanoseconds of the monotonic clock.
 pub type Time = i64;
@@ -11,10 +11,6 @@ pub const NETWORKS: usize = 2;
 
 /// Frames that are read from a port in one turn.
 pub const BATCH: usize = 64;
-
-/// A change of real time against monotonic time by more than this, in nanoseconds, is a step of the clock. Two readings, one
-/// behind the other, are mostly nearer.
-const STEP: i64 = 200_000;
 
 #[derive(Clone, Copy, Debug, PartialEq, Eq)]
 pub enum Call {
@@ -29,15 +25,18 @@ pub enum Call {
 
 /// What is known of one port.
 struct Lane {
+    /// Stamps that were read in this turn.
+    stamps: Vec<Option<i64>>,
     /// Times of the last batch's frames, and how many of them have been called.
     times: Vec<Time>,
     called: usize,
+    /// The latest stamp read.
     newest: Time,
     /// Every frame that was queued before this has been read.
     horizon: Time,
     /// The port said in this turn that it is empty.
     empty: bool,
-    /// The port may hold frames that were stamped before a step of the clock. They have the time of the turn that reads them.
+    /// The port may hold frames that were stamped before a step of the clock.
     mixed: bool,
 }
 
@@ -70,6 +69,7 @@ impl Order {
     /// The ports were opened behind the first time, and ticks count from the second on.
     pub fn new(period: Time, opened: Time, now: Time, ahead: i64) -> Order {
         let lane = || Lane {
+            stamps: Vec::with_capacity(BATCH),
             times: Vec::with_capacity(BATCH),
             called: 0,
             newest: opened,
@@ -118,7 +118,9 @@ impl Order {
         }
         self.clock = clock;
         self.awake = clock;
-        self.by_turns = self.lanes.iter().any(|lane| lane.mixed);
+        // What was read meanwhile has no comparable time either.
+        let left = self.by_turns && self.has_frames();
+        self.by_turns = left || self.lanes.iter().any(|lane| lane.mixed);
         for lane in &mut self.lanes {
             lane.empty = false;
         }
@@ -137,46 +139,44 @@ impl Order {
 
     /// A frame was read, with the kernel's stamp in real time if it has one.
     pub fn read(&mut self, network: usize, stamp: Option<i64>) {
-        let lane = &mut self.lanes[network];
-        let time = match stamp {
-            Some(real) if !lane.mixed => real - self.ahead,
-            // It came behind all that was read.
-            None if !lane.mixed => lane.newest.max(lane.horizon),
-            _ => self.clock,
-        };
-        lane.times.push(time);
-        lane.newest = lane.newest.max(time);
+        self.lanes[network].stamps.push(stamp);
     }
 
     /// The port said that it is empty. That fewer frames came than were asked for is no proof of it.
     pub fn empty(&mut self, network: usize) {
-        let lane = &mut self.lanes[network];
-        lane.empty = true;
-        lane.mixed = false;
-        lane.horizon = lane.horizon.max(self.clock);
+        self.lanes[network].empty = true;
     }
 
-    /// Has real time moved against monotonic time, by one reading of both? Then it is to be measured with care.
-    pub fn doubts(&self, ahead: i64) -> bool {
-        (ahead - self.ahead).abs() > STEP
+    /// Real time less monotonic time, as it was known last.
+    pub fn ahead(&self) -> i64 {
+        self.ahead
     }
 
-    /// Real time less monotonic time, measured with care, behind the ports' reading: so no frame of this turn was stamped
-    /// by a step that is not known. Both clocks are slewed alike, so they move apart by a step alone. Stamps from before and
+    /// The clock, and real time less monotonic time, both behind the ports' reading: so no frame of this turn was stamped by
+    /// a step that is not known. Both clocks are slewed alike, so they move apart by a step alone. Stamps from before and
     /// behind it can't be compared: until each port has said that it is empty they take turns, and there is no tick.
-    pub fn ahead_is(&mut self, ahead: i64) {
-        if (ahead - self.ahead).abs() <= STEP / 2 {
-            return;
-        }
+    pub fn known(&mut self, now: Time, ahead: i64) {
+        let stepped = ahead != self.ahead;
         self.ahead = ahead;
-        self.steps += 1;
-        self.by_turns = true;
+        self.steps += u64::from(stepped);
+        self.by_turns |= stepped;
         for lane in &mut self.lanes {
-            lane.mixed = true;
-            // What was read in this turn may have a stamp of either clock.
-            lane.times.fill(self.clock);
-            lane.newest = self.clock;
-            lane.horizon = self.clock;
+            lane.mixed |= stepped;
+            for stamp in lane.stamps.drain(..) {
+                // One without a stamp came behind all that was read. None was stamped behind its reading: one that says so,
+                // since a step came between its stamp and its queue, would wait for that time.
+                let unknown = lane.newest.max(lane.horizon);
+                let time = stamp.map_or(unknown, |real| (real - ahead).min(now));
+                lane.times.push(time);
+                if !lane.mixed {
+                    lane.newest = lane.newest.max(time);
+                }
+            }
+            // In the turn of the step itself the port may have said so before the step.
+            if lane.empty && !stepped {
+                lane.mixed = false;
+                lane.horizon = self.clock;
+            }
         }
     }
 
@@ -263,6 +263,7 @@ mod tests {
                 order.empty(network);
             }
         }
+        order.known(clock + 500, order.ahead);
         std::iter::from_fn(|| order.next()).collect()
     }
 
@@ -339,6 +340,7 @@ mod tests {
         o.read(0, None);
         o.empty(0);
         o.empty(1);
+        o.known(201, 0);
         let calls: Vec<Call> = std::iter::from_fn(|| o.next()).collect();
         let expected = [frame(0, 0, 100), frame(0, 1, 150), frame(0, 2, 150)];
         assert_eq!(calls, expected);
@@ -382,8 +384,7 @@ mod tests {
             o.empty(0);
             o.read(1, Some(MS + 3 + step));
             o.empty(1);
-            assert!(o.doubts(step));
-            o.ahead_is(step);
+            o.known(2 * MS + 1, step);
             let at = 2 * MS;
             let calls: Vec<Call> = std::iter::from_fn(|| o.next()).collect();
             let expected = [frame(0, 0, at), frame(1, 0, at), frame(0, 1, at)];
@@ -397,19 +398,16 @@ mod tests {
                 assert_eq!(calls, [frame(1, 0, clock), frame(1, 1, clock)]);
                 clock += 2 * MS;
             }
-            // Port 0 has more than port 1 had, and port 0 is seen empty: what is left behind has no old stamp.
+            // Port 0 has more than port 1: what is left behind does not wait for the time of an old stamp.
             let calls = turn(&mut o, clock, [(&[MS, MS, MS], true), (&[MS], false)]);
             assert_eq!(calls.len(), 2);
             assert!(o.has_frames());
             let calls = turn(&mut o, clock + 1, [(&[], false), (&[], true)]);
             assert_eq!(calls.len(), 2);
-            // Both were seen empty: the order is that of the new stamps again.
+            // Both were seen empty, and nothing is left: the order is that of the new stamps again.
             clock += 2 * MS;
-            let calls = turn(
-                &mut o,
-                clock,
-                [(&[clock + step - 1], true), (&[clock + step - 2], true)],
-            );
+            let stamps = [clock + step - 1, clock + step - 2];
+            let calls = turn(&mut o, clock, [(&stamps[..1], true), (&stamps[1..], true)]);
             assert_eq!(calls, [frame(1, 0, clock - 2), frame(0, 0, clock - 1)]);
             assert_eq!((o.ticks, o.steps), (0, 1));
             assert_eq!(o.tick, clock - 2 * MS + 1 + TICK);
@@ -417,11 +415,27 @@ mod tests {
     }
 
     #[test]
-    fn readings_that_differ_a_little_are_no_step() {
+    fn a_frame_left_behind_a_step_does_not_wait_for_its_stamp() {
         let mut o = order();
-        assert!(!o.doubts(STEP) && !o.doubts(-STEP) && o.doubts(STEP + 1));
-        o.ahead_is(STEP / 2);
-        assert_eq!((o.steps, o.ahead), (0, 0));
+        // Port 0 holds port 1 back, so a frame of port 1 is left.
+        turn(&mut o, MS, [(&[5], false), (&[7, 8], true)]);
+        assert!(o.has_frames());
+        o.begin(2 * MS);
+        assert!(o.wants(0) && !o.wants(1));
+        o.empty(0);
+        let step = -3_600_000 * MS;
+        o.known(2 * MS, step);
+        while o.next().is_some() {}
+        // Old stamps, an hour ahead by the new clock. Port 0 is seen empty, and port 1 runs out before it.
+        turn(&mut o, 3 * MS, [(&[MS, MS, MS, MS], true), (&[MS], false)]);
+        assert!(o.has_frames());
+        turn(&mut o, 4 * MS, [(&[], false), (&[], true)]);
+        turn(&mut o, 5 * MS, [(&[], true), (&[], true)]);
+        assert!(!o.has_frames());
+        // One that was queued behind all this with an old stamp waits for no more than its own reading.
+        turn(&mut o, 6 * MS, [(&[MS], true), (&[], true)]);
+        let calls = turn(&mut o, 7 * MS, [(&[], true), (&[], true)]);
+        assert_eq!(calls, [frame(0, 0, 6 * MS + 500)]);
     }
 
     /// A network of made-up time: commands, each with a copy on both networks, and a program that is held up.
@@ -541,13 +555,13 @@ mod tests {
             }
             let clock = w.now;
             o.begin(clock);
-            for network in 0..NETWORKS {
+            for (network, batch) in read.iter_mut().enumerate() {
                 if !o.wants(network) {
                     continue;
                 }
-                read[network].clear();
+                batch.clear();
                 // Few rooms, so that batches are full.
-                while read[network].len() < 3 {
+                while batch.len() < 3 {
                     let held = if trials.thread_stands && w.draw(50) == 0 {
                         20 * MS
                     } else {
@@ -558,7 +572,7 @@ mod tests {
                     match w.sockets[network].pop_front() {
                         Some((stamp, index, time)) => {
                             o.read(network, Some(stamp));
-                            read[network].push((index, time));
+                            batch.push((index, time));
                         }
                         None => {
                             o.empty(network);
@@ -570,9 +584,7 @@ mod tests {
                     w.ahead += [5 * MS, -5 * MS, 3_600_000 * MS, -700 * MS][w.draw(4) as usize];
                 }
             }
-            if o.doubts(w.ahead) {
-                o.ahead_is(w.ahead);
-            }
+            o.known(w.now, w.ahead);
             loop {
                 let tick = o.tick;
                 match o.next() {

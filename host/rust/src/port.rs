@@ -2,7 +2,7 @@
 
 use crate::filter::Instruction;
 use crate::frame;
-use crate::order::{Order, BATCH};
+use crate::order::{Order, BATCH, NETWORKS};
 use crate::socket::{self, Room, Seen, Socket};
 use crate::trouble::{failed, Trouble};
 use std::io;
@@ -50,19 +50,18 @@ pub struct Port {
 }
 
 /// Opens the ports of all networks.
-pub fn open_all<const N: usize>(
-    interfaces: &[String; N],
-    setup: &Setup,
-) -> Result<Vec<Port>, Trouble> {
-    let mut numbers = Vec::new();
-    for interface in interfaces {
-        let number = socket::interface_number(interface)
-            .ok_or_else(|| Trouble::Refused(format!("there is no interface '{interface}'")))?;
-        if numbers.contains(&number) {
-            let what = format!("both networks are on interface '{interface}'");
-            return Err(Trouble::Refused(what));
-        }
-        numbers.push(number);
+pub fn open_all(interfaces: &[String; NETWORKS], setup: &Setup) -> Result<Vec<Port>, Trouble> {
+    let numbers = interfaces
+        .iter()
+        .map(|interface| {
+            let there_is_no = || Trouble::Refused(format!("there is no interface '{interface}'"));
+            socket::interface_number(interface).ok_or_else(there_is_no)
+        })
+        .collect::<Result<Vec<i32>, Trouble>>()?;
+    // One wire for both would make each frame its own twin. By number: an interface may have two names.
+    if numbers[0] == numbers[1] {
+        let what = format!("both networks are on interface '{}'", interfaces[0]);
+        return Err(Trouble::Refused(what));
     }
     let mut ports = Vec::new();
     for (network, interface) in interfaces.iter().enumerate() {
@@ -125,7 +124,7 @@ impl Port {
                 order.read(self.network, seen.stamp);
                 self.counts.unstamped += u64::from(seen.stamp.is_none());
                 self.counts.outgoing += u64::from(seen.outgoing);
-                self.counts.frames += u64::from(!seen.outgoing);
+                self.counts.frames += 1;
             }
         }
         Ok(())

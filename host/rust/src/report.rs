@@ -40,37 +40,41 @@ pub struct Report<'a> {
 }
 
 const STREAM_COUNTERS: [OfStream; 6] = [
-    ("passed_total", "frames handed up", |c| c.passed),
-    ("discarded_total", "duplicates", |c| c.discarded),
-    ("rogue_total", "arrivals outside the window", |c| c.rogue),
-    ("out_of_order_total", "frames handed up out of order", |c| {
-        c.disorder
-    }),
+    ("passed_total", "Frames handed up.", |c| c.passed),
+    ("discarded_total", "Duplicates.", |c| c.discarded),
+    ("rogue_total", "Frames outside the window.", |c| c.rogue),
+    (
+        "out_of_order_total",
+        "Frames handed up out of order.",
+        |c| c.disorder,
+    ),
     (
         "lost_total",
-        "numbers that left the window and never came",
+        "Numbers that left the window and never came.",
         |c| c.lost,
     ),
-    ("resets_total", "times a stream became fresh", |c| c.resets),
+    ("resets_total", "Times the stream became fresh.", |c| {
+        c.resets
+    }),
 ];
 
 const WATCHES: [OfWatch; 3] = [
     (
         "silent",
         "gauge",
-        "1 while a network has no arrival of a stream and the other has",
+        "1 while a network has no arrivals of a stream and the other has.",
         |w| w.silent.into(),
     ),
     (
         "silences_total",
         "counter",
-        "times a network became silent",
+        "Times a network fell silent for a stream.",
         |w| w.silences,
     ),
     (
         "returns_total",
         "counter",
-        "times a silent network had arrivals again",
+        "Times a silent network had arrivals again.",
         |w| w.returns,
     ),
 ];
@@ -79,37 +83,37 @@ const NETWORK_FIGURES: [OfNetwork; 6] = [
     (
         "frames_total",
         "counter",
-        "frames read from a network",
+        "Frames read from a network.",
         |n| n.counts.frames,
     ),
     (
         "outgoing_total",
         "counter",
-        "frames that this machine sent, left out",
+        "Frames read that this machine sent.",
         |n| n.counts.outgoing,
     ),
     (
         "dropped_total",
         "counter",
-        "frames that the kernel dropped for want of room",
+        "Frames that the kernel dropped for want of room.",
         |n| n.counts.dropped,
     ),
     (
         "unstamped_total",
         "counter",
-        "frames without a stamp of the kernel",
+        "Frames without the kernel's time stamp.",
         |n| n.counts.unstamped,
     ),
     (
         "reopened_total",
         "counter",
-        "times an interface was opened anew",
+        "Times an interface was there again.",
         |n| n.counts.reopened,
     ),
     (
         "open",
         "gauge",
-        "1 while the interface is there and open",
+        "1 while the interface is there and open.",
         |n| n.open.into(),
     ),
 ];
@@ -192,7 +196,7 @@ impl Report<'_> {
     pub fn prometheus(&self) -> String {
         let mut text = Text(String::new());
         let name = "arrivals_total";
-        let what = "arrivals of a stream on a network, whatever the verdict";
+        let what = "Arrivals of a stream on a network.";
         text.family(name, "counter", what);
         for (slot, s) in self.streams() {
             let arrivals = [s.counts.arrivals0, s.counts.arrivals1];
@@ -214,13 +218,21 @@ impl Report<'_> {
                 }
             }
         }
-        text.family("refused_total", "counter", "calls refused, by number");
+        text.family(
+            "refused_total",
+            "counter",
+            "Frames that the receiver refused, by number.",
+        );
         for refusal in Refusal::ALL {
             let number = refusal.number();
             let labels = format!("{{number=\"{number}\"}}");
             text.value("refused_total", &labels, self.refused[usize::from(number)]);
         }
-        text.family("damaged", "gauge", "damaged records at the last tick");
+        text.family(
+            "damaged",
+            "gauge",
+            "Records in use that are damaged, at the last tick.",
+        );
         text.value("damaged", &"", self.damaged);
         for (name, kind, what, field) in NETWORK_FIGURES {
             text.family(name, kind, what);
@@ -229,9 +241,13 @@ impl Report<'_> {
             }
         }
         for (name, what, count) in [
-            ("ticks_total", "ticks called", self.ticks),
-            ("late_turns_total", "turns that came late", self.late),
-            ("clock_steps_total", "steps of the clock", self.steps),
+            ("ticks_total", "Ticks.", self.ticks),
+            (
+                "late_turns_total",
+                "Turns that came late by more than a quarter of a tick.",
+                self.late,
+            ),
+            ("clock_steps_total", "Steps of real time.", self.steps),
         ] {
             text.family(name, "counter", what);
             text.value(name, &"", count);

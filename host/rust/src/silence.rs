@@ -1,8 +1,8 @@
 //! Which network has no arrival of a stream while the other has: lost redundancy, which nobody notices otherwise.
 //!
-//! A network's silence counts from the first frame of the other one that was handed up since its own last arrival. A
-//! duplicate begins none, since it is the copy of an arrival: so a sender that is slow on both networks is no silence. Times
-//! are those of the calls.
+//! A network's silence counts from the first frame of the other one that was handed up since its own last arrival, and is
+//! found at another such frame. A duplicate is the copy of an arrival and says nothing of the network that had it first. So
+//! neither a sender that is slow nor one that stops is a silence. Times are those of the calls.
 
 use crate::order::{Time, NETWORKS};
 
@@ -25,81 +25,64 @@ pub struct News {
 }
 
 pub struct Silences {
-    /// How long a silence is until it is said; `None` is never.
+    /// From here on a silence is said; `None` is never.
     limit: Option<Time>,
     streams: Vec<[Watch; NETWORKS]>,
-    /// No silence is to be said before this.
-    due: Time,
 }
 
 impl Silences {
     pub fn new(slots: usize, limit: Option<Time>) -> Silences {
-        Silences {
-            limit,
-            streams: vec![Default::default(); slots],
-            due: Time::MAX,
-        }
+        let streams = vec![Default::default(); slots];
+        Silences { limit, streams }
     }
 
     pub fn of(&self, slot: usize) -> &[Watch; NETWORKS] {
         &self.streams[slot]
     }
 
-    /// No silence is to be said before this.
-    pub fn due(&self) -> Time {
-        self.due
-    }
-
-    /// An arrival, and whether it was handed up. All silences up to its time were asked for before.
-    pub fn arrival(&mut self, slot: usize, network: usize, up: bool, time: Time) -> Option<News> {
-        let limit = self.limit?;
-        let other = &mut self.streams[slot][1 - network];
-        if up && other.since.is_none() {
-            other.since = Some(time);
-            self.due = self.due.min(time + limit);
-        }
-        let own = &mut self.streams[slot][network];
-        own.since = None;
-        let news = News {
-            slot,
-            network,
-            silent: false,
+    /// An arrival, and whether it was handed up: first what it says of its own network, then of the other one.
+    pub fn arrival(
+        &mut self,
+        slot: usize,
+        network: usize,
+        up: bool,
+        time: Time,
+    ) -> [Option<News>; 2] {
+        let watches = &mut self.streams[slot];
+        let back = watches[network].arrived();
+        let other = 1 - network;
+        let silent = up
+            && self
+                .limit
+                .map_or(false, |limit| watches[other].missed(time, limit));
+        let news = |happened: bool, network, silent| {
+            happened.then_some(News {
+                slot,
+                network,
+                silent,
+            })
         };
-        own.silent.then(|| {
-            own.silent = false;
-            own.returns += 1;
-            news
-        })
+        [news(back, network, false), news(silent, other, true)]
+    }
+}
+
+impl Watch {
+    /// Answers whether this ends a silence.
+    fn arrived(&mut self) -> bool {
+        self.since = None;
+        let back = self.silent;
+        self.silent = false;
+        self.returns += u64::from(back);
+        back
     }
 
-    /// A silence that is to be said by now, if there is one; to be asked until there is none.
-    pub fn said_by(&mut self, now: Time) -> Option<News> {
-        let limit = self.limit?;
-        if now < self.due {
-            return None;
-        }
-        self.due = Time::MAX;
-        for (slot, watches) in self.streams.iter_mut().enumerate() {
-            for (network, watch) in watches.iter_mut().enumerate() {
-                let end = match watch.since {
-                    Some(since) if !watch.silent => since + limit,
-                    _ => continue,
-                };
-                if end <= now {
-                    watch.silent = true;
-                    watch.silences += 1;
-                    // The rest has not been looked at.
-                    self.due = now;
-                    return Some(News {
-                        slot,
-                        network,
-                        silent: true,
-                    });
-                }
-                self.due = self.due.min(end);
-            }
-        }
-        None
+    /// The other network has a frame that this one has not had. Answers whether this shows a silence.
+    fn missed(&mut self, time: Time, limit: Time) -> bool {
+        let since = *self.since.get_or_insert(time);
+        let found = !self.silent && time - since >= limit;
+        self.silent |= found;
+        self.silences += u64::from(found);
+        found
     }
 }
 
@@ -108,6 +91,10 @@ mod tests {
     use super::*;
 
     const LIMIT: Time = 1000;
+
+    fn watching() -> Silences {
+        Silences::new(2, Some(LIMIT))
+    }
 
     fn news(slot: usize, network: usize, silent: bool) -> Option<News> {
         Some(News {
@@ -119,57 +106,50 @@ mod tests {
 
     #[test]
     fn a_network_falls_silent_and_comes_back() {
-        let mut s = Silences::new(2, Some(LIMIT));
-        for time in [0, 400, 900] {
-            assert_eq!(s.said_by(time), None);
-            assert_eq!(s.arrival(1, 0, true, time), None);
+        let mut s = watching();
+        for time in [0, 400, 999] {
+            assert_eq!(s.arrival(1, 0, true, time), [None, None]);
         }
-        assert_eq!(s.said_by(999), None);
-        assert_eq!(s.said_by(1000), news(1, 1, true));
-        assert_eq!(s.said_by(5000), None);
-        assert_eq!(s.arrival(1, 0, true, 5000), None);
-        assert!(s.of(1)[1].silent && !s.of(1)[0].silent);
+        assert_eq!(s.arrival(1, 0, true, 1000), [None, news(1, 1, true)]);
+        assert_eq!(s.arrival(1, 0, true, 5000), [None, None]);
+        assert!(s.of(1)[1].silent && !s.of(1)[0].silent && !s.of(0)[1].silent);
         // A copy is enough to come back.
-        assert_eq!(s.arrival(1, 1, false, 5001), news(1, 1, false));
-        assert_eq!(s.arrival(1, 1, true, 6000), None);
-        // Network 0 has been silent since then.
-        assert_eq!(s.said_by(6999), None);
-        assert_eq!(s.said_by(7000), news(1, 0, true));
-        assert_eq!((s.of(1)[1].silences, s.of(1)[1].returns), (1, 1));
-        assert_eq!((s.of(1)[0].silences, s.of(1)[0].returns), (1, 0));
+        assert_eq!(s.arrival(1, 1, false, 5001), [news(1, 1, false), None]);
+        // Now the other one.
+        assert_eq!(s.arrival(1, 1, true, 6000), [None, None]);
+        assert_eq!(s.arrival(1, 1, true, 6999), [None, None]);
+        assert_eq!(s.arrival(1, 1, true, 7000), [None, news(1, 0, true)]);
+        // Both at once: network 0 is back, and network 1 is found to be silent later.
+        assert_eq!(s.arrival(1, 0, true, 8000), [news(1, 0, false), None]);
+        assert_eq!(s.arrival(1, 0, true, 9000), [None, news(1, 1, true)]);
+        let counts = |s: &Silences| s.of(1).map(|w| (w.silences, w.returns));
+        assert_eq!(counts(&s), [(1, 1), (2, 1)]);
     }
 
     #[test]
     fn a_slow_sender_is_no_silence() {
-        let mut s = Silences::new(1, Some(LIMIT));
+        let mut s = watching();
         for command in 0..100 {
             let time = command * 50 * LIMIT;
             let first = usize::from(command % 3 == 0);
-            assert_eq!(s.said_by(time), None);
-            assert_eq!(s.arrival(0, first, true, time), None);
-            assert_eq!(s.said_by(time + 3), None);
-            assert_eq!(s.arrival(0, 1 - first, false, time + 3), None);
+            assert_eq!(s.arrival(0, first, true, time), [None, None]);
+            assert_eq!(s.arrival(0, 1 - first, false, time + 3), [None, None]);
         }
     }
 
     #[test]
-    fn streams_are_apart_and_several_are_said() {
-        let mut s = Silences::new(3, Some(LIMIT));
-        s.arrival(0, 0, true, 10);
-        s.arrival(1, 1, true, 20);
-        s.arrival(2, 1, true, 500);
-        assert_eq!(s.due(), 1010);
-        assert_eq!(s.said_by(1200), news(0, 1, true));
-        assert_eq!(s.said_by(1200), news(1, 0, true));
-        assert_eq!(s.said_by(1200), None);
-        assert_eq!(s.due(), 1500);
+    fn a_lost_copy_before_a_pause_is_no_silence() {
+        let mut s = watching();
+        s.arrival(0, 0, true, 0);
+        assert_eq!(s.arrival(0, 1, true, 50 * LIMIT), [None, None]);
+        assert_eq!(s.arrival(0, 0, false, 50 * LIMIT + 3), [None, None]);
     }
 
     #[test]
     fn never_if_so_asked() {
         let mut s = Silences::new(1, None);
-        s.arrival(0, 0, true, 0);
-        assert_eq!(s.said_by(Time::MAX), None);
-        assert_eq!(s.arrival(0, 1, true, 10), None);
+        for time in [0, LIMIT, 1000 * LIMIT] {
+            assert_eq!(s.arrival(0, 0, true, time), [None, None]);
+        }
     }
 }

@@ -6,8 +6,16 @@ use std::io;
 pub enum Trouble {
     /// What was asked for can't be done.
     Refused(String),
+    /// The words are none that the program knows: this line, if it is one, and the usage.
+    Misused(String),
     /// The machine did not do what it was asked to.
     Failed(String),
+}
+
+impl From<String> for Trouble {
+    fn from(what: String) -> Trouble {
+        Trouble::Refused(what)
+    }
 }
 
 /// Puts before an error of the machine what failed.
