@@ -19,7 +19,7 @@ use nippitsun::{Receiver, Refusal, Stream, Verdict};
 use options::{Asked, Give, Options};
 use order::{Call, Order, Time};
 use port::{Port, Setup};
-use report::{Network, Report};
+use report::{say, Network, Report};
 use silence::{News, Silences};
 use socket::{Signal, Signals};
 use std::io::{self, BufWriter, Stdout, Write};
@@ -99,7 +99,7 @@ impl Host {
                         .map_err(failed("standard output"))?;
                 }
                 let news = self.silences.arrival(a.slot, network, up, time);
-                news.into_iter().flatten().for_each(|one| self.say(one));
+                news.into_iter().flatten().for_each(|one| self.tell(one));
             }
             Err(refusal) => self.refused[usize::from(refusal.number())] += 1,
         }
@@ -126,9 +126,9 @@ impl Host {
         }
     }
 
-    fn say(&self, news: News) {
+    fn tell(&self, news: News) {
         let stream = &self.options.receiver.records()[news.slot];
-        eprintln!("{}", report::news_line(news, stream, self.options.alarm_ms));
+        say(&report::news_line(news, stream, self.options.alarm_ms));
     }
 
     fn report(&mut self) -> Result<Report<'_>, Trouble> {
@@ -151,7 +151,7 @@ impl Host {
     }
 
     fn say_counters(&mut self) -> Result<(), Trouble> {
-        eprint!("{}", self.report()?.lines());
+        say(&self.report()?.lines());
         Ok(())
     }
 
@@ -163,7 +163,7 @@ impl Host {
         let written = report::write_over(&file, &self.report()?.prometheus());
         if let Err(e) = written {
             if !self.stats_failed {
-                eprintln!("warning: {}: {}", file.display(), words(&e));
+                say(&format!("warning: {}: {}", file.display(), words(&e)));
             }
             self.stats_failed = true;
         }
@@ -227,7 +227,7 @@ fn keys(receiver: &Receiver) -> Vec<Key> {
 
 fn receive(options: Options) -> Result<(), Trouble> {
     for warning in &options.warnings {
-        eprintln!("warning: {warning}");
+        say(&format!("warning: {warning}"));
     }
     let setup = Setup {
         filter: (!options.all).then(|| filter::program(&keys(&options.receiver))),
@@ -238,7 +238,7 @@ fn receive(options: Options) -> Result<(), Trouble> {
     let opened = clock.now();
     let ports = port::open_all(&options.interfaces, &setup)?;
     let [first, second] = &options.interfaces;
-    eprintln!("listening on {first} and {second}");
+    say(&format!("listening on {first} and {second}"));
     let alarm = (options.alarm_ms != 0).then(|| options.alarm_ms * 1_000_000);
     let mut host = Host {
         order: Order::new(options.period, opened, clock.now(), clock.measure_ahead()),
@@ -258,33 +258,22 @@ fn receive(options: Options) -> Result<(), Trouble> {
 }
 
 fn run() -> Result<(), Trouble> {
-    match options::read(std::env::args().skip(1))? {
-        Asked::Run(options) => receive(*options),
-        Asked::Version => {
-            println!("nippitsun {}", nippitsun::VERSION);
-            Ok(())
-        }
-        Asked::Help => {
-            print!("{}", options::USAGE);
-            Ok(())
-        }
-    }
+    let text = match options::read(std::env::args().skip(1))? {
+        Asked::Run(options) => return receive(*options),
+        Asked::Version => format!("nippitsun {}\n", nippitsun::VERSION),
+        Asked::Help => options::USAGE.to_string(),
+    };
+    let written = io::stdout().write_all(text.as_bytes());
+    written.map_err(failed("standard output"))
 }
 
 fn main() -> ExitCode {
-    match run() {
-        Ok(()) => ExitCode::SUCCESS,
-        Err(Trouble::Failed(what)) => {
-            eprintln!("failed: {what}");
-            ExitCode::from(1)
-        }
-        Err(Trouble::Refused(what)) => {
-            eprintln!("refused: {what}");
-            ExitCode::from(2)
-        }
-        Err(Trouble::Misused(what)) => {
-            eprint!("{what}{}", options::USAGE);
-            ExitCode::from(2)
-        }
-    }
+    let (said, status) = match run() {
+        Ok(()) => return ExitCode::SUCCESS,
+        Err(Trouble::Failed(what)) => (format!("failed: {what}"), 1),
+        Err(Trouble::Refused(what)) => (format!("refused: {what}"), 2),
+        Err(Trouble::Misused(what)) => (what + options::USAGE.trim_end(), 2),
+    };
+    say(&said);
+    ExitCode::from(status)
 }

@@ -3,6 +3,7 @@
 use crate::filter::Instruction;
 use crate::frame;
 use crate::order::{Order, BATCH, NETWORKS};
+use crate::report::say;
 use crate::socket::{self, Room, Seen, Socket};
 use crate::trouble::{failed, Trouble};
 use std::io;
@@ -67,7 +68,7 @@ pub fn open_all(interfaces: &[String; NETWORKS], setup: &Setup) -> Result<Vec<Po
     for (network, interface) in interfaces.iter().enumerate() {
         let (socket, room) = setup.socket().map_err(|(what, e)| failed(what)(e))?;
         if room.is_err() {
-            eprintln!("warning: {interface} has no more room for waiting frames than net.core.rmem_max allows");
+            say(&format!("warning: {interface} has no more room for waiting frames than net.core.rmem_max allows"));
         }
         ports.push(Port {
             network,
@@ -143,9 +144,9 @@ impl Port {
             self.gone = true;
             self.drained = false;
             let (network, interface) = (self.network, &self.interface);
-            eprintln!(
+            say(&format!(
                 "gone: network {network}, {interface}: the interface is not there; trying each second"
-            );
+            ));
         }
         Ok(())
     }
@@ -157,16 +158,22 @@ impl Port {
             return Ok(());
         }
         // Whatever is missing now, it is tried again.
-        let socket = match socket::interface_number(&self.interface).zip(setup.socket().ok()) {
-            Some((number, (socket, _))) if socket.bind(number).is_ok() => socket,
-            _ => return Ok(()),
+        let opened = socket::interface_number(&self.interface).and_then(|number| {
+            let (socket, _) = setup.socket().ok()?;
+            socket.bind(number).ok().map(|()| socket)
+        });
+        let socket = match opened {
+            Some(socket) => socket,
+            None => return Ok(()),
         };
         self.count_dropped()?;
         self.socket = socket;
         self.gone = false;
         self.counts.reopened += 1;
         let (network, interface) = (self.network, &self.interface);
-        eprintln!("again: network {network}, {interface}: the interface is there and open");
+        say(&format!(
+            "again: network {network}, {interface}: the interface is there and open"
+        ));
         Ok(())
     }
 

@@ -4,10 +4,15 @@ use crate::order::NETWORKS;
 use crate::port;
 use crate::silence::{News, Silences, Watch};
 use nippitsun::{Counts, Refusal, Stream};
-use std::fmt::{Display, Write};
+use std::fmt::{Display, Write as _};
 use std::fs;
-use std::io;
+use std::io::{self, Write as _};
 use std::path::Path;
+
+/// A line on standard error, in one piece. That nobody reads it is no reason to end: commands matter more.
+pub fn say(line: &str) {
+    let _ = io::stderr().write_all(format!("{line}\n").as_bytes());
+}
 
 /// One of the counters of each stream: name, words, which field.
 type OfStream = (&'static str, &'static str, fn(&Counts) -> u64);
@@ -135,9 +140,9 @@ impl Text {
 }
 
 impl Report<'_> {
-    fn streams(&self) -> impl Iterator<Item = (usize, &Stream)> {
+    fn streams(&self) -> Vec<(usize, &Stream)> {
         let records = self.records.iter().enumerate();
-        records.filter(|(_, stream)| stream.is_used())
+        records.filter(|(_, stream)| stream.is_used()).collect()
     }
 
     /// A line a stream, a line a refusal that was given, a line a network, and one of the turns.
@@ -188,7 +193,7 @@ impl Report<'_> {
             );
         }
         let (ticks, late, steps) = (self.ticks, self.late, self.steps);
-        let _ = writeln!(text, "ticks {ticks} late {late} steps {steps}");
+        let _ = write!(text, "ticks {ticks} late {late} steps {steps}");
         text
     }
 
@@ -290,4 +295,146 @@ pub fn write_over(file: &Path, text: &str) -> io::Result<()> {
     beside.push(".new");
     fs::write(&beside, text)?;
     fs::rename(&beside, file)
+}
+
+#[cfg(test)]
+mod tests {
+    use super::*;
+    use std::collections::BTreeSet;
+
+    /// Streams in slots 0 and 2, network 1 silent for the second.
+    fn with_report(look: impl Fn(&Report)) {
+        let stream = |dest, vlan, passed| Stream {
+            dest,
+            vlan,
+            window: 5,
+            time: 3,
+            rule: Stream::VECTOR_RULE,
+            used: 1,
+            counts: Counts {
+                arrivals0: passed,
+                passed,
+                ..Counts::default()
+            },
+            ..Stream::default()
+        };
+        let records = [
+            stream(0x0100_5E00_0007, 100, 7),
+            Stream::default(),
+            stream(0x0200_0000_0001, 0, 9),
+        ];
+        let mut silences = Silences::new(3, Some(10));
+        silences.arrival(2, 0, true, 0);
+        silences.arrival(2, 0, true, 10);
+        let mut refused = [0; Refusal::ALL.len() + 1];
+        refused[3] = 4;
+        let network = |frames, open| Network {
+            counts: port::Counts {
+                frames,
+                outgoing: 1,
+                dropped: 2,
+                unstamped: 3,
+                reopened: 4,
+            },
+            open,
+        };
+        look(&Report {
+            records: &records,
+            silences: &silences,
+            refused: &refused,
+            damaged: 1,
+            networks: [network(20, true), network(30, false)],
+            ticks: 50,
+            late: 6,
+            steps: 1,
+        });
+    }
+
+    #[test]
+    fn lines() {
+        let expected = "\
+slot 0 dest 01005e000007 vlan 100 rule 1 L 5 R 3 arrivals0 7 arrivals1 0 passed 7 discarded 0 rogue 0 disorder 0 lost 0 resets 0 silent0 0 back0 0 silent1 0 back1 0
+slot 2 dest 020000000001 vlan 0 rule 1 L 5 R 3 arrivals0 9 arrivals1 0 passed 9 discarded 0 rogue 0 disorder 0 lost 0 resets 0 silent0 0 back0 0 silent1 1 back1 0
+refused 3 (frame too long) 4
+damaged 1
+network 0 frames 20 outgoing 1 dropped 2 unstamped 3 reopened 4
+network 1 frames 30 outgoing 1 dropped 2 unstamped 3 reopened 4
+ticks 50 late 6 steps 1";
+        with_report(|report| assert_eq!(report.lines(), expected));
+    }
+
+    /// The text form: for each family what it is and its type, once, then its values, each once.
+    #[test]
+    fn prometheus() {
+        with_report(|report| {
+            let text = report.prometheus();
+            let (mut families, mut values) = (BTreeSet::new(), BTreeSet::new());
+            let mut family = String::new();
+            let mut lines = text.lines();
+            while let Some(line) = lines.next() {
+                if let Some(rest) = line.strip_prefix("# HELP ") {
+                    family = rest.split(' ').next().unwrap().to_string();
+                    assert!(family.starts_with("nippitsun_") && families.insert(family.clone()));
+                    let counter = family.ends_with("_total");
+                    let kind = if counter { "counter" } else { "gauge" };
+                    assert_eq!(lines.next(), Some(&*format!("# TYPE {family} {kind}")));
+                    continue;
+                }
+                let (name, value) = line.rsplit_once(' ').unwrap();
+                assert_eq!(name.split('{').next(), Some(&*family));
+                assert!(value.parse::<u64>().is_ok() && values.insert(name.to_string()));
+            }
+            assert_eq!(families.len(), 21);
+            // Four families by stream and network, six by stream, one by refusal, six by network, four alone.
+            assert_eq!(values.len(), 4 * 4 + 6 * 2 + 13 + 6 * 2 + 4);
+            for line in [
+                "nippitsun_arrivals_total{slot=\"0\",dest=\"01:00:5e:00:00:07\",vlan=\"100\",network=\"0\"} 7",
+                "nippitsun_passed_total{slot=\"2\",dest=\"02:00:00:00:00:01\",vlan=\"0\"} 9",
+                "nippitsun_silent{slot=\"2\",dest=\"02:00:00:00:00:01\",vlan=\"0\",network=\"1\"} 1",
+                "nippitsun_refused_total{number=\"3\"} 4",
+                "nippitsun_open{network=\"1\"} 0",
+                "nippitsun_clock_steps_total 1",
+            ] {
+                assert!(text.lines().any(|one| one == line), "{line}");
+            }
+        });
+    }
+
+    #[test]
+    fn news() {
+        let stream = Stream {
+            dest: 0x0100_5E00_0007,
+            vlan: 100,
+            ..Stream::default()
+        };
+        let line = |silent| {
+            let news = News {
+                slot: 0,
+                network: 1,
+                silent,
+            };
+            news_line(news, &stream, 1000)
+        };
+        let name = "slot 0 dest 01005e000007 vlan 100";
+        let alarm = "no arrival on network 1 for 1000 ms, while network 0 has arrivals";
+        assert_eq!(line(true), format!("alarm: {name}: {alarm}"));
+        assert_eq!(
+            line(false),
+            format!("back: {name}: arrivals on network 1 again")
+        );
+    }
+
+    #[test]
+    fn a_file_is_written_over_whole() {
+        let folder = std::env::temp_dir().join(format!("receive-rust-{}", std::process::id()));
+        fs::create_dir(&folder).unwrap();
+        let file = folder.join("stats");
+        for text in ["one\n", "two\n"] {
+            write_over(&file, text).unwrap();
+            assert_eq!(fs::read_to_string(&file).unwrap(), text);
+        }
+        assert_eq!(fs::read_dir(&folder).unwrap().count(), 1);
+        assert!(write_over(&folder.join("no/stats"), "").is_err());
+        fs::remove_dir_all(&folder).unwrap();
+    }
 }
