@@ -15,18 +15,22 @@ mod trouble;
 
 use clock::Clock;
 use filter::Key;
-use nippitsun::{Receiver, Refusal, Stream, Verdict};
+use nippitsun::{Arrival, Receiver, Refusal, Stream, Verdict};
 use options::{Asked, Give, Options};
 use order::{Call, Order, Time};
 use port::{Port, Setup};
 use report::{say, Network, Report};
 use silence::{News, Silences};
 use socket::{Signal, Signals};
+use std::ffi::OsString;
 use std::io::{self, BufWriter, Stdout, Write};
 use std::process::ExitCode;
 use trouble::{failed, words, Trouble};
 
 const SECOND: Time = 1_000_000_000;
+
+/// Longer than any program runs, and times can still be added to it.
+const NEVER: Time = Time::MAX / 2;
 
 /// How long frames are still taken after a signal, if they do not stop.
 const LAST_TURNS: Time = 5 * SECOND;
@@ -43,6 +47,8 @@ struct Host {
     silences: Silences,
     refused: [u64; Refusal::ALL.len() + 1],
     damaged: u64,
+    /// Where the library writes a frame that it hands up.
+    out: Box<[u8; Stream::FRAME_MOST]>,
     up: BufWriter<Stdout>,
     stats_failed: bool,
 }
@@ -85,45 +91,26 @@ impl Host {
             Some(frame) => frame,
             None => return Ok(()),
         };
-        let mut out = [0; Stream::FRAME_MOST];
-        match self
-            .options
-            .receiver
-            .arrival(network as u8, frame, &mut out)
-        {
-            Ok(a) => {
+        let receiver = &mut self.options.receiver;
+        match receiver.arrival(network as u8, frame, &mut self.out[..]) {
+            Ok(Arrival {
+                slot,
+                number,
+                verdict,
+            }) => {
                 let mut up = false;
-                if let Verdict::HandedUp { length } = a.verdict {
+                if let Verdict::HandedUp { length } = verdict {
                     up = true;
-                    self.hand_up(a.slot, a.number, &out[..length])
+                    let frame = &self.out[..length];
+                    hand_up(&mut self.up, self.options.give, slot, number, frame)
                         .map_err(failed("standard output"))?;
                 }
-                let news = self.silences.arrival(a.slot, network, up, time);
+                let news = self.silences.arrival(slot, network, up, time);
                 news.into_iter().flatten().for_each(|one| self.tell(one));
             }
             Err(refusal) => self.refused[usize::from(refusal.number())] += 1,
         }
         Ok(())
-    }
-
-    fn hand_up(&mut self, slot: usize, number: u16, frame: &[u8]) -> io::Result<()> {
-        match self.options.give {
-            Give::Lines => {
-                write!(self.up, "{slot} {number} {} ", frame.len())?;
-                let mut line = [0; 2 * Stream::FRAME_MOST];
-                for (two, byte) in line.chunks_exact_mut(2).zip(frame) {
-                    two[0] = DIGITS[usize::from(byte >> 4)];
-                    two[1] = DIGITS[usize::from(byte & 15)];
-                }
-                self.up.write_all(&line[..2 * frame.len()])?;
-                writeln!(self.up)
-            }
-            Give::Raw => {
-                self.up.write_all(&(frame.len() as u16).to_be_bytes())?;
-                self.up.write_all(frame)
-            }
-            Give::Nothing => Ok(()),
-        }
     }
 
     fn tell(&self, news: News) {
@@ -172,19 +159,16 @@ impl Host {
 
     /// Turns, until a signal or a long quiet ends them.
     fn run(&mut self, signals: &mut Signals) -> Result<(), Trouble> {
+        let quiet = self.options.quiet.unwrap_or(NEVER);
         let mut last = self.clock.now();
         let mut second = last + SECOND;
         let mut end = None;
         loop {
             let now = self.clock.now();
-            let quiet_ends = self.options.quiet.map_or(Time::MAX, |quiet| last + quiet);
-            let until = match end {
-                Some(_) => now,
-                None => second.min(quiet_ends),
-            };
+            let until = end.map_or(second.min(last + quiet), |_| now);
             let pause = self.order.pause(now, until);
             let sockets = [self.ports[0].socket(), self.ports[1].socket()];
-            socket::wait(sockets, signals, pause).map_err(failed("ppoll"))?;
+            let signalled = socket::wait(sockets, signals, pause).map_err(failed("ppoll"))?;
 
             let taken = self.turn()?;
 
@@ -199,24 +183,42 @@ impl Host {
                 }
                 self.write_stats()?;
             }
-            while let Some(signal) = signals.next().map_err(failed("signals"))? {
-                match signal {
+            if signalled {
+                match signals.next().map_err(failed("signals"))? {
                     Signal::Say => self.say_counters()?,
                     Signal::End => end = end.or(Some(now + LAST_TURNS)),
                 }
             }
             let all_taken = taken == 0 && !self.order.has_frames();
-            if end.map_or(false, |end| all_taken || now >= end) {
-                return Ok(());
-            }
-            if self
-                .options
-                .quiet
-                .map_or(false, |quiet| now - last >= quiet)
-            {
+            if end.map_or(false, |end| all_taken || now >= end) || now - last >= quiet {
                 return Ok(());
             }
         }
+    }
+}
+
+/// A frame that was handed up, in the form that was asked for.
+fn hand_up(
+    up: &mut impl Write,
+    give: Give,
+    slot: usize,
+    number: u16,
+    frame: &[u8],
+) -> io::Result<()> {
+    match give {
+        Give::Lines => {
+            write!(up, "{slot} {number} {} ", frame.len())?;
+            for byte in frame {
+                let (high, low) = (usize::from(byte >> 4), usize::from(byte & 15));
+                up.write_all(&[DIGITS[high], DIGITS[low]])?;
+            }
+            writeln!(up)
+        }
+        Give::Raw => {
+            up.write_all(&(frame.len() as u16).to_be_bytes())?;
+            up.write_all(frame)
+        }
+        Give::Nothing => Ok(()),
     }
 }
 
@@ -249,6 +251,7 @@ fn receive(options: Options) -> Result<(), Trouble> {
         ports,
         refused: [0; Refusal::ALL.len() + 1],
         damaged: 0,
+        out: Box::new([0; Stream::FRAME_MOST]),
         up: BufWriter::with_capacity(1 << 16, io::stdout()),
         stats_failed: false,
     };
@@ -258,7 +261,11 @@ fn receive(options: Options) -> Result<(), Trouble> {
 }
 
 fn run() -> Result<(), Trouble> {
-    let text = match options::read(std::env::args().skip(1))? {
+    let words = std::env::args_os().skip(1).map(|word| {
+        let no_text = |word: OsString| format!("'{}' is no text", word.to_string_lossy());
+        word.into_string().map_err(no_text)
+    });
+    let text = match options::read(words.collect::<Result<Vec<String>, String>>()?)? {
         Asked::Run(options) => return receive(*options),
         Asked::Version => format!("nippitsun {}\n", nippitsun::VERSION),
         Asked::Help => options::USAGE.to_string(),

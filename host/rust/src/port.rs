@@ -21,10 +21,11 @@ pub struct Setup {
 }
 
 impl Setup {
-    fn socket(&self) -> Result<(Socket, io::Result<()>), socket::Failure> {
+    /// A socket that is not bound yet, and whether it has all the room.
+    fn socket(&self) -> Result<(Socket, bool), socket::Failure> {
         let socket = Socket::new(self.filter.as_deref())?;
-        let room = socket.make_room(self.room);
-        Ok((socket, room))
+        let has_room = socket.make_room(self.room).is_ok();
+        Ok((socket, has_room))
     }
 }
 
@@ -43,7 +44,7 @@ pub struct Port {
     /// Where the interface is gone, the dead one: while it is open, the kernel goes on stamping.
     socket: Socket,
     gone: bool,
-    /// Nothing is left in a dead socket.
+    /// It is gone, and nothing is left in its socket.
     drained: bool,
     rooms: Vec<Room>,
     seen: Vec<Seen>,
@@ -66,8 +67,8 @@ pub fn open_all(interfaces: &[String; NETWORKS], setup: &Setup) -> Result<Vec<Po
     }
     let mut ports = Vec::new();
     for (network, interface) in interfaces.iter().enumerate() {
-        let (socket, room) = setup.socket().map_err(|(what, e)| failed(what)(e))?;
-        if room.is_err() {
+        let (socket, has_room) = setup.socket().map_err(|(what, e)| failed(what)(e))?;
+        if !has_room {
             say(&format!("warning: {interface} has no more room for waiting frames than net.core.rmem_max allows"));
         }
         ports.push(Port {
@@ -89,9 +90,9 @@ pub fn open_all(interfaces: &[String; NETWORKS], setup: &Setup) -> Result<Vec<Po
 }
 
 impl Port {
-    /// The socket to wait for. A dead one has no more frames.
+    /// The socket to wait for. A dead one that was emptied has no more frames.
     pub fn socket(&self) -> Option<&Socket> {
-        (!self.gone).then_some(&self.socket)
+        (!self.drained).then_some(&self.socket)
     }
 
     pub fn is_open(&self) -> bool {
@@ -104,6 +105,10 @@ impl Port {
             return Ok(());
         }
         self.seen.clear();
+        if self.drained {
+            order.empty(self.network);
+            return Ok(());
+        }
         while self.seen.len() < BATCH {
             let before = self.seen.len();
             match self
@@ -142,7 +147,6 @@ impl Port {
     fn look_if_gone(&mut self) -> Result<(), Trouble> {
         if !self.gone && self.socket.is_dead().map_err(failed("getsockname"))? {
             self.gone = true;
-            self.drained = false;
             let (network, interface) = (self.network, &self.interface);
             say(&format!(
                 "gone: network {network}, {interface}: the interface is not there; trying each second"
@@ -154,7 +158,7 @@ impl Port {
     /// Once a second: has the interface gone, or is it there again? What its dead socket holds is read first.
     pub fn look(&mut self, setup: &Setup) -> Result<(), Trouble> {
         self.look_if_gone()?;
-        if !self.gone || !self.drained {
+        if !self.drained {
             return Ok(());
         }
         // Whatever is missing now, it is tried again.
@@ -169,6 +173,7 @@ impl Port {
         self.count_dropped()?;
         self.socket = socket;
         self.gone = false;
+        self.drained = false;
         self.counts.reopened += 1;
         let (network, interface) = (self.network, &self.interface);
         say(&format!(

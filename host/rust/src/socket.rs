@@ -48,7 +48,6 @@ const SIG_BLOCK: c_int = 0;
 const SIGINT: u32 = 2;
 const SIGUSR1: u32 = 10;
 const SIGTERM: u32 = 15;
-const SFD_NONBLOCK: c_int = 0o4000;
 const SFD_CLOEXEC: c_int = 0o2000000;
 
 /// `struct sockaddr_ll`: an interface, or where a frame came from.
@@ -444,31 +443,31 @@ impl Signals {
         // SAFETY: the set is there until the call ends; the former one is not asked for.
         checked(unsafe { sigprocmask(SIG_BLOCK, &set, ptr::null_mut()) })?;
         // SAFETY: the set is there until the call ends, and -1 asks for a new file.
-        let number = checked(unsafe { signalfd(-1, &set, SFD_NONBLOCK | SFD_CLOEXEC) })?;
+        let number = checked(unsafe { signalfd(-1, &set, SFD_CLOEXEC) })?;
         // SAFETY: the number is a file that was opened just now, and nothing else has it.
         let file = unsafe { OwnedFd::from_raw_fd(number) };
         Ok(Signals { file: file.into() })
     }
 
-    /// A signal that came, if there is one.
-    pub fn next(&mut self) -> io::Result<Option<Signal>> {
+    /// The first of the signals that came. There is one.
+    pub fn next(&mut self) -> io::Result<Signal> {
         // `struct signalfd_siginfo`, with the signal's number first.
         let mut about = [0; 128];
-        match self.file.read(&mut about) {
-            Err(e) if e.kind() == io::ErrorKind::WouldBlock => Ok(None),
-            Err(e) => Err(e),
-            Ok(_) if number(&about, 0, 4) as u32 == SIGUSR1 => Ok(Some(Signal::Say)),
-            Ok(_) => Ok(Some(Signal::End)),
-        }
+        self.file.read_exact(&mut about)?;
+        Ok(match number(&about, 0, 4) as u32 {
+            SIGUSR1 => Signal::Say,
+            _ => Signal::End,
+        })
     }
 }
 
-/// Waits until a frame is there, or a signal, or for so long. A network without a socket has no frame.
+/// Waits until a frame is there, or a signal, or for so long. Answers whether a signal came. A network without a socket has
+/// no frame.
 pub fn wait(
     sockets: [Option<&Socket>; NETWORKS],
     signals: &Signals,
     limit: Time,
-) -> io::Result<()> {
+) -> io::Result<bool> {
     let socket = |network: usize| sockets[network].map_or(-1, |socket| socket.file.as_raw_fd());
     let mut files = [socket(0), socket(1), signals.file.as_raw_fd()].map(|file| Poll {
         file,
@@ -490,8 +489,9 @@ pub fn wait(
         )
     };
     match checked(came) {
-        Err(e) if e.kind() != io::ErrorKind::Interrupted => Err(e),
-        _ => Ok(()),
+        Err(e) if e.kind() == io::ErrorKind::Interrupted => Ok(false),
+        Err(e) => Err(e),
+        Ok(_) => Ok(files[NETWORKS].came != 0),
     }
 }
 
