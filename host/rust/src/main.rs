@@ -61,7 +61,9 @@ impl Host {
             port.fill(&mut self.order)?;
         }
         let ahead = self.clock.ahead(self.order.ahead());
-        self.order.known(self.clock.now(), ahead);
+        if self.order.known(self.clock.now(), ahead) {
+            self.silences.begin_anew(self.order.horizon());
+        }
         let mut taken = 0;
         while let Some(call) = self.order.next() {
             match call {
@@ -81,6 +83,9 @@ impl Host {
                 }
             }
         }
+        for news in self.silences.found_by(self.order.horizon()) {
+            self.tell(news);
+        }
         // Whoever reads standard output has each frame before the next wait.
         self.up.flush().map_err(failed("standard output"))?;
         Ok(taken)
@@ -98,15 +103,14 @@ impl Host {
                 number,
                 verdict,
             }) => {
-                let mut up = false;
                 if let Verdict::HandedUp { length } = verdict {
-                    up = true;
                     let frame = &self.out[..length];
                     hand_up(&mut self.up, self.options.give, slot, number, frame)
                         .map_err(failed("standard output"))?;
                 }
-                let news = self.silences.arrival(slot, network, up, time);
-                news.into_iter().flatten().for_each(|one| self.tell(one));
+                if let Some(news) = self.silences.arrival(slot, network, time) {
+                    self.tell(news);
+                }
             }
             Err(refusal) => self.refused[usize::from(refusal.number())] += 1,
         }
@@ -242,9 +246,10 @@ fn receive(options: Options) -> Result<(), Trouble> {
     let [first, second] = &options.interfaces;
     say(&format!("listening on {first} and {second}"));
     let alarm = (options.alarm_ms != 0).then(|| options.alarm_ms * 1_000_000);
+    let now = clock.now();
     let mut host = Host {
-        order: Order::new(options.period, opened, clock.now(), clock.measure_ahead()),
-        silences: Silences::new(Stream::SLOTS_MOST, alarm),
+        order: Order::new(options.period, opened, now, clock.measure_ahead()),
+        silences: Silences::new(Stream::SLOTS_MOST, alarm, now),
         options,
         setup,
         clock,

@@ -154,8 +154,9 @@ impl Order {
 
     /// The clock, and real time less monotonic time, both behind the ports' reading: so no frame of this turn was stamped by
     /// a step that is not known. Both clocks are slewed alike, so they move apart by a step alone. Stamps from before and
-    /// behind it can't be compared: until each port has said that it is empty they take turns, and there is no tick.
-    pub fn known(&mut self, now: Time, ahead: i64) {
+    /// behind it can't be compared: until each port has said that it is empty they take turns, and there is no tick. Answers
+    /// whether it is a step.
+    pub fn known(&mut self, now: Time, ahead: i64) -> bool {
         let stepped = ahead != self.ahead;
         self.ahead = ahead;
         self.steps += u64::from(stepped);
@@ -178,6 +179,7 @@ impl Order {
                 lane.horizon = self.clock;
             }
         }
+        stepped
     }
 
     /// Up to here every frame is known, and called once `next` answers none.

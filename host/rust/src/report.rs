@@ -323,9 +323,9 @@ mod tests {
             Stream::default(),
             stream(0x0200_0000_0001, 0, 9),
         ];
-        let mut silences = Silences::new(3, Some(10));
-        silences.arrival(2, 0, true, 0);
-        silences.arrival(2, 0, true, 10);
+        let mut silences = Silences::new(3, Some(10), 0);
+        silences.arrival(2, 0, 6);
+        silences.found_by(11);
         let mut refused = [0; Refusal::ALL.len() + 1];
         refused[3] = 4;
         let network = |frames, open| Network {

@@ -1,15 +1,17 @@
 //! Which network has no arrival of a stream while the other has: lost redundancy, which nobody notices otherwise.
 //!
-//! A network's silence counts from the first frame of the other one that was handed up since its own last arrival, and is
-//! found at another such frame. A duplicate is the copy of an arrival and says nothing of the network that had it first. So
-//! neither a sender that is slow nor one that stops is a silence. Times are those of the calls.
+//! A copy comes behind its twin, so an arrival on one network alone says nothing of the other. Where the other has had none
+//! for half the limit by then, its silence begins, and after as long again it is said. So neither a sender that is slow nor
+//! one that stops is a silence. Times are those of the calls.
 
 use crate::order::{Time, NETWORKS};
 
 /// What is known of one stream on one network.
-#[derive(Clone, Copy, Default)]
+#[derive(Clone, Copy)]
 pub struct Watch {
-    /// The first frame of the other network that was handed up since the last arrival on this one.
+    /// The last arrival, or when watching began.
+    last: Time,
+    /// An arrival on the other network with which a silence began.
     since: Option<Time>,
     pub silent: bool,
     pub silences: u64,
@@ -25,14 +27,21 @@ pub struct News {
 }
 
 pub struct Silences {
-    /// From here on a silence is said; `None` is never.
+    /// How long a silence is when it is said; `None` is never.
     limit: Option<Time>,
     streams: Vec<[Watch; NETWORKS]>,
 }
 
 impl Silences {
-    pub fn new(slots: usize, limit: Option<Time>) -> Silences {
-        let streams = vec![Default::default(); slots];
+    pub fn new(slots: usize, limit: Option<Time>, now: Time) -> Silences {
+        let fresh = Watch {
+            last: now,
+            since: None,
+            silent: false,
+            silences: 0,
+            returns: 0,
+        };
+        let streams = vec![[fresh; NETWORKS]; slots];
         Silences { limit, streams }
     }
 
@@ -40,48 +49,56 @@ impl Silences {
         &self.streams[slot]
     }
 
-    /// An arrival, and whether it was handed up: first what it says of its own network, then of the other one.
-    pub fn arrival(
-        &mut self,
-        slot: usize,
-        network: usize,
-        up: bool,
-        time: Time,
-    ) -> [Option<News>; 2] {
-        let watches = &mut self.streams[slot];
-        let back = watches[network].arrived();
-        let other = 1 - network;
-        let silent = up
-            && self
-                .limit
-                .map_or(false, |limit| watches[other].missed(time, limit));
-        let news = |happened: bool, network, silent| {
-            happened.then_some(News {
-                slot,
-                network,
-                silent,
-            })
+    /// Times before and behind this can't be compared: what was silent stays so, and the rest is counted anew.
+    pub fn begin_anew(&mut self, now: Time) {
+        for watch in self.streams.iter_mut().flatten() {
+            watch.last = now;
+            watch.since = None;
+        }
+    }
+
+    /// An arrival, whatever the verdict.
+    pub fn arrival(&mut self, slot: usize, network: usize, time: Time) -> Option<News> {
+        let limit = self.limit?;
+        let other = &mut self.streams[slot][1 - network];
+        if other.since.is_none() && time - other.last > limit / 2 {
+            other.since = Some(time);
+        }
+        let own = &mut self.streams[slot][network];
+        own.since = None;
+        own.last = time;
+        let back = own.silent;
+        own.silent = false;
+        own.returns += u64::from(back);
+        back.then_some(News {
+            slot,
+            network,
+            silent: false,
+        })
+    }
+
+    /// All arrivals up to now are known: which networks are found to be silent?
+    pub fn found_by(&mut self, now: Time) -> Vec<News> {
+        let mut found = Vec::new();
+        let limit = match self.limit {
+            Some(limit) => limit,
+            None => return found,
         };
-        [news(back, network, false), news(silent, other, true)]
-    }
-}
-
-impl Watch {
-    /// Answers whether this ends a silence.
-    fn arrived(&mut self) -> bool {
-        self.since = None;
-        let back = self.silent;
-        self.silent = false;
-        self.returns += u64::from(back);
-        back
-    }
-
-    /// The other network has a frame that this one has not had. Answers whether this shows a silence.
-    fn missed(&mut self, time: Time, limit: Time) -> bool {
-        let since = *self.since.get_or_insert(time);
-        let found = !self.silent && time - since >= limit;
-        self.silent |= found;
-        self.silences += u64::from(found);
+        for (slot, watches) in self.streams.iter_mut().enumerate() {
+            for (network, watch) in watches.iter_mut().enumerate() {
+                let over = |since| now - since >= limit / 2;
+                if watch.silent || !watch.since.map_or(false, over) {
+                    continue;
+                }
+                watch.silent = true;
+                watch.silences += 1;
+                found.push(News {
+                    slot,
+                    network,
+                    silent: true,
+                });
+            }
+        }
         found
     }
 }
@@ -93,63 +110,80 @@ mod tests {
     const LIMIT: Time = 1000;
 
     fn watching() -> Silences {
-        Silences::new(2, Some(LIMIT))
+        Silences::new(2, Some(LIMIT), 0)
     }
 
-    fn news(slot: usize, network: usize, silent: bool) -> Option<News> {
-        Some(News {
+    fn news(slot: usize, network: usize, silent: bool) -> News {
+        News {
             slot,
             network,
             silent,
-        })
+        }
     }
 
     #[test]
     fn a_network_falls_silent_and_comes_back() {
         let mut s = watching();
-        for time in [0, 400, 999] {
-            assert_eq!(s.arrival(1, 0, true, time), [None, None]);
+        for time in (0..1000).step_by(10) {
+            assert_eq!(s.arrival(1, 0, time), None);
+            assert_eq!(s.found_by(time), []);
         }
-        assert_eq!(s.arrival(1, 0, true, 1000), [None, news(1, 1, true)]);
-        assert_eq!(s.arrival(1, 0, true, 5000), [None, None]);
+        // Its silence began with the arrival at 510.
+        assert_eq!(s.found_by(1009), []);
+        assert_eq!(s.found_by(1010), [news(1, 1, true)]);
+        assert_eq!(s.found_by(9000), []);
         assert!(s.of(1)[1].silent && !s.of(1)[0].silent && !s.of(0)[1].silent);
-        // A copy is enough to come back.
-        assert_eq!(s.arrival(1, 1, false, 5001), [news(1, 1, false), None]);
-        // Now the other one.
-        assert_eq!(s.arrival(1, 1, true, 6000), [None, None]);
-        assert_eq!(s.arrival(1, 1, true, 6999), [None, None]);
-        assert_eq!(s.arrival(1, 1, true, 7000), [None, news(1, 0, true)]);
-        // Both at once: network 0 is back, and network 1 is found to be silent later.
-        assert_eq!(s.arrival(1, 0, true, 8000), [news(1, 0, false), None]);
-        assert_eq!(s.arrival(1, 0, true, 9000), [None, news(1, 1, true)]);
-        let counts = |s: &Silences| s.of(1).map(|w| (w.silences, w.returns));
-        assert_eq!(counts(&s), [(1, 1), (2, 1)]);
+        assert_eq!(s.arrival(1, 1, 9001), Some(news(1, 1, false)));
+        assert_eq!(s.arrival(1, 1, 9002), None);
+        // Now the other one, which was there last at 990.
+        assert_eq!(s.found_by(9500), []);
+        assert_eq!(s.found_by(9501), [news(1, 0, true)]);
+        let counts = s.of(1).map(|watch| (watch.silences, watch.returns));
+        assert_eq!(counts, [(1, 0), (1, 1)]);
     }
 
     #[test]
-    fn a_slow_sender_is_no_silence() {
+    fn a_slow_sender_and_one_that_stops_are_no_silence() {
         let mut s = watching();
         for command in 0..100 {
             let time = command * 50 * LIMIT;
             let first = usize::from(command % 3 == 0);
-            assert_eq!(s.arrival(0, first, true, time), [None, None]);
-            assert_eq!(s.arrival(0, 1 - first, false, time + 3), [None, None]);
+            assert_eq!(s.arrival(0, first, time), None);
+            assert_eq!(s.found_by(time + 3), []);
+            assert_eq!(s.arrival(0, 1 - first, time + 3), None);
+            assert_eq!(s.found_by(time + 50 * LIMIT - 1), []);
         }
     }
 
     #[test]
-    fn a_lost_copy_before_a_pause_is_no_silence() {
+    fn streams_are_apart() {
         let mut s = watching();
-        s.arrival(0, 0, true, 0);
-        assert_eq!(s.arrival(0, 1, true, 50 * LIMIT), [None, None]);
-        assert_eq!(s.arrival(0, 0, false, 50 * LIMIT + 3), [None, None]);
+        s.arrival(0, 0, 600);
+        s.arrival(1, 1, 600);
+        s.arrival(1, 0, 700);
+        assert_eq!(s.found_by(1100), [news(0, 1, true)]);
+        s.arrival(1, 1, 1300);
+        assert_eq!(s.found_by(5000), [news(1, 0, true)]);
+    }
+
+    #[test]
+    fn a_step_of_the_clock_begins_anew() {
+        let mut s = watching();
+        s.arrival(0, 0, 600);
+        s.begin_anew(700);
+        assert_eq!(s.found_by(9000), []);
+        s.arrival(0, 0, 1200);
+        assert_eq!(s.found_by(9000), []);
+        s.arrival(0, 0, 1201);
+        assert_eq!(s.found_by(1701), [news(0, 1, true)]);
     }
 
     #[test]
     fn never_if_so_asked() {
-        let mut s = Silences::new(1, None);
+        let mut s = Silences::new(1, None, 0);
         for time in [0, LIMIT, 1000 * LIMIT] {
-            assert_eq!(s.arrival(0, 0, true, time), [None, None]);
+            assert_eq!(s.arrival(0, 0, time), None);
+            assert_eq!(s.found_by(time), []);
         }
     }
 }
