@@ -440,6 +440,30 @@ mod tests {
         assert_eq!(calls, [frame(0, 0, 6 * MS + 500)]);
     }
 
+    #[test]
+    fn an_old_stamp_is_no_horizon() {
+        let mut o = order();
+        let step = -3_600_000 * MS;
+        turn(&mut o, MS, [(&[], true), (&[], true)]);
+        o.known(MS, step);
+        // The last frame of the old clock, an hour ahead by the new one, and the thread is held up behind its reading.
+        o.begin(2 * MS);
+        assert!(o.wants(0) && o.wants(1));
+        o.read(0, Some(MS));
+        o.empty(0);
+        o.empty(1);
+        o.known(20 * MS, step);
+        while o.next().is_some() {}
+        // What was queued meanwhile in port 0 has not all been read: port 1 waits for it.
+        let stamps = [5 * MS + step, 10 * MS + step];
+        let calls = turn(
+            &mut o,
+            20 * MS,
+            [(&stamps[..1], false), (&stamps[1..], true)],
+        );
+        assert_eq!(calls, [frame(0, 0, 5 * MS)]);
+    }
+
     /// A network of made-up time: commands, each with a copy on both networks, and a program that is held up.
     struct World {
         state: u64,
