@@ -232,9 +232,6 @@ fn keys(receiver: &Receiver) -> Vec<Key> {
 }
 
 fn receive(options: Options) -> Result<(), Trouble> {
-    for warning in &options.warnings {
-        say(&format!("warning: {warning}"));
-    }
     let setup = Setup {
         filter: (!options.all).then(|| filter::program(&keys(&options.receiver))),
         room: options.room_kb << 10,
@@ -270,7 +267,9 @@ fn run() -> Result<(), Trouble> {
         let no_text = |word: OsString| format!("'{}' is no text", word.to_string_lossy());
         word.into_string().map_err(no_text)
     });
-    let text = match options::read(words.collect::<Result<Vec<String>, String>>()?)? {
+    let words = words.collect::<Result<Vec<String>, String>>()?;
+    let warn = |what| say(&format!("warning: {what}"));
+    let text = match options::read(words, warn)? {
         Asked::Run(options) => return receive(*options),
         Asked::Version => format!("nippitsun {}\n", nippitsun::VERSION),
         Asked::Help => options::USAGE.to_string(),

@@ -33,8 +33,6 @@ pub enum Give {
 pub struct Options {
     /// The streams, opened.
     pub receiver: Receiver,
-    /// What is said of them before the program begins.
-    pub warnings: Vec<String>,
     pub period: Time,
     pub room_kb: i32,
     pub all: bool,
@@ -54,10 +52,14 @@ pub enum Asked {
     Help,
 }
 
-pub fn read(words: impl IntoIterator<Item = String>) -> Result<Asked, Trouble> {
+/// Reads the words in their order. A setting that is taken but is not safe is said at once.
+pub fn read(
+    words: impl IntoIterator<Item = String>,
+    mut warn: impl FnMut(String),
+) -> Result<Asked, Trouble> {
     let mut words = words.into_iter();
     let mut receiver = Receiver::new(Stream::SLOTS_MOST);
-    let mut warnings = Vec::new();
+    let mut only_interfaces = false;
     let mut period = 100 * MILLISECOND;
     let mut room_kb = 1024;
     let mut all = false;
@@ -67,7 +69,7 @@ pub fn read(words: impl IntoIterator<Item = String>) -> Result<Asked, Trouble> {
     let mut give = Give::Lines;
     let mut interfaces = Vec::new();
     while let Some(word) = words.next() {
-        if !word.starts_with('-') {
+        if only_interfaces || word == "-" || !word.starts_with('-') {
             interfaces.push(word);
             continue;
         }
@@ -81,7 +83,8 @@ pub fn read(words: impl IntoIterator<Item = String>) -> Result<Asked, Trouble> {
             None => Err(misused(&format!("option '{name}' requires an argument"))),
         };
         match name {
-            "--open" => warnings.extend(open(&mut receiver, &value()?)?),
+            "--" => only_interfaces = true,
+            "--open" => open(&mut receiver, &value()?, &mut warn)?,
             "--tick" => period = read_number("tick", &value()?, 1, HOUR_IN_MS)? * MILLISECOND,
             "--room" => room_kb = read_number("room", &value()?, 1, 1 << 20)?,
             "--alarm" => alarm_ms = read_number("alarm", &value()?, 0, HOUR_IN_MS)?,
@@ -108,7 +111,6 @@ pub fn read(words: impl IntoIterator<Item = String>) -> Result<Asked, Trouble> {
     }
     Ok(Asked::Run(Box::new(Options {
         receiver,
-        warnings,
         period,
         room_kb,
         all,
@@ -120,22 +122,26 @@ pub fn read(words: impl IntoIterator<Item = String>) -> Result<Asked, Trouble> {
     })))
 }
 
-/// Opens a stream. Answers what is to be said of it.
-fn open(receiver: &mut Receiver, text: &str) -> Result<Option<String>, String> {
+fn open(receiver: &mut Receiver, text: &str, warn: &mut impl FnMut(String)) -> Result<(), String> {
     let settings = read_settings(text)?;
     receiver.open(settings).map_err(|refusal| {
         let (number, words) = (refusal.number(), refusal.words());
         format!("open {text}: {number}, {words}")
     })?;
-    let unsafe_time = settings.time == 1;
-    Ok(unsafe_time
-        .then(|| format!("open {text}: R = 1 is never safe: a tick may fall between two copies")))
+    if settings.time == 1 {
+        let why = "R = 1 is never safe: a tick may fall between two copies";
+        warn(format!("open {text}: {why}"));
+    }
+    Ok(())
 }
 
 fn read_settings(text: &str) -> Result<Settings, String> {
+    let form = || format!("'{text}' is not DEST,VLAN,RULE,L,R");
     let parts: Vec<&str> = text.split(',').collect();
-    let [dest, vlan, rule, window, time] =
-        <[&str; 5]>::try_from(parts).map_err(|_| format!("'{text}' is not DEST,VLAN,RULE,L,R"))?;
+    if parts.contains(&"") {
+        return Err(form());
+    }
+    let [dest, vlan, rule, window, time] = <[&str; 5]>::try_from(parts).map_err(|_| form())?;
     Ok(Settings {
         destination: read_address(dest)?,
         vlan: read_number("VLAN id", vlan, 0, u16::MAX)?,
@@ -198,7 +204,7 @@ mod tests {
     use super::*;
 
     fn run(line: &str) -> Result<Asked, Trouble> {
-        read(line.split_whitespace().map(str::to_string))
+        read(line.split_whitespace().map(str::to_string), |_| {})
     }
 
     fn options(line: &str) -> Options {
@@ -228,7 +234,6 @@ mod tests {
         assert_eq!(o.interfaces, ["a", "b"]);
         let stream = o.receiver.records()[0];
         assert_eq!((stream.dest, stream.vlan), (0x0100_5E00_0007, 100));
-        assert!(o.warnings.is_empty());
     }
 
     #[test]
@@ -242,8 +247,16 @@ mod tests {
             (o.stats, o.interfaces),
             (Some("f".into()), ["a".into(), "b".into()])
         );
+    }
+
+    #[test]
+    fn a_reset_time_that_is_not_safe_is_said() {
+        let mut said = Vec::new();
+        let words = ["--open=020000000001,0,match,2,1", "--tick", "0"];
+        let refused = read(words.map(str::to_string), |what| said.push(what));
+        assert!(refused.is_err());
         let warning = "open 020000000001,0,match,2,1: R = 1 is never safe: a tick may fall between two copies";
-        assert_eq!(o.warnings, [warning]);
+        assert_eq!(said, [warning]);
     }
 
     #[test]
@@ -285,6 +298,8 @@ mod tests {
                 "room '1048577' is no number from 1 to 1048576",
             ),
             ("--open 1", "'1' is not DEST,VLAN,RULE,L,R"),
+            ("--open ,,,,", "',,,,' is not DEST,VLAN,RULE,L,R"),
+            ("-- --tick -", "no stream: --open names one"),
             (
                 "--open 02,0,vector,5,3",
                 "'02' is no address of six bytes in hex",
