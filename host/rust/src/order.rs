@@ -126,7 +126,7 @@ impl Order {
         }
     }
 
-    /// May the next batch of this port be read? Not over frames that are still to be called.
+    /// May the next batch of this port be read? Not over frames that are still to be called. If so, the last one is over.
     pub fn wants(&mut self, network: usize) -> bool {
         let lane = &mut self.lanes[network];
         if lane.first().is_some() {

@@ -18,6 +18,7 @@ use std::ptr;
 #[cfg(not(all(
     target_os = "linux",
     target_pointer_width = "64",
+    target_endian = "little",
     any(target_arch = "x86_64", target_arch = "aarch64")
 )))]
 compile_error!("the numbers below are those of Linux on x86-64 and on Arm of 64 bits");
