@@ -180,11 +180,12 @@ impl Host {
             if taken != 0 {
                 last = now;
             }
-            if now >= second {
+            let each_second = now >= second;
+            for port in &mut self.ports {
+                port.look(&self.setup, each_second)?;
+            }
+            if each_second {
                 second = now + SECOND;
-                for port in &mut self.ports {
-                    port.look(&self.setup)?;
-                }
                 self.write_stats()?;
             }
             if signalled {

@@ -46,6 +46,8 @@ pub struct Port {
     gone: bool,
     /// It is gone, and nothing is left in its socket.
     drained: bool,
+    /// That was found just now.
+    just_drained: bool,
     rooms: Vec<Room>,
     seen: Vec<Seen>,
     pub counts: Counts,
@@ -77,6 +79,7 @@ pub fn open_all(interfaces: &[String; NETWORKS], setup: &Setup) -> Result<Vec<Po
             socket,
             gone: false,
             drained: false,
+            just_drained: false,
             rooms: vec![[0; std::mem::size_of::<Room>()]; BATCH],
             seen: Vec::with_capacity(BATCH),
             counts: Counts::default(),
@@ -118,6 +121,7 @@ impl Port {
                 Ok(()) => {}
                 Err(e) if e.kind() == io::ErrorKind::WouldBlock => {
                     self.drained = self.gone;
+                    self.just_drained = self.gone;
                     order.empty(self.network);
                     return Ok(());
                 }
@@ -155,10 +159,14 @@ impl Port {
         Ok(())
     }
 
-    /// Once a second: has the interface gone, or is it there again? What its dead socket holds is read first.
-    pub fn look(&mut self, setup: &Setup) -> Result<(), Trouble> {
-        self.look_if_gone()?;
-        if !self.drained {
+    /// Behind each turn: an interface that is gone is looked for at once, and then each second. What its dead socket holds is
+    /// read first.
+    pub fn look(&mut self, setup: &Setup, each_second: bool) -> Result<(), Trouble> {
+        if each_second {
+            self.look_if_gone()?;
+        }
+        let just_drained = std::mem::take(&mut self.just_drained);
+        if !self.drained || !(each_second || just_drained) {
             return Ok(());
         }
         // Whatever is missing now, it is tried again.
