@@ -23,7 +23,7 @@ macro_rules! refusals {
                 }
             }
 
-            /// When this refusal is given, in words.
+            /// When this refusal is given, in the words of document 01.
             pub const fn words(self) -> &'static str {
                 match self {
                     $(Refusal::$name => $says,)+
@@ -37,29 +37,29 @@ refusals! {
     /// The table has more than 64 slots.
     Table = 1, "the table has more than 64 slots";
     /// The network is not 0 or 1.
-    Network = 2, "the network is not 0 or 1";
+    Network = 2, "network is not 0 or 1";
     /// The frame is too long.
-    Long = 3, "the frame is too long";
+    Long = 3, "frame too long";
     /// The frame is short.
-    Short = 4, "the frame is short";
+    Short = 4, "frame short";
     /// There is no F1C1 at the type field.
-    Untagged = 5, "there is no F1C1 at the type field";
+    Untagged = 5, "no F1C1 at the type field";
     /// No slot in use has the key.
     Unknown = 6, "no slot in use has the key";
     /// The record is damaged. For a reset: its settings are out of range.
     Damaged = 7, "the record is damaged";
     /// The output is too small.
-    Room = 8, "the output is too small";
+    Room = 8, "output too small";
     /// A setting is outside the sizes.
-    Setting = 9, "a setting is outside the sizes";
+    Setting = 9, "a setting outside the sizes";
     /// A slot in use has the key.
     Taken = 10, "a slot in use has the key";
     /// There is no free slot.
-    Full = 11, "there is no free slot";
+    Full = 11, "no free slot";
     /// The slot is beyond the table or free.
-    Slot = 12, "the slot is beyond the table or free";
+    Slot = 12, "slot beyond the table or free";
     /// The frame already carries F1C1.
-    Tagged = 13, "the frame already carries F1C1";
+    Tagged = 13, "frame already carries F1C1";
 }
 
 impl Refusal {

@@ -264,7 +264,7 @@ fn refusals_have_their_numbers_and_say_why() {
     assert_eq!(Refusal::of_number(0), None);
     assert_eq!(Refusal::of_number(14), None);
     let why: Box<dyn std::error::Error> = Box::new(Refusal::Room);
-    assert_eq!(why.to_string(), "refused (8): the output is too small");
+    assert_eq!(why.to_string(), "refused (8): output too small");
 }
 
 #[test]

@@ -1,226 +1,291 @@
-//! Two network interfaces, the proved receiver, one stream of frames on standard output: host/receive.c once more, in Rust and
-//! with less to choose. host/README.md says how to run it, and why it does what it does.
+//! Two network interfaces, the proved receiver, one stream of frames on standard output: host/receive.c once more, in Rust.
+//! host/README.md says how to run it, and why it does what it does.
 #![deny(unsafe_code)]
 
+mod clock;
+mod filter;
+mod frame;
 mod options;
+mod order;
+mod port;
+mod report;
+mod silence;
 mod socket;
+mod trouble;
 
-use nippitsun::{Receiver, Refusal, Stream, Verdict};
-use options::Options;
-use socket::Port;
-use std::collections::BTreeMap;
+use clock::Clock;
+use filter::Key;
+use nippitsun::{Arrival, Receiver, Refusal, Stream, Verdict};
+use options::{Asked, Give, Options};
+use order::{Call, Order, Time};
+use port::{Port, Setup};
+use report::{say, Network, Report};
+use silence::{News, Silences};
+use socket::{Signal, Signals};
+use std::ffi::OsString;
 use std::io::{self, BufWriter, Stdout, Write};
 use std::process::ExitCode;
-use std::time::Instant;
+use trouble::{failed, words, Trouble};
 
-/// Bytes that the kernel may hold for a port while the program is not running.
-const PORT_ROOM: i32 = 64 << 20;
+const SECOND: Time = 1_000_000_000;
 
-/// Where the type of a frame stands, and the bytes of a VLAN tag (document 01, "The frame").
-const TYPE_AT: usize = 12;
-const VLAN_TAG: usize = 4;
+/// Longer than any program runs, and times can still be added to it.
+const NEVER: Time = Time::MAX / 2;
+
+/// How long frames are still taken after a signal, if they do not stop.
+const LAST_TURNS: Time = 5 * SECOND;
 
 /// The standard library's formatter, byte by byte, would take longer than all the rest of this program's own work.
 const DIGITS: &[u8; 16] = b"0123456789abcdef";
 
-/// Why the program ends early.
-enum Trouble {
-    /// What was asked for can't be done.
-    Refused(String),
-    /// The machine did not do what it was asked to.
-    Failed(String),
-}
-
-/// Puts before an error of the machine what failed.
-fn failed(what: &str) -> impl FnOnce(io::Error) -> Trouble + '_ {
-    move |e| Trouble::Failed(format!("{what}: {e}"))
-}
-
 struct Host {
-    receiver: Receiver,
-    ports: [Port; 2],
-    outgoing: [u64; 2],
-    refused: BTreeMap<Refusal, u64>,
+    options: Options,
+    setup: Setup,
+    clock: Clock,
+    order: Order,
+    ports: Vec<Port>,
+    silences: Silences,
+    refused: [u64; Refusal::ALL.len() + 1],
     damaged: u64,
+    /// Where the library writes a frame that it hands up.
+    out: Box<[u8; Stream::FRAME_MOST]>,
     up: BufWriter<Stdout>,
+    stats_failed: bool,
 }
 
 impl Host {
-    /// At most a batch of frames from one port. Answers how many there were.
-    fn turn(&mut self, network: u8, batch: u16) -> Result<u16, Trouble> {
-        let mut taken = 0;
-        while taken < batch && self.take_one(network)? {
-            taken += 1;
+    /// One turn: reads the ports, and makes the calls whose time has come. Answers how many frames there were.
+    fn turn(&mut self) -> Result<u64, Trouble> {
+        self.order.begin(self.clock.now());
+        for port in &mut self.ports {
+            port.fill(&mut self.order)?;
         }
+        let ahead = self.clock.ahead(self.order.ahead());
+        if self.order.known(self.clock.now(), ahead) {
+            self.silences.begin_anew(self.order.horizon());
+        }
+        let mut taken = 0;
+        while let Some(call) = self.order.next() {
+            match call {
+                Call::Tick => {
+                    let ticked = self.options.receiver.tick();
+                    self.damaged = ticked
+                        .map_err(|refusal| Trouble::Failed(refusal.to_string()))?
+                        .damaged;
+                }
+                Call::Frame {
+                    network,
+                    place,
+                    time,
+                } => {
+                    taken += 1;
+                    self.arrival(network, place, time)?;
+                }
+            }
+        }
+        for news in self.silences.found_by(self.order.horizon()) {
+            self.tell(news);
+        }
+        // Whoever reads standard output has each frame before the next wait.
+        self.up.flush().map_err(failed("standard output"))?;
         Ok(taken)
     }
 
-    /// One frame of a port through the receiver, if there is one.
-    fn take_one(&mut self, network: u8) -> Result<bool, Trouble> {
-        let port = usize::from(network);
-        // Room in front for the VLAN tag; one byte more than a frame may have, so that a longer one, which is cut to this
-        // room, is still too long for the library.
-        let mut room = [0; VLAN_TAG + Stream::FRAME_MOST + 1];
-        let seen = match self.ports[port].receive(&mut room[VLAN_TAG..]) {
-            Ok(Some(seen)) => seen,
-            Ok(None) => return Ok(false),
-            Err(e) => return Err(failed("receive")(e)),
+    fn arrival(&mut self, network: usize, place: usize, time: Time) -> Result<(), Trouble> {
+        let frame = match self.ports[network].frame(place) {
+            Some(frame) => frame,
+            None => return Ok(()),
         };
-        // A packet socket also shows what this machine sends.
-        if seen.outgoing {
-            self.outgoing[port] += 1;
-            return Ok(true);
-        }
-        let end = VLAN_TAG + seen.length;
-        let frame = match seen.vlan {
-            // The kernel has taken the VLAN tag out of the frame. Without it the key would have VLAN id 0.
-            Some(tag) if seen.length >= TYPE_AT => {
-                room.copy_within(VLAN_TAG..VLAN_TAG + TYPE_AT, 0);
-                room[TYPE_AT..TYPE_AT + VLAN_TAG].copy_from_slice(&tag);
-                &room[..end]
-            }
-            _ => &room[VLAN_TAG..end],
-        };
-        let mut out = [0; Stream::FRAME_MOST];
-        match self.receiver.arrival(network, frame, &mut out) {
-            Ok(a) => {
-                if let Verdict::HandedUp { length } = a.verdict {
-                    self.hand_up(a.slot, a.number, &out[..length])
+        let receiver = &mut self.options.receiver;
+        match receiver.arrival(network as u8, frame, &mut self.out[..]) {
+            Ok(Arrival {
+                slot,
+                number,
+                verdict,
+            }) => {
+                if let Verdict::HandedUp { length } = verdict {
+                    let frame = &self.out[..length];
+                    hand_up(&mut self.up, self.options.give, slot, number, frame)
                         .map_err(failed("standard output"))?;
                 }
+                if let Some(news) = self.silences.arrival(slot, network, time) {
+                    self.tell(news);
+                }
             }
-            Err(refusal) => *self.refused.entry(refusal).or_default() += 1,
-        }
-        Ok(true)
-    }
-
-    fn hand_up(&mut self, slot: usize, number: u16, frame: &[u8]) -> io::Result<()> {
-        write!(self.up, "{slot} {number} {} ", frame.len())?;
-        for byte in frame {
-            let (high, low) = (usize::from(byte >> 4), usize::from(byte & 15));
-            self.up.write_all(&[DIGITS[high], DIGITS[low]])?;
-        }
-        writeln!(self.up)
-    }
-
-    fn say_counters(&self) -> Result<(), Trouble> {
-        for (i, s) in self.receiver.records().iter().enumerate() {
-            if !s.is_used() {
-                continue;
-            }
-            eprint!(
-                "slot {i} dest {:012x} vlan {} rule {}",
-                s.dest, s.vlan, s.rule
-            );
-            let c = &s.counts;
-            eprint!(" L {} R {} arrivals0 {}", s.window, s.time, c.arrivals0);
-            eprint!(" arrivals1 {} passed {}", c.arrivals1, c.passed);
-            eprint!(" discarded {} rogue {}", c.discarded, c.rogue);
-            eprintln!(
-                " disorder {} lost {} resets {}",
-                c.disorder, c.lost, c.resets
-            );
-        }
-        for (refusal, count) in &self.refused {
-            eprintln!("refused {} ({}) {count}", refusal.number(), refusal.words());
-        }
-        if self.damaged != 0 {
-            eprintln!("damaged {}", self.damaged);
-        }
-        for (i, port) in self.ports.iter().enumerate() {
-            let dropped = port.dropped().map_err(failed("dropped frames"))?;
-            eprintln!(
-                "network {i} outgoing {} dropped {dropped}",
-                self.outgoing[i]
-            );
+            Err(refusal) => self.refused[usize::from(refusal.number())] += 1,
         }
         Ok(())
     }
-}
 
-/// A receiver with these streams, and how many frames one port may have before the other has its turn: a quarter of what the
-/// stream that remembers least remembers. A match stream forgets every number but the last.
-fn open_streams(options: &Options) -> Result<(Receiver, u16), Trouble> {
-    let mut receiver = Receiver::new(Stream::SLOTS_MOST);
-    let mut least = Stream::WINDOW_MOST;
-    for (text, settings) in &options.streams {
-        receiver.open(*settings).map_err(|refusal| {
-            let (number, words) = (refusal.number(), refusal.words());
-            Trouble::Refused(format!("open {text}: {number}, {words}"))
-        })?;
-        least = match settings.rule {
-            Stream::MATCH_RULE => 1,
-            _ => least.min(settings.window),
+    fn tell(&self, news: News) {
+        let stream = &self.options.receiver.records()[news.slot];
+        say(&report::news_line(news, stream, self.options.alarm_ms));
+    }
+
+    fn report(&mut self) -> Result<Report<'_>, Trouble> {
+        for port in &mut self.ports {
+            port.count_dropped()?;
+        }
+        Ok(Report {
+            records: self.options.receiver.records(),
+            silences: &self.silences,
+            refused: &self.refused,
+            damaged: self.damaged,
+            networks: [0, 1].map(|network: usize| Network {
+                counts: self.ports[network].counts,
+                open: self.ports[network].is_open(),
+            }),
+            ticks: self.order.ticks,
+            late: self.order.late,
+            steps: self.order.steps,
+        })
+    }
+
+    fn say_counters(&mut self) -> Result<(), Trouble> {
+        say(&self.report()?.lines());
+        Ok(())
+    }
+
+    fn write_stats(&mut self) -> Result<(), Trouble> {
+        let file = match self.options.stats.clone() {
+            Some(file) => file,
+            None => return Ok(()),
         };
+        let written = report::write_over(&file, &self.report()?.prometheus());
+        if let Err(e) = written {
+            if !self.stats_failed {
+                say(&format!("warning: {}: {}", file.display(), words(&e)));
+            }
+            self.stats_failed = true;
+        }
+        Ok(())
     }
-    Ok((receiver, (least / 4).max(1)))
+
+    /// Turns, until a signal or a long quiet ends them.
+    fn run(&mut self, signals: &mut Signals) -> Result<(), Trouble> {
+        let quiet = self.options.quiet.unwrap_or(NEVER);
+        let mut last = self.clock.now();
+        let mut second = last + SECOND;
+        let mut end = None;
+        loop {
+            let now = self.clock.now();
+            let until = end.map_or(second.min(last + quiet), |_| now);
+            let pause = self.order.pause(now, until);
+            let sockets = [self.ports[0].socket(), self.ports[1].socket()];
+            let signalled = socket::wait(sockets, signals, pause).map_err(failed("ppoll"))?;
+
+            let taken = self.turn()?;
+
+            let now = self.clock.now();
+            if taken != 0 {
+                last = now;
+            }
+            let each_second = now >= second;
+            for port in &mut self.ports {
+                port.look(&self.setup, each_second)?;
+            }
+            if each_second {
+                second = now + SECOND;
+                self.write_stats()?;
+            }
+            if signalled {
+                match signals.next().map_err(failed("signals"))? {
+                    Signal::Say => self.say_counters()?,
+                    Signal::End => end = end.or(Some(now + LAST_TURNS)),
+                }
+            }
+            let all_taken = taken == 0 && !self.order.has_frames();
+            if end.map_or(false, |end| all_taken || now >= end) || now - last >= quiet {
+                return Ok(());
+            }
+        }
+    }
 }
 
-fn open_port(interface: &str) -> Result<Port, Trouble> {
-    let port = Port::open(interface).map_err(failed(interface))?;
-    if port.make_room(PORT_ROOM).is_err() {
-        eprintln!("warning: {interface} has no more room for waiting frames than net.core.rmem_max allows");
+/// A frame that was handed up, in the form that was asked for.
+fn hand_up(
+    up: &mut impl Write,
+    give: Give,
+    slot: usize,
+    number: u16,
+    frame: &[u8],
+) -> io::Result<()> {
+    match give {
+        Give::Lines => {
+            write!(up, "{slot} {number} {} ", frame.len())?;
+            for byte in frame {
+                let (high, low) = (usize::from(byte >> 4), usize::from(byte & 15));
+                up.write_all(&[DIGITS[high], DIGITS[low]])?;
+            }
+            writeln!(up)
+        }
+        Give::Raw => {
+            up.write_all(&(frame.len() as u16).to_be_bytes())?;
+            up.write_all(frame)
+        }
+        Give::Nothing => Ok(()),
     }
-    Ok(port)
+}
+
+fn keys(receiver: &Receiver) -> Vec<Key> {
+    let used = receiver.records().iter().filter(|stream| stream.is_used());
+    used.map(|stream| (stream.dest, stream.vlan)).collect()
+}
+
+fn receive(options: Options) -> Result<(), Trouble> {
+    let setup = Setup {
+        filter: (!options.all).then(|| filter::program(&keys(&options.receiver))),
+        room: options.room_kb << 10,
+    };
+    let mut signals = Signals::hold().map_err(failed("signals"))?;
+    let clock = Clock::new();
+    let opened = clock.now();
+    let ports = port::open_all(&options.interfaces, &setup)?;
+    let [first, second] = &options.interfaces;
+    say(&format!("listening on {first} and {second}"));
+    let alarm = (options.alarm_ms != 0).then(|| options.alarm_ms * 1_000_000);
+    let now = clock.now();
+    let mut host = Host {
+        order: Order::new(options.period, opened, now, clock.measure_ahead()),
+        silences: Silences::new(Stream::SLOTS_MOST, alarm, now),
+        options,
+        setup,
+        clock,
+        ports,
+        refused: [0; Refusal::ALL.len() + 1],
+        damaged: 0,
+        out: Box::new([0; Stream::FRAME_MOST]),
+        up: BufWriter::with_capacity(1 << 16, io::stdout()),
+        stats_failed: false,
+    };
+    host.run(&mut signals)?;
+    host.write_stats()?;
+    host.say_counters()
 }
 
 fn run() -> Result<(), Trouble> {
-    let options = options::read(std::env::args().skip(1)).map_err(Trouble::Refused)?;
-    let (receiver, batch) = open_streams(&options)?;
-    let [first, second] = &options.interfaces;
-    let mut host = Host {
-        receiver,
-        ports: [open_port(first)?, open_port(second)?],
-        outgoing: [0; 2],
-        refused: BTreeMap::new(),
-        damaged: 0,
-        up: BufWriter::new(io::stdout()),
+    let words = std::env::args_os().skip(1).map(|word| {
+        let no_text = |word: OsString| format!("'{}' is no text", word.to_string_lossy());
+        word.into_string().map_err(no_text)
+    });
+    let words = words.collect::<Result<Vec<String>, String>>()?;
+    let warn = |what| say(&format!("warning: {what}"));
+    let text = match options::read(words, warn)? {
+        Asked::Run(options) => return receive(*options),
+        Asked::Version => format!("nippitsun {}\n", nippitsun::VERSION),
+        Asked::Help => options::USAGE.to_string(),
     };
-    eprintln!("listening on {first} and {second}, batch {batch}");
-
-    let mut last = Instant::now();
-    let mut next = last + options.period;
-    loop {
-        let until = options.quiet.map_or(next, |quiet| next.min(last + quiet));
-        let pause = until.saturating_duration_since(Instant::now());
-        socket::wait(&host.ports, pause).map_err(failed("poll"))?;
-
-        let taken = host.turn(0, batch)? + host.turn(1, batch)?;
-
-        let now = Instant::now();
-        if taken != 0 {
-            last = now;
-        }
-        if now >= next {
-            let ticked = host.receiver.tick();
-            host.damaged = ticked
-                .map_err(|refusal| Trouble::Failed(refusal.to_string()))?
-                .damaged;
-            // Ticks that were missed are left out: what stands in the sockets is older than they are, and a stream that is
-            // reset before its twins are read would hand them up a second time.
-            next += options.period;
-            if next <= now {
-                next = now + options.period;
-            }
-        }
-        // Whoever reads standard output has each frame before the next wait.
-        host.up.flush().map_err(failed("standard output"))?;
-        if options.quiet.map_or(false, |quiet| now - last >= quiet) {
-            return host.say_counters();
-        }
-    }
+    let written = io::stdout().write_all(text.as_bytes());
+    written.map_err(failed("standard output"))
 }
 
 fn main() -> ExitCode {
-    match run() {
-        Ok(()) => ExitCode::SUCCESS,
-        Err(Trouble::Failed(what)) => {
-            eprintln!("failed: {what}");
-            ExitCode::from(1)
-        }
-        Err(Trouble::Refused(what)) => {
-            eprintln!("refused: {what}");
-            ExitCode::from(2)
-        }
-    }
+    let (said, status) = match run() {
+        Ok(()) => return ExitCode::SUCCESS,
+        Err(Trouble::Failed(what)) => (format!("failed: {what}"), 1),
+        Err(Trouble::Refused(what)) => (format!("refused: {what}"), 2),
+        Err(Trouble::Misused(what)) => (what + options::USAGE.trim_end(), 2),
+    };
+    say(&said);
+    ExitCode::from(status)
 }
