@@ -18,6 +18,12 @@ use Rattle.calls.proofs.Placing.Laws as Placing-laws
 use Rattle.calls.specs.declared.Sums.{Sums}
 use Rattle.calls.proofs.Sums as Sums-type
 use Rattle.calls.proofs.Sums.Laws as Sums-laws
+use Rattle.calls.specs.declared.Opened.{Opened}
+use Rattle.calls.proofs.Opened as Opened-type
+use Rattle.calls.proofs.Opened.Laws as Opened-laws
+use Rattle.calls.specs.declared.Done.{Done}
+use Rattle.calls.proofs.Done as Done-type
+use Rattle.calls.proofs.Done.Laws as Done-laws
 use Rattle.calls.specs.declared.Swept.{Swept}
 use Rattle.calls.proofs.Swept as Swept-type
 use Rattle.calls.proofs.Swept.Laws as Swept-laws
@@ -66,10 +72,16 @@ placing-slot v g = Struct-laws.owed Placing-type.the-type Placing-laws.the-laws 
 pub placing-stream : (v : Placing) → placing-ok v → Ok (v .stream)
 placing-stream v g = Struct-laws.owed Placing-type.the-type Placing-laws.the-laws v _ g .1 .1 .0
 
--- ---- the answers of a tick
+-- ---- the answers that a walk makes itself
 
-pub refused-ok : (n : ℕ) → n < 2 ^ 8 → swept-ok (Swept.Refused n)
-refused-ok n g = Enum-laws.owes Swept-type.the-type Swept-laws.the-laws (Swept.Refused n) ((refl, g), tt)
+pub opened-refused : (n : ℕ) → n < 2 ^ 8 → opened-ok (Opened.Refused n)
+opened-refused n g = Enum-laws.owes Opened-type.the-type Opened-laws.the-laws (Opened.Refused n) ((refl, g), tt)
+
+pub done-refused : (n : ℕ) → n < 2 ^ 8 → done-ok (Done.Refused n)
+done-refused n g = Enum-laws.owes Done-type.the-type Done-laws.the-laws (Done.Refused n) ((refl, g), tt)
+
+pub swept-refused : (n : ℕ) → n < 2 ^ 8 → swept-ok (Swept.Refused n)
+swept-refused n g = Enum-laws.owes Swept-type.the-type Swept-laws.the-laws (Swept.Refused n) ((refl, g), tt)
 
 pub counted-ok : (c : Sums) → sums-ok c → swept-ok (Swept.Counted (c .resets) (c .damaged))
 counted-ok c g =
