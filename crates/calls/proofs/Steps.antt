@@ -15,8 +15,8 @@ use Rattle.record.specs.Sizes.{slotsMost}
 use Rattle.frame.specs.TagCalls.{saidRead, refusalOf}
 use Rattle.frame.specs.Frame.{readOf}
 use Rattle.frame.specs.declared.Header.{Header}
-use Rattle.frame.specs.declared.Read.{Read}
-use Rattle.frame.specs.declared.Read.the-variants as read
+use Rattle.frame.specs.declared.TagRead.{TagRead}
+use Rattle.frame.specs.declared.TagRead.the-variants as read
 use Rattle.stream.specs.Record.{settled, lawful, closed}
 use Rattle.stream.specs.Decisions as decisions
 use Rattle.stream.specs.declared.Weighed.{Weighed}
@@ -47,10 +47,10 @@ module _ (slots network : ℕ) (f : List ℕ) where
     unfolding asked
     reads = simp (le-ltb _ _ few, le-ltb _ _ net)
 
-    pub ask-refused : {r : Read} {n m : ℕ} → saidRead r ≡ readOf f → r ≡ read.Refused m → n ≡ refusalOf r → refused n ≡ asked slots network f
+    pub ask-refused : {r : TagRead} {n m : ℕ} → saidRead r ≡ readOf f → r ≡ read.Refused m → n ≡ refusalOf r → refused n ≡ asked slots network f
     ask-refused p q e = rw (e ∙ ap refusalOf q) (ap saidRead (sym q) ∙ p ∙ sym reads)
 
-    pub ask-tagged : {r : Read} {h : Header} {number : ℕ} → saidRead r ≡ readOf f → r ≡ read.Tagged h number
+    pub ask-tagged : {r : TagRead} {h : Header} {number : ℕ} → saidRead r ≡ readOf f → r ≡ read.Tagged h number
         → answers (record { header = h; number = number }) ≡ asked slots network f
     ask-tagged p q = ap saidRead (sym q) ∙ p ∙ sym reads
 

@@ -6,9 +6,9 @@ use denote.Enum.Laws as Enum-laws
 use Rattle.calls.specs.declared.Found.{Found}
 use Rattle.calls.proofs.Found as Found-type
 use Rattle.calls.proofs.Found.Laws as Found-laws
-use Rattle.calls.specs.declared.Turn.{Turn}
-use Rattle.calls.proofs.Turn as Turn-type
-use Rattle.calls.proofs.Turn.Laws as Turn-laws
+use Rattle.calls.specs.declared.Visited.{Visited}
+use Rattle.calls.proofs.Visited as Visited-type
+use Rattle.calls.proofs.Visited.Laws as Visited-laws
 use Rattle.calls.specs.declared.Change.{Change}
 use Rattle.calls.proofs.Change as Change-type
 use Rattle.calls.proofs.Change.Laws as Change-laws
@@ -34,7 +34,7 @@ use Rattle.calls.specs.declared.Asked.{Asked}
 use Rattle.calls.proofs.Asked as Asked-type
 use Rattle.calls.proofs.Asked.Laws as Asked-laws
 use Rattle.receiver.proofs.Rows.{Ok}
-use Rattle.receiver.proofs.Values.{sums-ok, turn-ok, change-ok, placing-ok, header-ok}
+use Rattle.receiver.proofs.Values.{sums-ok, visited-ok, change-ok, placing-ok, header-ok}
 use Rattle.receiver.proofs.Enums.{found-ok, done-ok, swept-ok, opened-ok, asked-ok}
 
 pub at-ok : (i : ℕ) → i < 2 ^ 64 → found-ok (Found.At i)
@@ -46,11 +46,11 @@ nothing-ok = Enum-laws.owes Found-type.the-type Found-laws.the-laws Found.Nothin
 pub at-fits : (i : ℕ) → found-ok (Found.At i) → i < 2 ^ 64
 at-fits i g = Enum-laws.owed Found-type.the-type Found-laws.the-laws (Found.At i) _ g .0 .1
 
-pub turn-stream : (v : Turn) → turn-ok v → Ok (v .stream)
-turn-stream v g = Struct-laws.owed Turn-type.the-type Turn-laws.the-laws v _ g .0
+pub visited-stream : (v : Visited) → visited-ok v → Ok (v .stream)
+visited-stream v g = Struct-laws.owed Visited-type.the-type Visited-laws.the-laws v _ g .0
 
-pub turn-sums : (v : Turn) → turn-ok v → sums-ok (v .sums)
-turn-sums v g = Struct-laws.owed Turn-type.the-type Turn-laws.the-laws v _ g .1 .0
+pub visited-sums : (v : Visited) → visited-ok v → sums-ok (v .sums)
+visited-sums v g = Struct-laws.owed Visited-type.the-type Visited-laws.the-laws v _ g .1 .0
 
 -- ---- what a close or a reset answers and stores; what an open does
 

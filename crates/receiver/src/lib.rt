@@ -76,17 +76,17 @@ fn sweep(t: &mut [Stream]) -> Sums
     let mut sums = calls::no_sums();
     let mut i = 0;
     while i < t.len() {
-        let turn = calls::visit(sums, t[i]);
-        t[i] = turn.stream;
-        sums = turn.sums;
+        let visited = calls::visit(sums, t[i]);
+        t[i] = visited.stream;
+        sums = visited.sums;
         i = i + 1;
     }
     sums
 }
 
-// One record settled: what the arrival is to it, and the record after it. The record is read again on purpose: so no
+// One record decided: what the arrival is to it, and the record after it. The record is read again on purpose: so no
 // counter is carried over the first step.
-fn settle(t: &mut [Stream], i: usize, network: u8, number: u16, room: bool) -> Judged
+fn decide(t: &mut [Stream], i: usize, network: u8, number: u16, room: bool) -> Judged
     requires { ⌜ i < length (now t) ⌝ }
     ensures { λ r. ⌜ (r ≡ judged (at (now (t .entry)) i) number room) × (now (t .exit) ≡ set (now (t .entry)) i (recordOf (at (now (t .entry)) i) network r)) ⌝ }
 {
@@ -113,7 +113,7 @@ pub fn arrival(t: &mut [Stream], network: u8, frame: &[u8], out: &mut [u8]) -> A
         return calls::unknown();
     };
     let room = calls::fits(frame, out);
-    let j = settle(t, i, network, number, room);
+    let j = decide(t, i, network, number, room);
     calls::finish(j, i, h.at, number, frame, out)
 }
 
