@@ -86,7 +86,7 @@ fn sweep(t: &mut [Stream]) -> Sums
 
 // One record decided: what the arrival is to it, and the record after it. The record is read again on purpose: so no
 // counter is carried over the first step.
-fn decide(t: &mut [Stream], i: usize, network: u8, number: u16, room: bool) -> Judged
+fn decide_at(t: &mut [Stream], i: usize, network: u8, number: u16, room: bool) -> Judged
     requires { ⌜ i < length (now t) ⌝ }
     ensures { λ r. ⌜ (r ≡ judged (at (now (t .entry)) i) number room) × (now (t .exit) ≡ set (now (t .entry)) i (recordOf (at (now (t .entry)) i) network r)) ⌝ }
 {
@@ -113,7 +113,7 @@ pub fn arrival(t: &mut [Stream], network: u8, frame: &[u8], out: &mut [u8]) -> A
         return calls::unknown();
     };
     let room = calls::fits(frame, out);
-    let j = decide(t, i, network, number, room);
+    let j = decide_at(t, i, network, number, room);
     calls::finish(j, i, h.at, number, frame, out)
 }
 

@@ -80,10 +80,10 @@ use Rattle.calls.proofs.fits as fn-fits
 use Rattle.calls.proofs.fits.Symbol as fn-fits-def
 use Rattle.calls.proofs.fits.Symbol.{name as #calls·fits}
 use Rattle.calls.proofs.fits.Met as fn-fits-met
-use Rattle.receiver.proofs.decide as fn-decide
-use Rattle.receiver.proofs.decide.Symbol as fn-decide-def
-use Rattle.receiver.proofs.decide.Symbol.{name as #receiver·decide}
-use Rattle.receiver.proofs.decide.Met as fn-decide-met
+use Rattle.receiver.proofs.decide_at as fn-decide-at
+use Rattle.receiver.proofs.decide_at.Symbol as fn-decide-at-def
+use Rattle.receiver.proofs.decide_at.Symbol.{name as #receiver·decide-at}
+use Rattle.receiver.proofs.decide_at.Met as fn-decide-at-met
 use Rattle.calls.proofs.finish as fn-finish
 use Rattle.calls.proofs.finish.Symbol as fn-finish-def
 use Rattle.calls.proofs.finish.Symbol.{name as #calls·finish}
@@ -113,8 +113,8 @@ module _ {M : Type 1} (𝓤 : URA M) (H : Heap 𝓤) (A : Atoms 𝓤) (mem : Mem
   abbrev Fits : Contract 𝓤
   Fits = tripleOf 𝓤 H A fn-fits.signature (fn-fits.spec 𝓤 H A mem run)
 
-  abbrev Decide : Contract 𝓤
-  Decide = tripleOf 𝓤 H A fn-decide.signature (fn-decide.spec 𝓤 H A mem run)
+  abbrev DecideAt : Contract 𝓤
+  DecideAt = tripleOf 𝓤 H A fn-decide-at.signature (fn-decide-at.spec 𝓤 H A mem run)
 
   abbrev Finish : Contract 𝓤
   Finish = tripleOf 𝓤 H A fn-finish.signature (fn-finish.spec 𝓤 H A mem run)
@@ -125,7 +125,7 @@ module _ {M : Type 1} (𝓤 : URA M) (H : Heap 𝓤) (A : Atoms 𝓤) (mem : Mem
     pub find′ : Triple 𝓤 (C #receiver·find) Find
     pub unknown′ : Triple 𝓤 (C #calls·unknown) Unknown
     pub fits′ : Triple 𝓤 (C #calls·fits) Fits
-    pub decide′ : Triple 𝓤 (C #receiver·decide) Decide
+    pub decide-at′ : Triple 𝓤 (C #receiver·decide-at) DecideAt
     pub finish′ : Triple 𝓤 (C #calls·finish) Finish
 
 module _ {M : Type 1} (𝓤 : URA M) (H : Heap 𝓤) (A : Atoms 𝓤) (W : Given 𝓤 H A) (mem : Memory → SProp 𝓤) (run : Routine → Fun 𝓤) (κ : Lft) (q : Share) (b o : ℕ) (γ : GName) (ys : List Stream) (network : ℕ) (κ₁ : Lft) (q₁ : Share) (b₁ o₁ : ℕ) (γ₁ : GName) (fr : List ℕ) (κ₂ : Lft) (q₂ : Share) (b₂ o₂ : ℕ) (γ₂ : GName) (us : List ℕ) where
@@ -191,7 +191,7 @@ module _ {M : Type 1} (𝓤 : URA M) (H : Heap 𝓤) (A : Atoms 𝓤) (W : Given
             land ! (from ! (stop !)) (init ! 28 refl (tt, tt)) $
             assigns ! (addr ! (from ! (fld ! refl (hop ! (look-in ! 46 (sub ! 0 refl (whole !))) (stop !))))) (from ! (stop !)) (init ! 14 refl (tt, tt)) $
             assigns ! (agg ! (and-then ! (load ! (from ! (stop !)) (look-cell ! 14 refl)) (and-then ! (load ! (from ! (fld ! refl (stop !))) (look-in ! 46 (sub ! 1 refl (whole !)))) (no-more !)))) (from ! (stop !)) (init ! 12 refl (tt, (tt, (record { fits = g-ys .0 }, tt)))) $
-            calls-mut {𝓤 = 𝓤} {H = H} {A = A} ! fm R ys b o g-ys fn-decide.ended (fn-decide.clauses 𝓤 H A mem run) (known .decide′) (λ ν δ. (((ν ∷ [], tt), (fullShare, tt), tt, (record { ptr = (b, o); name = δ; now = ys }, (i, (network, (number, (room, tt))))), (sliceVal (b, o) (length ys) ∷ [], (vint w64 i ∷ [], (vint w8 network ∷ [], (vint w16 number ∷ [], (vbool room ∷ [], tt)))))), tt)) (λ ν δ. qed W (‵ (flft (ν ∷ []) fullShare) ∷ ‵ (mut-own R b o ν δ ys) ∷ []) ∵ says ! l $ nothing ! $ move ! (1 ∷ 0 ∷ []) $ join ! $ move ! (1 ∷ []) $ nothing ! $ owned ! Boolean (Is Boolean) (bool-makes 𝓤 H A W) room _ refl $ fjoin ! $ owned ! u16 (Is u16) (uint-makes 𝓤 H A W w16) number _ (refl, g-number) $ fjoin ! $ owned ! u8 (Is u8) (uint-makes 𝓤 H A W w8) network _ (refl, g-network) $ fjoin ! $ owned ! usize (Is usize) (uint-makes 𝓤 H A W w64) i _ (refl, (at-fits i g-f)) $ fjoin ! $ move ! (1 ∷ 0 ∷ []) $ fjoin ! $ move ! (1 ∷ 0 ∷ []) $ frame ! $ done !) (λ ν δ. fst∗ 𝓤 _ (emp 𝓤)) (λ ν δ. judged-val) (λ ν δ j vs p. judged-tells j vs p) (λ ν δ ws. ws .0) (λ ν δ ws. fst∗ 𝓤 (sem 𝓤 H A (fsep (finally R δ (ws .0)) (feq ℕ (length (ws .0)) (length ys)))) (sem 𝓤 H A (fsep ftrue (fsep ftrue (fsep ftrue (fsep ftrue ftrue)))))) (λ ν δ (j : Judged) (zs : List Stream). (j ≡ judged (getD ys i blank) number room) × (zs ≡ set ys i (recordOf (getD ys i blank) network j))) (λ ν δ j ws. id⊢ 𝓤 _) (λ ν δ. (and-then ! (load ! (from ! (stop !)) (look-cell ! 11 refl)) (and-then ! (load ! (from ! (stop !)) (look-cell ! 29 refl)) (and-then ! (load ! (from ! (stop !)) (look-cell ! 43 refl)) (and-then ! (load ! (from ! (stop !)) (look-cell ! 33 refl)) (and-then ! (load ! (from ! (stop !)) (look-cell ! 27 refl)) (no-more !))))))) (λ ν δ j zs g-j len decided.
+            calls-mut {𝓤 = 𝓤} {H = H} {A = A} ! fm R ys b o g-ys fn-decide-at.ended (fn-decide-at.clauses 𝓤 H A mem run) (known .decide-at′) (λ ν δ. (((ν ∷ [], tt), (fullShare, tt), tt, (record { ptr = (b, o); name = δ; now = ys }, (i, (network, (number, (room, tt))))), (sliceVal (b, o) (length ys) ∷ [], (vint w64 i ∷ [], (vint w8 network ∷ [], (vint w16 number ∷ [], (vbool room ∷ [], tt)))))), tt)) (λ ν δ. qed W (‵ (flft (ν ∷ []) fullShare) ∷ ‵ (mut-own R b o ν δ ys) ∷ []) ∵ says ! l $ nothing ! $ move ! (1 ∷ 0 ∷ []) $ join ! $ move ! (1 ∷ []) $ nothing ! $ owned ! Boolean (Is Boolean) (bool-makes 𝓤 H A W) room _ refl $ fjoin ! $ owned ! u16 (Is u16) (uint-makes 𝓤 H A W w16) number _ (refl, g-number) $ fjoin ! $ owned ! u8 (Is u8) (uint-makes 𝓤 H A W w8) network _ (refl, g-network) $ fjoin ! $ owned ! usize (Is usize) (uint-makes 𝓤 H A W w64) i _ (refl, (at-fits i g-f)) $ fjoin ! $ move ! (1 ∷ 0 ∷ []) $ fjoin ! $ move ! (1 ∷ 0 ∷ []) $ frame ! $ done !) (λ ν δ. fst∗ 𝓤 _ (emp 𝓤)) (λ ν δ. judged-val) (λ ν δ j vs p. judged-tells j vs p) (λ ν δ ws. ws .0) (λ ν δ ws. fst∗ 𝓤 (sem 𝓤 H A (fsep (finally R δ (ws .0)) (feq ℕ (length (ws .0)) (length ys)))) (sem 𝓤 H A (fsep ftrue (fsep ftrue (fsep ftrue (fsep ftrue ftrue)))))) (λ ν δ (j : Judged) (zs : List Stream). (j ≡ judged (getD ys i blank) number room) × (zs ≡ set ys i (recordOf (getD ys i blank) network j))) (λ ν δ j ws. id⊢ 𝓤 _) (λ ν δ. (and-then ! (load ! (from ! (stop !)) (look-cell ! 11 refl)) (and-then ! (load ! (from ! (stop !)) (look-cell ! 29 refl)) (and-then ! (load ! (from ! (stop !)) (look-cell ! 43 refl)) (and-then ! (load ! (from ! (stop !)) (look-cell ! 33 refl)) (and-then ! (load ! (from ! (stop !)) (look-cell ! 27 refl)) (no-more !))))))) (λ ν δ j zs g-j len decided.
             land ! (from ! (stop !)) (init ! 26 refl (judged-typed 𝓤 H A W j g-j)) $
             assigns ! (addr ! (from ! (fld ! refl (hop ! (look-in ! 40 (sub ! 0 refl (whole !))) (stop !))))) (from ! (stop !)) (init ! 10 refl (tt, tt)) $
             assigns ! (agg ! (and-then ! (load ! (from ! (stop !)) (look-cell ! 10 refl)) (and-then ! (load ! (from ! (fld ! refl (stop !))) (look-in ! 40 (sub ! 1 refl (whole !)))) (no-more !)))) (from ! (stop !)) (init ! 8 refl (tt, (tt, (record { fits = g-us .0 }, tt)))) $
@@ -248,7 +248,7 @@ arrival-spec 𝓤 H 𝓜 𝓖 𝓡 =
       find′ = cited 𝓤 H (Find 𝓤 H (𝓖 .A) (𝓜 .mem) (𝓡 .run)) 𝓜 𝓡 code.env #receiver·find fn-find-def.routine code.calls-receiver·find (fn-find-met.met 𝓤 H 𝓜 𝓖 𝓡);
       unknown′ = cited 𝓤 H (Unknown 𝓤 H (𝓖 .A) (𝓜 .mem) (𝓡 .run)) 𝓜 𝓡 code.env #calls·unknown fn-unknown-def.routine code.calls-calls·unknown (fn-unknown-met.met 𝓤 H 𝓜 𝓖 𝓡);
       fits′ = cited 𝓤 H (Fits 𝓤 H (𝓖 .A) (𝓜 .mem) (𝓡 .run)) 𝓜 𝓡 code.env #calls·fits fn-fits-def.routine code.calls-calls·fits (fn-fits-met.met 𝓤 H 𝓜 𝓖 𝓡);
-      decide′ = cited 𝓤 H (Decide 𝓤 H (𝓖 .A) (𝓜 .mem) (𝓡 .run)) 𝓜 𝓡 code.env #receiver·decide fn-decide-def.routine code.calls-receiver·decide (fn-decide-met.met 𝓤 H 𝓜 𝓖 𝓡);
+      decide-at′ = cited 𝓤 H (DecideAt 𝓤 H (𝓖 .A) (𝓜 .mem) (𝓡 .run)) 𝓜 𝓡 code.env #receiver·decide-at fn-decide-at-def.routine code.calls-receiver·decide-at (fn-decide-at-met.met 𝓤 H 𝓜 𝓖 𝓡);
       finish′ = cited 𝓤 H (Finish 𝓤 H (𝓖 .A) (𝓜 .mem) (𝓡 .run)) 𝓜 𝓡 code.env #calls·finish fn-finish-def.routine code.calls-calls·finish (fn-finish-met.met 𝓤 H 𝓜 𝓖 𝓡);
     }))
   where
