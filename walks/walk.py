@@ -35,6 +35,7 @@ Statements of the MIR, on lines that begin with a colon. An operand is a local 3
 `:=` is into room, `<-` over a value, `last` before it ends an arm or a turn. EVIDENCE is `fits FACT` for a number, `bool`, `ptr`, or a term.
   : 5 := 1.1 ; EVIDENCE                     a copy                      : 5 := lit ; EVIDENCE
   : 6 := 5 cmp 3                            a comparison                : 3 <- 3 plus ; fits FACT       plus 1
+  : 7 := not 6                              a bool, the other way round
   : place 8 := 1[3] via := 5 ; FACT         local 8 points to record number _3 of the slice _1; _5 is its distance, of which FACT says that it fits
   : 9 := *8 ; EVIDENCE                      a record is read            : *8 := 4.0 ; EVIDENCE          a record is stored
   : part 9 := 2[5..4] via 6 7 8 ; LIST FIRST END WITHIN FACT      local 9 is the part of the slice _2 from number _5 up to _4, which are FIRST and END: WITHIN says that it is one, FACT that END fits
@@ -112,6 +113,9 @@ class Walk(Steps):
         m = re.fullmatch(r'(\d+) (:=|<-) (\S+) plus', body)
         if m:
             return f'{ind}{step} ! (bin ! {self.opd(m[3])} (lit ! tt) (record {{ fits = {ev[5:]} }})) {self.cell(m[2], m[1], self.shown(ev))} $'
+        m = re.fullmatch(r'(\d+) (:=|<-) not (\S+)', body)
+        if m:
+            return f'{ind}{step} ! (un ! {self.opd(m[3])} tt) {self.cell(m[2], m[1], "(tt, tt)")} $'
         m = re.fullmatch(r'(\d+) (:=|<-) (\S+)', body)
         if m:
             return f'{ind}{step} ! (of-opd ! {self.opd(m[3])}) {self.cell(m[2], m[1], self.shown(ev))} $'

@@ -10,6 +10,7 @@ void *malloc(size_t);
 void free(void *);
 void *memcpy(void *, const void *, size_t);
 int memcmp(const void *, const void *, size_t);
+void *mmap(void *, size_t, int, int, int, long);
 
 static unsigned checks, failures;
 
@@ -480,6 +481,25 @@ static void refusals(void) {
     }
 }
 
+/* 1 comes before anything else: a table of more than 64 slots is refused and not read, and an open's settings are refused
+ * before the table is read. No contract can say that, so here the table lies where a read or a store ends this program. */
+static void unread(void) {
+    enum { no_access = 0, own_and_blank = 0x22 }; /* PROT_NONE; MAP_PRIVATE and MAP_ANONYMOUS, on Linux */
+    static const size_t lengths[] = {65, 65 * sizeof(nippitsun_stream), 4160000, SIZE_MAX / sizeof(nippitsun_stream)};
+    nippitsun_stream *t = mmap(NULL, 65536, no_access, own_and_blank, -1, 0);
+    CHECK(t != (void *)-1);
+    make_out(100);
+    for (size_t i = 0; i < sizeof lengths / sizeof *lengths; i++) {
+        size_t n = lengths[i];
+        CHECK(nippitsun_arrival(t, n, 0, tagged(60, 0, 1), 60, out, room).refusal == NIPPITSUN_REFUSED_TABLE);
+        CHECK(nippitsun_open(t, n, running_dest, 0, 1, 4, 3).refusal == NIPPITSUN_REFUSED_TABLE);
+        CHECK(nippitsun_close(t, n, 64) == NIPPITSUN_REFUSED_TABLE);
+        CHECK(nippitsun_reset(t, n, 64) == NIPPITSUN_REFUSED_TABLE);
+        CHECK(nippitsun_tick(t, n).refusal == NIPPITSUN_REFUSED_TABLE);
+    }
+    CHECK(nippitsun_open(t, 64, running_dest, 0, 3, 4, 3).refusal == NIPPITSUN_REFUSED_SETTING);
+}
+
 /* NULL with length 0, for each area of each call. */
 static void nothing(void) {
     make_table(0);
@@ -506,6 +526,7 @@ int main(void) {
     opens();
     closes_resets_and_ticks();
     refusals();
+    unread();
     nothing();
     make_table(0);
     make_out(0);

@@ -1,7 +1,7 @@
 -- The steps of an arrival together are the arrival: each of three laws ends a walk. Assumes nothing.
 --     arrival-refused    refused by 1 to 5
 --     arrival-unknown    refused by 6
---     arrival-settled    every other arrival, refused by 7 or 8, or not refused
+--     arrival-decided    every other arrival, refused by 7 or 8, or not refused
 use Prim.Native.Nat.{ℕ, _-_, _+_, _≤_, _<_}
 use mathlib.Core.Path.{_≡_, refl, sym, ap, _∙_}
 use mathlib.Core.Bool.{Bool, true, false, cond}
@@ -140,12 +140,12 @@ module _ (t : Table) (network : ℕ) (f out : List ℕ) where
       written decisions.duplicate m r = refl
       written decisions.rogue m r = refl
 
-      pub arrival-settled : (r : Answer) {room : Bool} {j : Judged} {u : Table} {o : List ℕ}
+      pub arrival-decided : (r : Answer) {room : Bool} {j : Judged} {u : Table} {o : List ℕ}
           → room ≡ hasRoom f out → j ≡ judged (at t i) number room → u ≡ set t i (recordOf (at t i) network j)
           → saidArrival r ≡ finished j i number f → o ≡ bytesOf j (h .at) f out
           → Meets t (arriving network f out) (record { said = saidArrival r; table = u; output = o })
       unfolding judged after answer output
-      arrival-settled r {room} {j} {u} {o} k g a b c = go (lawful (at t i)) room refl k g
+      arrival-decided r {room} {j} {u} {o} k g a b c = go (lawful (at t i)) room refl k g
         where
           go : (l m : Bool) → lawful (at t i) ≡ l → m ≡ hasRoom f out → j ≡ judged (at t i) number m
               → Meets t (arriving network f out) (record { said = saidArrival r; table = u; output = o })

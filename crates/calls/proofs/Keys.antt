@@ -3,10 +3,10 @@ use mathlib.Core.Path.{_≡_, refl}
 use Prim.Native.Nat.{ℕ}
 use mathlib.Core.Bool.{Bool, true, false, not, _&&_}
 use lib.Dec.{eqb}
+use borrow.Author.Tests.{eq-eqb, ne-eqb}
 use Rattle.record.specs.declared.Stream.{Stream}
 use Rattle.record.specs.Words.{yes}
 use Rattle.calls.specs.Table.{hasKey}
-use Rattle.calls.proofs.Bools.{same, differs}
 
 second-fails : (x y z : Bool) → y ≡ false → false ≡ (x && y && z)
 second-fails true y z e = rw e
@@ -24,12 +24,12 @@ others-hold false y z e f = refl
 module _ (dest vlan : ℕ) (s : Stream) where
   pub other-dest : (s .dest ≡ dest → ⊥) → false ≡ hasKey dest vlan s
   unfolding hasKey
-  other-dest f = second-fails (yes (s .used)) (eqb (s .dest) dest) (eqb (s .vlan) vlan) (differs _ _ f)
+  other-dest f = second-fails (yes (s .used)) (eqb (s .dest) dest) (eqb (s .vlan) vlan) (ne-eqb _ _ f)
 
   pub other-vlan : (s .vlan ≡ vlan → ⊥) → false ≡ hasKey dest vlan s
   unfolding hasKey
-  other-vlan f = third-fails (yes (s .used)) (eqb (s .dest) dest) (eqb (s .vlan) vlan) (differs _ _ f)
+  other-vlan f = third-fails (yes (s .used)) (eqb (s .dest) dest) (eqb (s .vlan) vlan) (ne-eqb _ _ f)
 
   pub same-key : s .dest ≡ dest → s .vlan ≡ vlan → not (eqb (s .used) 0) ≡ hasKey dest vlan s
   unfolding hasKey yes
-  same-key d v = others-hold (yes (s .used)) (eqb (s .dest) dest) (eqb (s .vlan) vlan) (same _ _ d) (same _ _ v)
+  same-key d v = others-hold (yes (s .used)) (eqb (s .dest) dest) (eqb (s .vlan) vlan) (eq-eqb _ _ d) (eq-eqb _ _ v)

@@ -15,7 +15,6 @@ pub mod Alike
 pub mod Halves
 pub mod Worked
 -- What the proofs of the functions rest on.
-mod Bools
 mod Keys
 mod Looks
 mod Steps

@@ -2,12 +2,12 @@
 use mathlib.Core.Path.{_≡_}
 use Prim.Native.Nat.{ℕ}
 use mathlib.Core.Bool.{Bool, true, false, _||_}
+use borrow.Author.Tests.{eq-eqb, ne-eqb}
 use Rattle.record.specs.declared.Stream.{Stream}
 use Rattle.record.specs.Words.{yes}
 use Rattle.calls.specs.Table.{isFree, orElse, foundHere}
 use Rattle.calls.specs.declared.Found.{Found}
 use Rattle.calls.specs.declared.Found.the-variants.{At, Nothing}
-use Rattle.calls.proofs.Bools.{same, differs}
 
 pub or-true : (a b : Bool) → a ≡ true → true ≡ (a || b)
 or-true a b e = rw e
@@ -20,11 +20,11 @@ free-before f g j e = rw e
 
 is-free : (s : Stream) → s .used ≡ 0 → isFree s ≡ true
 unfolding isFree yes
-is-free s e = rw (same (s .used) 0 e)
+is-free s e = rw (eq-eqb (s .used) 0 e)
 
 in-use : (s : Stream) → (s .used ≡ 0 → ⊥) → isFree s ≡ false
 unfolding isFree yes
-in-use s e = rw (differs (s .used) 0 e)
+in-use s e = rw (ne-eqb (s .used) 0 e)
 
 pub free-here : (f : Found) (s : Stream) (i : ℕ) → f ≡ Nothing → s .used ≡ 0 → At i ≡ orElse f (foundHere isFree s i)
 free-here f s i e u = rw (e, is-free s u)

@@ -8,15 +8,15 @@ use native.Mathlib.Omega.{arith}
 use lib.Dec.{ltb}
 use borrow.Author.Tests.{lt-ltb, le-ltb, eq-eqb, ne-eqb}
 use Rattle.refusal.specs.Checks.Said.{refused, answers}
-use Rattle.refusal.specs.Numbers.{TABLE, NETWORK, DAMAGED, ROOM, SETTING, TAKEN, FULL, SLOT}
+use Rattle.refusal.specs.Numbers.{TABLE, NETWORK, DAMAGED, ROOM, TAKEN, FULL, SLOT}
 use Rattle.record.specs.declared.Stream.{Stream}
 use Rattle.record.specs.Words.{yes}
 use Rattle.record.specs.Sizes.{slotsMost}
 use Rattle.frame.specs.TagCalls.{saidRead, refusalOf}
 use Rattle.frame.specs.Frame.{readOf}
 use Rattle.frame.specs.declared.Header.{Header}
-use Rattle.frame.specs.declared.Read.{Read}
-use Rattle.frame.specs.declared.Read.the-variants as read
+use Rattle.frame.specs.declared.TagRead.{TagRead}
+use Rattle.frame.specs.declared.TagRead.the-variants as read
 use Rattle.stream.specs.Record.{settled, lawful, closed}
 use Rattle.stream.specs.Decisions as decisions
 use Rattle.stream.specs.declared.Weighed.{Weighed}
@@ -47,10 +47,10 @@ module _ (slots network : ℕ) (f : List ℕ) where
     unfolding asked
     reads = simp (le-ltb _ _ few, le-ltb _ _ net)
 
-    pub ask-refused : {r : Read} {n m : ℕ} → saidRead r ≡ readOf f → r ≡ read.Refused m → n ≡ refusalOf r → refused n ≡ asked slots network f
+    pub ask-refused : {r : TagRead} {n m : ℕ} → saidRead r ≡ readOf f → r ≡ read.Refused m → n ≡ refusalOf r → refused n ≡ asked slots network f
     ask-refused p q e = rw (e ∙ ap refusalOf q) (ap saidRead (sym q) ∙ p ∙ sym reads)
 
-    pub ask-tagged : {r : Read} {h : Header} {number : ℕ} → saidRead r ≡ readOf f → r ≡ read.Tagged h number
+    pub ask-tagged : {r : TagRead} {h : Header} {number : ℕ} → saidRead r ≡ readOf f → r ≡ read.Tagged h number
         → answers (record { header = h; number = number }) ≡ asked slots network f
     ask-tagged p q = ap saidRead (sym q) ∙ p ∙ sym reads
 
@@ -83,28 +83,18 @@ module _ (s : Stream) (number : ℕ) (room : Bool) where
 -- ---- place
 
 module _ (slots : ℕ) (v : Survey) (s : Stream) where
-  pub place-many : slotsMost < slots → notPlaced slots s TABLE ≡ placingOf slots v s
+  pub place-taken : v .taken ≡ true → notPlaced slots s TAKEN ≡ placingOf slots v s
   unfolding placingOf
-  place-many m = simp (lt-ltb _ _ m)
+  place-taken e = simp e
 
-  module _ (few : slots ≤ slotsMost) where
-    pub place-setting : settled s ≡ false → notPlaced slots s SETTING ≡ placingOf slots v s
+  module _ (new : v .taken ≡ false) where
+    pub place-at : {i : ℕ} → v .free ≡ At i → record { answer = opened.At i; slot = i; stream = s } ≡ placingOf slots v s
     unfolding placingOf
-    place-setting e = simp (le-ltb _ _ few, e)
+    place-at e = simp (new, e)
 
-    module _ (ok : settled s ≡ true) where
-      pub place-taken : v .taken ≡ true → notPlaced slots s TAKEN ≡ placingOf slots v s
-      unfolding placingOf
-      place-taken e = simp (le-ltb _ _ few, ok, e)
-
-      module _ (new : v .taken ≡ false) where
-        pub place-at : {i : ℕ} → v .free ≡ At i → record { answer = opened.At i; slot = i; stream = s } ≡ placingOf slots v s
-        unfolding placingOf
-        place-at e = simp (le-ltb _ _ few, ok, new, e)
-
-        pub place-full : v .free ≡ Nothing → notPlaced slots s FULL ≡ placingOf slots v s
-        unfolding placingOf
-        place-full e = simp (le-ltb _ _ few, ok, new, e)
+    pub place-full : v .free ≡ Nothing → notPlaced slots s FULL ≡ placingOf slots v s
+    unfolding placingOf
+    place-full e = simp (new, e)
 
 -- ---- close and reset
 
@@ -116,32 +106,23 @@ pub used-slot : (slots slot : ℕ) (s : Stream) → (s .used ≡ 0 → ⊥) → 
 unfolding yes
 used-slot slots slot s e = rw (ne-eqb _ _ e) (sym (and-true (ltb slot slots)))
 
-module _ (slots slot : ℕ) (s : Stream) where
-  pub close-many : slotsMost < slots → unchanged slots s TABLE ≡ closeChange slots slot s
+module _ (slots slot : ℕ) (s : Stream) {u : Bool} (is : u ≡ (ltb slot slots && yes (s .used))) where
+  pub close-none : u ≡ false → unchanged slots s SLOT ≡ closeChange slots slot s
   unfolding closeChange
-  close-many m = simp (lt-ltb _ _ m)
+  close-none e = simp (sym is ∙ e)
 
-  pub reset-many : slotsMost < slots → unchanged slots s TABLE ≡ resetChange slots slot s
+  pub close-done : {r : Stream} → u ≡ true → r ≡ closed s → record { answer = done.Ok; slot = slot; stream = r } ≡ closeChange slots slot s
+  unfolding closeChange
+  close-done e p = rw p (simp (sym is ∙ e))
+
+  pub reset-none : u ≡ false → unchanged slots s SLOT ≡ resetChange slots slot s
   unfolding resetChange
-  reset-many m = simp (lt-ltb _ _ m)
+  reset-none e = simp (sym is ∙ e)
 
-  module _ (few : slots ≤ slotsMost) {u : Bool} (is : u ≡ (ltb slot slots && yes (s .used))) where
-    pub close-none : u ≡ false → unchanged slots s SLOT ≡ closeChange slots slot s
-    unfolding closeChange
-    close-none e = simp (le-ltb _ _ few, sym is ∙ e)
+  pub reset-unsettled : u ≡ true → settled s ≡ false → unchanged slots s DAMAGED ≡ resetChange slots slot s
+  unfolding resetChange
+  reset-unsettled e o = simp (sym is ∙ e, o)
 
-    pub close-done : {r : Stream} → u ≡ true → r ≡ closed s → record { answer = done.Ok; slot = slot; stream = r } ≡ closeChange slots slot s
-    unfolding closeChange
-    close-done e p = rw p (simp (le-ltb _ _ few, sym is ∙ e))
-
-    pub reset-none : u ≡ false → unchanged slots s SLOT ≡ resetChange slots slot s
-    unfolding resetChange
-    reset-none e = simp (le-ltb _ _ few, sym is ∙ e)
-
-    pub reset-unsettled : u ≡ true → settled s ≡ false → unchanged slots s DAMAGED ≡ resetChange slots slot s
-    unfolding resetChange
-    reset-unsettled e o = simp (le-ltb _ _ few, sym is ∙ e, o)
-
-    pub reset-done : {r : Stream} → u ≡ true → settled s ≡ true → r ≡ decisions.reset s → record { answer = done.Ok; slot = slot; stream = r } ≡ resetChange slots slot s
-    unfolding resetChange
-    reset-done e o p = rw p (simp (le-ltb _ _ few, sym is ∙ e, o))
+  pub reset-done : {r : Stream} → u ≡ true → settled s ≡ true → r ≡ decisions.reset s → record { answer = done.Ok; slot = slot; stream = r } ≡ resetChange slots slot s
+  unfolding resetChange
+  reset-done e o p = rw p (simp (sym is ∙ e, o))

@@ -17,10 +17,10 @@ use Rattle.stream.specs.declared.Ticked.{Ticked}
 use Rattle.calls.specs.Table.{Table, count}
 use Rattle.calls.specs.Ticks.{tickedAll, sums, noSums, visited}
 use Rattle.calls.specs.declared.Sums.{Sums}
-use Rattle.calls.specs.declared.Turn.{Turn}
+use Rattle.calls.specs.declared.Visited.{Visited}
 
 pub visits : (c : Sums) (s : Stream) (k : Ticked) (m d : ℕ) → k ≡ tickOf s → m ≡ counted (k .reset) (c .resets) → d ≡ counted (k .damaged) (c .damaged)
-    → _≡_ {A = Turn} (record { stream = k .stream; sums = record { resets = m; damaged = d } }) (visited c s)
+    → _≡_ {A = Visited} (record { stream = k .stream; sums = record { resets = m; damaged = d } }) (visited c s)
 unfolding visited tickOf
 visits c s k m d e f g i = record {
   stream = e i .stream;

@@ -7,7 +7,7 @@ use lib.Dec.{ltb, leb}
 use lib.ListN.{length}
 use Rattle.refusal.specs.Checks.{Said}
 use Rattle.refusal.specs.Checks.Said.{refused, answers}
-use Rattle.refusal.specs.Numbers.{TABLE, NETWORK, DAMAGED, ROOM, SETTING, TAKEN, FULL, SLOT}
+use Rattle.refusal.specs.Numbers.{TABLE, NETWORK, DAMAGED, ROOM, TAKEN, FULL, SLOT}
 use Rattle.record.specs.declared.Stream.{Stream}
 use Rattle.record.specs.Words.{if_then_else_, yes}
 use Rattle.record.specs.Sizes.{slotsMost}
@@ -88,7 +88,7 @@ bytesOf (judges.HandedUp m) o f out = writtenWithout f o out
 bytesOf judges.Duplicate o f out = out
 bytesOf judges.Rogue o f out = out
 
--- ---- open, close and reset: the answer, and what is stored in which slot
+-- ---- open, close and reset, once 1 (and of an open also 9) is passed: the answer, and what is stored in which slot
 
 -- A refused call stores nothing: its slot is the number of slots, which lies beyond the table.
 abbrev pub notPlaced : (slots : ℕ) → Stream → (number : ℕ) → Placing
@@ -98,28 +98,24 @@ abbrev pub placedAt : (slots : ℕ) → Stream → (free : Found) → Placing
 placedAt slots s (found.At i) = record { answer = opened.At i; slot = i; stream = s }
 placedAt slots s found.Nothing = notPlaced slots s FULL
 
--- Open: 1, 9, 10, 11, by a survey of the table; s is the record that it would store.
+-- Open: 10, 11, by a survey of the table; s is the record that it would store.
 unfoldable pub placingOf : (slots : ℕ) → Survey → Stream → Placing
 placingOf slots v s =
-    if ltb slotsMost slots then notPlaced slots s TABLE
-    else if not (settled s) then notPlaced slots s SETTING
-    else if v .taken then notPlaced slots s TAKEN
+    if v .taken then notPlaced slots s TAKEN
     else placedAt slots s (v .free)
 
 abbrev pub unchanged : (slots : ℕ) → Stream → (number : ℕ) → Change
 unchanged slots s n = record { answer = done.Refused n; slot = slots; stream = s }
 
--- Close: 1, 12; s is the record in the slot.
+-- Close: 12; s is the record in the slot.
 unfoldable pub closeChange : (slots slot : ℕ) → Stream → Change
 closeChange slots i s =
-    if ltb slotsMost slots then unchanged slots s TABLE
-    else if not (ltb i slots && yes (s .used)) then unchanged slots s SLOT
+    if not (ltb i slots && yes (s .used)) then unchanged slots s SLOT
     else record { answer = done.Ok; slot = i; stream = closed s }
 
--- Reset: 1, 12, 7.
+-- Reset: 12, 7.
 unfoldable pub resetChange : (slots slot : ℕ) → Stream → Change
 resetChange slots i s =
-    if ltb slotsMost slots then unchanged slots s TABLE
-    else if not (ltb i slots && yes (s .used)) then unchanged slots s SLOT
+    if not (ltb i slots && yes (s .used)) then unchanged slots s SLOT
     else if not (settled s) then unchanged slots s DAMAGED
     else record { answer = done.Ok; slot = i; stream = reset s }

@@ -5,7 +5,7 @@ use Rattle.stream.specs.Record.{damaged}
 use Rattle.stream.specs.Decisions.{counted, expires, ticked}
 use Rattle.calls.specs.Table.{Table, count}
 use Rattle.calls.specs.declared.Sums.{Sums}
-use Rattle.calls.specs.declared.Turn.{Turn}
+use Rattle.calls.specs.declared.Visited.{Visited}
 
 -- the table after it: every record has its tick
 unfoldable pub tickedAll : Table → Table
@@ -19,7 +19,7 @@ sums t = record { resets = count expires t; damaged = count damaged t }
 abbrev pub noSums : Sums
 noSums = record { resets = 0; damaged = 0 }
 
-unfoldable pub visited : Sums → Stream → Turn
+unfoldable pub visited : Sums → Stream → Visited
 visited c s = record {
   stream = ticked s;
   sums = record { resets = counted (expires s) (c .resets); damaged = counted (damaged s) (c .damaged) };

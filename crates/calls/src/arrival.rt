@@ -4,7 +4,7 @@ use super::Answer;
 use super::Asked;
 use super::Judged;
 use super::Verdict;
-use frame::Read;
+use frame::TagRead;
 use record::Stream;
 use stream::Weighed;
 ghost use mathlib.Core.Path.{_≡_};
@@ -26,7 +26,7 @@ pub fn ask(slots: usize, network: u8, frame: &[u8]) -> Asked
         return Asked::Refused(refusal::NETWORK);
     }
     let got = frame::read_tag(frame);
-    let Read::Tagged(h, number) = got else {
+    let TagRead::Tagged(h, number) = got else {
         return Asked::Refused(frame::refusal_of(got));
     };
     Asked::For(h, number)

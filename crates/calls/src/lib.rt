@@ -199,7 +199,7 @@ pub struct Sums {
 }
 
 // A record after its tick, and what was counted so far.
-pub struct Turn {
+pub struct Visited {
     pub stream: Stream,
     pub sums: Sums,
 }
@@ -215,7 +215,7 @@ pub fn no_sums() -> Sums
 }
 
 // The tick of one record, after those that c counts.
-pub fn visit(c: Sums, s: Stream) -> Turn
+pub fn visit(c: Sums, s: Stream) -> Visited
     ensures { λ r. ⌜ r ≡ visited c s ⌝ }
 {
     let k = stream::tick(s);
@@ -223,5 +223,5 @@ pub fn visit(c: Sums, s: Stream) -> Turn
     let damaged = stream::counted(k.damaged, c.damaged);
     let stream = k.stream;
     let sums = Sums { resets, damaged };
-    Turn { stream, sums }
+    Visited { stream, sums }
 }

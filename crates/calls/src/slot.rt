@@ -1,5 +1,5 @@
-// Open, close and reset: what they answer, and what they store in which slot (document 01, "Calls and the order of
-// checks").
+// Open, close and reset once 1 (and of an open also 9) is passed: what they answer, and what they store in which slot
+// (document 01, "Calls and the order of checks").
 use super::Change;
 use super::Done;
 use super::Found;
@@ -11,28 +11,12 @@ ghost use mathlib.Core.Path.{_≡_};
 ghost use mathlib.Core.Bool.{_&&_};
 ghost use lib.Dec.{ltb};
 ghost use Rattle.record.specs.Words.{yes};
-ghost use Rattle.stream.specs.Record.{opened};
 ghost use Rattle.calls.specs.Steps.{notPlaced, placingOf, unchanged, closeChange, resetChange};
 
-// Open: 1, 9, 10, 11 from a survey of the table, else a fresh record for the lowest free slot.
-pub fn place(
-    slots: usize,
-    v: Survey,
-    dest: u64,
-    vlan: u16,
-    rule: u8,
-    window: u16,
-    time: u16,
-) -> Placing
-    ensures { λ r. ⌜ r ≡ placingOf slots v (opened dest vlan rule window time) ⌝ }
+// Open: 10, 11 from a survey of the table, else the new record s for the lowest free slot.
+pub fn place(slots: usize, v: Survey, s: Stream) -> Placing
+    ensures { λ r. ⌜ r ≡ placingOf slots v s ⌝ }
 {
-    let s = stream::opened(dest, vlan, rule, window, time);
-    if slots > Stream::SLOTS_MOST {
-        return not_placed(slots, s, refusal::TABLE);
-    }
-    if !stream::settled(s) {
-        return not_placed(slots, s, refusal::SETTING);
-    }
     if v.taken {
         return not_placed(slots, s, refusal::TAKEN);
     }
@@ -57,13 +41,10 @@ fn not_placed(slots: usize, s: Stream, n: u8) -> Placing
     }
 }
 
-// Close: 1, 12, else the slot becomes free. s is the record in the slot, or any free one beyond the table.
+// Close: 12, else the slot becomes free. s is the record in the slot, or any free one beyond the table.
 pub fn close(slots: usize, slot: usize, s: Stream) -> Change
     ensures { λ r. ⌜ r ≡ closeChange slots slot s ⌝ }
 {
-    if slots > Stream::SLOTS_MOST {
-        return unchanged(slots, s, refusal::TABLE);
-    }
     if !in_use(slots, slot, s) {
         return unchanged(slots, s, refusal::SLOT);
     }
@@ -75,13 +56,10 @@ pub fn close(slots: usize, slot: usize, s: Stream) -> Change
     }
 }
 
-// Reset: 1, 12, 7, else fresh state, resets rises.
+// Reset: 12, 7, else fresh state, resets rises.
 pub fn reset(slots: usize, slot: usize, s: Stream) -> Change
     ensures { λ r. ⌜ r ≡ resetChange slots slot s ⌝ }
 {
-    if slots > Stream::SLOTS_MOST {
-        return unchanged(slots, s, refusal::TABLE);
-    }
     if !in_use(slots, slot, s) {
         return unchanged(slots, s, refusal::SLOT);
     }

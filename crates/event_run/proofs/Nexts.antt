@@ -2,7 +2,7 @@
 use mathlib.Core.Path.{_≡_, refl}
 use Prim.Native.Nat.{ℕ, _+_, _≤_, _<_}
 use native.Mathlib.Omega.{arith}
-use mathlib.Core.Bool.{Bool, true, false, _&&_}
+use mathlib.Core.Bool.{Bool, true, false, _&&_, and-false}
 use mathlib.Core.List.{List}
 use lib.ListN.{length}
 use lib.Dec.{ltb, leb}
@@ -15,10 +15,6 @@ use Rattle.event_file.specs.declared.reader.Read.the-variants.{More, Body}
 use Rattle.event_file.proofs.Framing.{Whole, whole-is}
 use Rattle.event_run.specs.declared.Place.{Place}
 use Rattle.event_run.specs.Run.{lastNumber, nextOf}
-
-and-false : (b : Bool) → (b && false) ≡ false
-and-false true = refl
-and-false false = refl
 
 module _ (p : Place) (input : List ℕ) (room : ℕ) where
   pub no-room : room < p .used + lineMost → More ≡ nextOf p input room

@@ -18,8 +18,8 @@ use Rattle.frame.specs.TagCalls.{saidHead, saidRead}
 use Rattle.frame.specs.declared.Header.{Header}
 use Rattle.frame.specs.declared.Head.{Head}
 use Rattle.frame.specs.declared.Head.the-variants.{Short, Whole}
-use Rattle.frame.specs.declared.Read.{Read}
-use Rattle.frame.specs.declared.Read.the-variants.{Tagged}
+use Rattle.frame.specs.declared.TagRead.{TagRead}
+use Rattle.frame.specs.declared.TagRead.the-variants.{Tagged}
 
 -- ---- the type field
 
@@ -159,7 +159,7 @@ tag-of f t p =
     let same : t .header ≡ headerOf f = ap (λ x. x .header) tag in
     record { few = ltb-false _ _ (a .0); room = ltb-false _ _ (rw g at (d .0)); tagged = g; at = ap (λ x. x .at) same; number = ap (λ x. x .number) tag; same = same }
 
-pub tag-is : (f : List ℕ) {r : Read} (h : Header) (n : ℕ) → saidRead r ≡ readOf f → r ≡ Tagged h n → TagIs f h n
+pub tag-is : (f : List ℕ) {r : TagRead} (h : Header) (n : ℕ) → saidRead r ≡ readOf f → r ≡ Tagged h n → TagIs f h n
 tag-is f h n p q = tag-of f (record { header = h; number = n }) (sym p ∙ ap saidRead q)
 
 -- and the other way

@@ -15,8 +15,8 @@ use Rattle.frame.specs.TagCalls.{takeFrom, takeTag, writeInto, writeTag,
 use Rattle.frame.specs.Laws.{DestSix, TakeRefusedKeeps, WriteRefusedKeeps, Coincide, AnswersTell}
 use Rattle.frame.specs.declared.Head.{Head}
 use Rattle.frame.specs.declared.Head.the-variants as head
-use Rattle.frame.specs.declared.Read.{Read}
-use Rattle.frame.specs.declared.Read.the-variants as read
+use Rattle.frame.specs.declared.TagRead.{TagRead}
+use Rattle.frame.specs.declared.TagRead.the-variants as read
 use Rattle.frame.specs.declared.Taken.{Taken}
 use Rattle.frame.specs.declared.Taken.the-variants as taken
 use Rattle.frame.specs.declared.Written.{Written}
@@ -55,7 +55,7 @@ answers-tell = (heads, reads, takens, writtens)
     heads (head.Whole h) head.Short e = cc
     heads (head.Whole h) (head.Whole k) e = cc
 
-    reads : (r s : Read) → saidRead r ≡ saidRead s → r ≡ s
+    reads : (r s : TagRead) → saidRead r ≡ saidRead s → r ≡ s
     reads (read.Refused n) (read.Refused m) e = cc
     reads (read.Refused n) (read.Tagged h m) e = cc
     reads (read.Tagged h n) (read.Refused m) e = cc

@@ -17,8 +17,8 @@ use Rattle.frame.specs.Bytes.{overlay}
 use Rattle.frame.specs.Frame.{typeAt, hasVlan, isTagged, headShort, readOf, cutAt, tagAt, tagged, writeOf}
 use Rattle.frame.specs.TagCalls.{Outcome, takeTag, takeFrom, writeInto, writeTag, saidRead, refusalOf, typePlace, cutFits, writtenWithout, tagFits, writtenWith}
 use Rattle.frame.specs.declared.Header.{Header}
-use Rattle.frame.specs.declared.Read.{Read}
-use Rattle.frame.specs.declared.Read.the-variants.{Refused, Tagged}
+use Rattle.frame.specs.declared.TagRead.{TagRead}
+use Rattle.frame.specs.declared.TagRead.the-variants.{Refused, Tagged}
 use Rattle.frame.proofs.Heads.{head-whole, head-room, HeadIs, tag-is}
 
 -- ---- where a type field can stand
@@ -121,12 +121,12 @@ picks-keeps false a out new k e = absurd (let z : _≡_ {A = ℕ} 0 1 = cc in om
 -- ---- taking a tag out
 
 module _ (f out : List ℕ) where
-  pub take-refused : {r : Read} {n m : ℕ} → saidRead r ≡ readOf f → r ≡ Refused m → n ≡ refusalOf r
+  pub take-refused : {r : TagRead} {n m : ℕ} → saidRead r ≡ readOf f → r ≡ Refused m → n ≡ refusalOf r
       → (refused n ≡ takeTag f out .said) × (out ≡ takeTag f out .bytes)
   unfolding takeTag takeFrom
   take-refused p q e = rw (sym p ∙ ap saidRead q, e ∙ ap refusalOf q) (refl, refl)
 
-  module _ {r : Read} (h : Header) (n : ℕ) (p : saidRead r ≡ readOf f) (q : r ≡ Tagged h n) where
+  module _ {r : TagRead} (h : Header) (n : ℕ) (p : saidRead r ≡ readOf f) (q : r ≡ Tagged h n) where
     pub take-small : length out < length f - 6 → (refused ROOM ≡ takeTag f out .said) × (out ≡ takeTag f out .bytes)
     unfolding takeTag takeFrom
     take-small s = rw (sym p ∙ ap saidRead q) (simp (lt-ltb _ _ s) (refl, refl))

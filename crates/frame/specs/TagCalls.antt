@@ -15,8 +15,8 @@ use Rattle.frame.specs.Frame.{Tag, readOf, writeOf, cutAt, tagAt, untagg
 use Rattle.frame.specs.declared.Header.{Header}
 use Rattle.frame.specs.declared.Head.{Head}
 use Rattle.frame.specs.declared.Head.the-variants as head
-use Rattle.frame.specs.declared.Read.{Read}
-use Rattle.frame.specs.declared.Read.the-variants as read
+use Rattle.frame.specs.declared.TagRead.{TagRead}
+use Rattle.frame.specs.declared.TagRead.the-variants as read
 use Rattle.frame.specs.declared.Taken.{Taken}
 use Rattle.frame.specs.declared.Taken.the-variants as taken
 use Rattle.frame.specs.declared.Written.{Written}
@@ -58,12 +58,12 @@ abbrev pub saidHead : Head → Said Header
 saidHead head.Short = refused SHORT
 saidHead (head.Whole h) = answers h
 
-abbrev pub saidRead : Read → Said Tag
+abbrev pub saidRead : TagRead → Said Tag
 saidRead (read.Refused n) = refused n
 saidRead (read.Tagged h n) = answers (record { header = h; number = n })
 
 -- a refusal's number, and 0 for a frame that is not refused
-abbrev pub refusalOf : Read → ℕ
+abbrev pub refusalOf : TagRead → ℕ
 refusalOf (read.Refused n) = n
 refusalOf (read.Tagged h n) = 0
 

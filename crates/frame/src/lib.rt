@@ -26,7 +26,7 @@ pub enum Head {
 }
 
 // A tagged frame's header and number, or the number of its refusal.
-pub enum Read {
+pub enum TagRead {
     Refused(u8),
     Tagged(Header, u16),
 }
@@ -112,32 +112,32 @@ pub fn read_head(frame: &[u8]) -> Head
 }
 
 // What an arrival and the call that takes a tag out read of a frame: refusals 3, 4 and 5, or the tag.
-pub fn read_tag(frame: &[u8]) -> Read
+pub fn read_tag(frame: &[u8]) -> TagRead
     ensures { λ r. ⌜ saidRead r ≡ readOf (now (frame .entry)) ⌝ }
 {
     if frame.len() > Stream::FRAME_MOST {
-        return Read::Refused(refusal::LONG);
+        return TagRead::Refused(refusal::LONG);
     }
     let Head::Whole(h) = read_head(frame) else {
-        return Read::Refused(refusal::SHORT);
+        return TagRead::Refused(refusal::SHORT);
     };
     if !h.tagged {
-        return Read::Refused(refusal::UNTAGGED);
+        return TagRead::Refused(refusal::UNTAGGED);
     }
     let at = h.at;
     if frame.len() < at + 8 {
-        return Read::Refused(refusal::SHORT);
+        return TagRead::Refused(refusal::SHORT);
     }
-    Read::Tagged(h, word_at(frame, at + 4))
+    TagRead::Tagged(h, word_at(frame, at + 4))
 }
 
 // The number of a refusal, for the else of a `let .. else`; 0 for a frame that is not refused.
-pub fn refusal_of(r: Read) -> u8
+pub fn refusal_of(r: TagRead) -> u8
     ensures { λ n. ⌜ n ≡ refusalOf r ⌝ }
 {
     match r {
-        Read::Refused(n) => n,
-        Read::Tagged(_, _) => 0,
+        TagRead::Refused(n) => n,
+        TagRead::Tagged(_, _) => 0,
     }
 }
 
@@ -261,7 +261,7 @@ pub fn take_tag(frame: &[u8], out: &mut [u8]) -> Taken
     ensures { λ _. ⌜ now (out .exit) ≡ takeTag (now (frame .entry)) (now (out .entry)) .bytes ⌝ }
 {
     let got = read_tag(frame);
-    let Read::Tagged(h, number) = got else {
+    let TagRead::Tagged(h, number) = got else {
         return Taken::Refused(refusal_of(got));
     };
     let at = h.at;

@@ -5,8 +5,8 @@ use mathlib.Core.List.{List}
 use Rattle.refusal.specs.Checks.{Said}
 use Rattle.calls.specs.Table.{Table}
 use Rattle.calls.specs.Calls.{Call, Answer, Meets}
-use Rattle.port.specs.Answers.{Told}
+use Rattle.port.specs.Answers.{MeetsInC}
 
 pub meets-told : {A : Type 0} (tell : Said Answer → A) (t : Table) (c : Call) {r : A} {s : Said Answer} {zs : Table} {bytes : List ℕ}
-    → Meets t c (record { said = s; table = zs; output = bytes }) → r ≡ tell s → Told tell t c r zs bytes
+    → Meets t c (record { said = s; table = zs; output = bytes }) → r ≡ tell s → MeetsInC tell t c r zs bytes
 meets-told tell t c m e = record { said = e ∙ ap tell (m .said); table = m .table; output = m .output }

@@ -1,6 +1,6 @@
 -- Nothing is lost in what the calls tell, and what ends a walk.
 pub mod Tags
 pub mod Answers
-pub mod Told
+pub mod NothingLost
 -- What the walks name.
 mod Values

@@ -51,7 +51,7 @@ tellSwept (answers done) = record { resets = 0; damaged = 0; refusal = 0 }
 
 -- The contract of every exported call on a table: what document 01 says of the call is told, and the table and the output
 -- bytes are those that it gives.
-pub record Told {A : Type 0} (tell : Said Answer → A) (t : Table) (c : Call) (told : A) (rows : Table) (bytes : List ℕ) : Type 0 where
+pub record MeetsInC {A : Type 0} (tell : Said Answer → A) (t : Table) (c : Call) (told : A) (rows : Table) (bytes : List ℕ) : Type 0 where
   pub said : told ≡ tell (answer t (act t c))
   pub table : rows ≡ after t (act t c)
   pub output : bytes ≡ output t (outOf c) (act t c)

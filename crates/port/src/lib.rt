@@ -6,7 +6,7 @@ ghost use Rattle.frame.specs.TagCalls.{takeTag, writeTag};
 ghost use Rattle.calls.specs.Calls.{arriving, opening, closing, resetting, ticking};
 ghost use Rattle.calls.specs.Said.{saidVerdict, saidArrival, saidOpened, saidDone, saidSwept};
 ghost use Rattle.port.specs.Tags.{tellTaken, tellWritten};
-ghost use Rattle.port.specs.Answers.{tellVerdict, tellArrival, tellOpened, tellDone, tellSwept, Told};
+ghost use Rattle.port.specs.Answers.{tellVerdict, tellArrival, tellOpened, tellDone, tellSwept, MeetsInC};
 use calls::Answer;
 use calls::Done;
 use calls::Opened;
@@ -191,7 +191,7 @@ pub extern "C" fn nippitsun_arrival(
     frame: &[u8],
     out: &mut [u8],
 ) -> ArrivalAnswer
-    ensures { λ r. ⌜ Told tellArrival (now (table .entry)) (arriving network (now (frame .entry)) (now (out .entry))) r (now (table .exit)) (now (out .exit)) ⌝ }
+    ensures { λ r. ⌜ MeetsInC tellArrival (now (table .entry)) (arriving network (now (frame .entry)) (now (out .entry))) r (now (table .exit)) (now (out .exit)) ⌝ }
 {
     let a = receiver::arrival(table, network, frame, out);
     tell_arrival(a)
@@ -200,7 +200,7 @@ pub extern "C" fn nippitsun_arrival(
 // Close.
 #[no_mangle]
 pub extern "C" fn nippitsun_close(table: &mut [Stream], slot: usize) -> u8
-    ensures { λ r. ⌜ Told tellDone (now (table .entry)) (closing slot) r (now (table .exit)) [] ⌝ }
+    ensures { λ r. ⌜ MeetsInC tellDone (now (table .entry)) (closing slot) r (now (table .exit)) [] ⌝ }
 {
     let a = receiver::close(table, slot);
     tell_done(a)
@@ -209,7 +209,7 @@ pub extern "C" fn nippitsun_close(table: &mut [Stream], slot: usize) -> u8
 // Reset.
 #[no_mangle]
 pub extern "C" fn nippitsun_reset(table: &mut [Stream], slot: usize) -> u8
-    ensures { λ r. ⌜ Told tellDone (now (table .entry)) (resetting slot) r (now (table .exit)) [] ⌝ }
+    ensures { λ r. ⌜ MeetsInC tellDone (now (table .entry)) (resetting slot) r (now (table .exit)) [] ⌝ }
 {
     let a = receiver::reset(table, slot);
     tell_done(a)
@@ -218,7 +218,7 @@ pub extern "C" fn nippitsun_reset(table: &mut [Stream], slot: usize) -> u8
 // Tick.
 #[no_mangle]
 pub extern "C" fn nippitsun_tick(table: &mut [Stream]) -> TickAnswer
-    ensures { λ r. ⌜ Told tellSwept (now (table .entry)) ticking r (now (table .exit)) [] ⌝ }
+    ensures { λ r. ⌜ MeetsInC tellSwept (now (table .entry)) ticking r (now (table .exit)) [] ⌝ }
 {
     let a = receiver::tick(table);
     tell_swept(a)
@@ -234,7 +234,7 @@ pub extern "C" fn nippitsun_open(
     window: u16,
     time: u16,
 ) -> SlotAnswer
-    ensures { λ r. ⌜ Told tellOpened (now (table .entry)) (opening (now (dest .entry)) vlan rule window time) r (now (table .exit)) [] ⌝ }
+    ensures { λ r. ⌜ MeetsInC tellOpened (now (table .entry)) (opening (now (dest .entry)) vlan rule window time) r (now (table .exit)) [] ⌝ }
 {
     let d = six_of(dest);
     let a = receiver::open(table, d, vlan, rule, window, time);

@@ -6,9 +6,9 @@ use denote.Enum.Laws as Enum-laws
 use Rattle.calls.specs.declared.Found.{Found}
 use Rattle.calls.proofs.Found as Found-type
 use Rattle.calls.proofs.Found.Laws as Found-laws
-use Rattle.calls.specs.declared.Turn.{Turn}
-use Rattle.calls.proofs.Turn as Turn-type
-use Rattle.calls.proofs.Turn.Laws as Turn-laws
+use Rattle.calls.specs.declared.Visited.{Visited}
+use Rattle.calls.proofs.Visited as Visited-type
+use Rattle.calls.proofs.Visited.Laws as Visited-laws
 use Rattle.calls.specs.declared.Change.{Change}
 use Rattle.calls.proofs.Change as Change-type
 use Rattle.calls.proofs.Change.Laws as Change-laws
@@ -18,6 +18,12 @@ use Rattle.calls.proofs.Placing.Laws as Placing-laws
 use Rattle.calls.specs.declared.Sums.{Sums}
 use Rattle.calls.proofs.Sums as Sums-type
 use Rattle.calls.proofs.Sums.Laws as Sums-laws
+use Rattle.calls.specs.declared.Opened.{Opened}
+use Rattle.calls.proofs.Opened as Opened-type
+use Rattle.calls.proofs.Opened.Laws as Opened-laws
+use Rattle.calls.specs.declared.Done.{Done}
+use Rattle.calls.proofs.Done as Done-type
+use Rattle.calls.proofs.Done.Laws as Done-laws
 use Rattle.calls.specs.declared.Swept.{Swept}
 use Rattle.calls.proofs.Swept as Swept-type
 use Rattle.calls.proofs.Swept.Laws as Swept-laws
@@ -28,7 +34,7 @@ use Rattle.calls.specs.declared.Asked.{Asked}
 use Rattle.calls.proofs.Asked as Asked-type
 use Rattle.calls.proofs.Asked.Laws as Asked-laws
 use Rattle.receiver.proofs.Rows.{Ok}
-use Rattle.receiver.proofs.Values.{sums-ok, turn-ok, change-ok, placing-ok, header-ok}
+use Rattle.receiver.proofs.Values.{sums-ok, visited-ok, change-ok, placing-ok, header-ok}
 use Rattle.receiver.proofs.Enums.{found-ok, done-ok, swept-ok, opened-ok, asked-ok}
 
 pub at-ok : (i : ℕ) → i < 2 ^ 64 → found-ok (Found.At i)
@@ -40,11 +46,11 @@ nothing-ok = Enum-laws.owes Found-type.the-type Found-laws.the-laws Found.Nothin
 pub at-fits : (i : ℕ) → found-ok (Found.At i) → i < 2 ^ 64
 at-fits i g = Enum-laws.owed Found-type.the-type Found-laws.the-laws (Found.At i) _ g .0 .1
 
-pub turn-stream : (v : Turn) → turn-ok v → Ok (v .stream)
-turn-stream v g = Struct-laws.owed Turn-type.the-type Turn-laws.the-laws v _ g .0
+pub visited-stream : (v : Visited) → visited-ok v → Ok (v .stream)
+visited-stream v g = Struct-laws.owed Visited-type.the-type Visited-laws.the-laws v _ g .0
 
-pub turn-sums : (v : Turn) → turn-ok v → sums-ok (v .sums)
-turn-sums v g = Struct-laws.owed Turn-type.the-type Turn-laws.the-laws v _ g .1 .0
+pub visited-sums : (v : Visited) → visited-ok v → sums-ok (v .sums)
+visited-sums v g = Struct-laws.owed Visited-type.the-type Visited-laws.the-laws v _ g .1 .0
 
 -- ---- what a close or a reset answers and stores; what an open does
 
@@ -66,10 +72,16 @@ placing-slot v g = Struct-laws.owed Placing-type.the-type Placing-laws.the-laws 
 pub placing-stream : (v : Placing) → placing-ok v → Ok (v .stream)
 placing-stream v g = Struct-laws.owed Placing-type.the-type Placing-laws.the-laws v _ g .1 .1 .0
 
--- ---- the answers of a tick
+-- ---- the answers that a walk makes itself
 
-pub refused-ok : (n : ℕ) → n < 2 ^ 8 → swept-ok (Swept.Refused n)
-refused-ok n g = Enum-laws.owes Swept-type.the-type Swept-laws.the-laws (Swept.Refused n) ((refl, g), tt)
+pub opened-refused : (n : ℕ) → n < 2 ^ 8 → opened-ok (Opened.Refused n)
+opened-refused n g = Enum-laws.owes Opened-type.the-type Opened-laws.the-laws (Opened.Refused n) ((refl, g), tt)
+
+pub done-refused : (n : ℕ) → n < 2 ^ 8 → done-ok (Done.Refused n)
+done-refused n g = Enum-laws.owes Done-type.the-type Done-laws.the-laws (Done.Refused n) ((refl, g), tt)
+
+pub swept-refused : (n : ℕ) → n < 2 ^ 8 → swept-ok (Swept.Refused n)
+swept-refused n g = Enum-laws.owes Swept-type.the-type Swept-laws.the-laws (Swept.Refused n) ((refl, g), tt)
 
 pub counted-ok : (c : Sums) → sums-ok c → swept-ok (Swept.Counted (c .resets) (c .damaged))
 counted-ok c g =

@@ -27,9 +27,9 @@ use Rattle.calls.proofs.Survey.Laws as Survey-laws
 use Rattle.calls.specs.declared.Sums.{Sums}
 use Rattle.calls.proofs.Sums as Sums-type
 use Rattle.calls.proofs.Sums.Laws as Sums-laws
-use Rattle.calls.specs.declared.Turn.{Turn}
-use Rattle.calls.proofs.Turn as Turn-type
-use Rattle.calls.proofs.Turn.Laws as Turn-laws
+use Rattle.calls.specs.declared.Visited.{Visited}
+use Rattle.calls.proofs.Visited as Visited-type
+use Rattle.calls.proofs.Visited.Laws as Visited-laws
 use Rattle.calls.specs.declared.Change.{Change}
 use Rattle.calls.proofs.Change as Change-type
 use Rattle.calls.proofs.Change.Laws as Change-laws
@@ -94,32 +94,32 @@ module _ {M : Type 1} {𝓤 : URA M} {H : Heap 𝓤} {A : Atoms 𝓤} {K : Type 
   pub sums-has : K → (v : Sums) → sums-ok v → Step K W (‵ (sums-row .own v (sums-val v ∷ [])) ∷ Γ) G Γ G
   sums-has t v g = owned t sums-row (Is sums-row) (Struct-laws.makes Sums-type.the-type Sums-laws.the-plain 𝓤 H A) v _ g
 
--- ---- Turn
-abbrev pub turn-row : RattleType
-turn-row = Turn-type.the-row
+-- ---- Visited
+abbrev pub visited-row : RattleType
+visited-row = Visited-type.the-row
 
-abbrev pub turn-ty : Ty
-turn-ty = Turn-laws.mir
+abbrev pub visited-ty : Ty
+visited-ty = Visited-laws.mir
 
-abbrev pub turn-val : Turn → Val
-turn-val = Struct-laws.val Turn-type.the-type Turn-laws.the-laws
+abbrev pub visited-val : Visited → Val
+visited-val = Struct-laws.val Visited-type.the-type Visited-laws.the-laws
 
-abbrev pub turn-spells : Turn → List Val
-turn-spells = Struct-laws.vals Turn-type.the-type Turn-laws.the-laws
+abbrev pub visited-spells : Visited → List Val
+visited-spells = Struct-laws.vals Visited-type.the-type Visited-laws.the-laws
 
-pub turn-tells : Tells turn-row (Is turn-row) turn-spells
-turn-tells = Struct-laws.tells Turn-type.the-type Turn-laws.the-laws
+pub visited-tells : Tells visited-row (Is visited-row) visited-spells
+visited-tells = Struct-laws.tells Visited-type.the-type Visited-laws.the-laws
 
-abbrev pub turn-ok : Turn → Type 0
-turn-ok v = Is turn-row v (turn-val v ∷ [])
+abbrev pub visited-ok : Visited → Type 0
+visited-ok v = Is visited-row v (visited-val v ∷ [])
 
 module _ {M : Type 1} (𝓤 : URA M) (H : Heap 𝓤) (A : Atoms 𝓤) (W : Given 𝓤 H A) where
-  pub turn-typed : (v : Turn) → turn-ok v → T (hasTy turn-ty (turn-val v)) × WT (turn-val v)
-  turn-typed v g = Struct-laws.lawful Turn-type.the-type Turn-laws.the-laws 𝓤 H A W .typed v _ g .0
+  pub visited-typed : (v : Visited) → visited-ok v → T (hasTy visited-ty (visited-val v)) × WT (visited-val v)
+  visited-typed v g = Struct-laws.lawful Visited-type.the-type Visited-laws.the-laws 𝓤 H A W .typed v _ g .0
 
 module _ {M : Type 1} {𝓤 : URA M} {H : Heap 𝓤} {A : Atoms 𝓤} {K : Type 0} {W : Given 𝓤 H A} {Γ : List (Item 𝓤)} {G : Goal 𝓤 H} where
-  pub turn-has : K → (v : Turn) → turn-ok v → Step K W (‵ (turn-row .own v (turn-val v ∷ [])) ∷ Γ) G Γ G
-  turn-has t v g = owned t turn-row (Is turn-row) (Struct-laws.makes Turn-type.the-type Turn-laws.the-plain 𝓤 H A) v _ g
+  pub visited-has : K → (v : Visited) → visited-ok v → Step K W (‵ (visited-row .own v (visited-val v ∷ [])) ∷ Γ) G Γ G
+  visited-has t v g = owned t visited-row (Is visited-row) (Struct-laws.makes Visited-type.the-type Visited-laws.the-plain 𝓤 H A) v _ g
 
 -- ---- Change
 abbrev pub change-row : RattleType

@@ -76,17 +76,17 @@ fn sweep(t: &mut [Stream]) -> Sums
     let mut sums = calls::no_sums();
     let mut i = 0;
     while i < t.len() {
-        let turn = calls::visit(sums, t[i]);
-        t[i] = turn.stream;
-        sums = turn.sums;
+        let visited = calls::visit(sums, t[i]);
+        t[i] = visited.stream;
+        sums = visited.sums;
         i = i + 1;
     }
     sums
 }
 
-// One record settled: what the arrival is to it, and the record after it. The record is read again on purpose: so no
+// One record decided: what the arrival is to it, and the record after it. The record is read again on purpose: so no
 // counter is carried over the first step.
-fn settle(t: &mut [Stream], i: usize, network: u8, number: u16, room: bool) -> Judged
+fn decide_at(t: &mut [Stream], i: usize, network: u8, number: u16, room: bool) -> Judged
     requires { ⌜ i < length (now t) ⌝ }
     ensures { λ r. ⌜ (r ≡ judged (at (now (t .entry)) i) number room) × (now (t .exit) ≡ set (now (t .entry)) i (recordOf (at (now (t .entry)) i) network r)) ⌝ }
 {
@@ -96,8 +96,9 @@ fn settle(t: &mut [Stream], i: usize, network: u8, number: u16, room: bool) -> J
 }
 
 // ---- the calls
-// What a call comes to is `Meets`, for every table and every input. Open, close and reset copy a record out of the table,
-// decide by value, and store: a refused call stores beyond the table, which is nothing.
+// What a call comes to is `Meets`, for every table and every input. Each asks for 1 before it reads the table: a caller
+// whose length is far too great is answered, not overrun. Open, close and reset copy a record out of the table, decide by
+// value, and store: a call that is refused later stores beyond the table, which is nothing.
 
 // Arrival: 1 to 8. 1 to 5 are answered before the table is searched, and the room is known before anything is marked.
 pub fn arrival(t: &mut [Stream], network: u8, frame: &[u8], out: &mut [u8]) -> Answer
@@ -112,17 +113,25 @@ pub fn arrival(t: &mut [Stream], network: u8, frame: &[u8], out: &mut [u8]) -> A
         return calls::unknown();
     };
     let room = calls::fits(frame, out);
-    let j = settle(t, i, network, number, room);
+    let j = decide_at(t, i, network, number, room);
     calls::finish(j, i, h.at, number, frame, out)
 }
 
-// Open: 1, 9, 10, 11. It fills the lowest free slot, closed ones included, with a fresh record, counters zero.
+// Open: 1, 9, 10, 11; 1 and 9 are answered before the table is surveyed. It fills the lowest free slot, closed ones
+// included, with a fresh record, counters zero.
 pub fn open(t: &mut [Stream], dest: [u8; 6], vlan: u16, rule: u8, window: u16, time: u16) -> Opened
     ensures { λ r. ⌜ Meets (now (t .entry)) (opening dest vlan rule window time) (record { said = saidOpened r; table = now (t .exit); output = [] }) ⌝ }
 {
+    if t.len() > Stream::SLOTS_MOST {
+        return Opened::Refused(refusal::TABLE);
+    }
     let key = frame::destination(dest);
+    let s = stream::opened(key, vlan, rule, window, time);
+    if !stream::settled(s) {
+        return Opened::Refused(refusal::SETTING);
+    }
     let v = survey(t, key, vlan);
-    let p = calls::place(t.len(), v, key, vlan, rule, window, time);
+    let p = calls::place(t.len(), v, s);
     store(t, p.slot, p.stream);
     p.answer
 }
@@ -131,6 +140,9 @@ pub fn open(t: &mut [Stream], dest: [u8; 6], vlan: u16, rule: u8, window: u16, t
 pub fn close(t: &mut [Stream], slot: usize) -> Done
     ensures { λ r. ⌜ Meets (now (t .entry)) (closing slot) (record { said = saidDone r; table = now (t .exit); output = [] }) ⌝ }
 {
+    if t.len() > Stream::SLOTS_MOST {
+        return Done::Refused(refusal::TABLE);
+    }
     let s = record_at(t, slot);
     let c = calls::close(t.len(), slot, s);
     store(t, c.slot, c.stream);
@@ -141,6 +153,9 @@ pub fn close(t: &mut [Stream], slot: usize) -> Done
 pub fn reset(t: &mut [Stream], slot: usize) -> Done
     ensures { λ r. ⌜ Meets (now (t .entry)) (resetting slot) (record { said = saidDone r; table = now (t .exit); output = [] }) ⌝ }
 {
+    if t.len() > Stream::SLOTS_MOST {
+        return Done::Refused(refusal::TABLE);
+    }
     let s = record_at(t, slot);
     let c = calls::reset(t.len(), slot, s);
     store(t, c.slot, c.stream);

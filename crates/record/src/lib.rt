@@ -62,6 +62,7 @@ impl Stream {
 
     pub const TIME_LEAST: u16 = 1;
 
+    // The greatest u16, so no code compares with it; the bindings have it for their callers.
     pub const TIME_MOST: u16 = 65535;
 
     pub const VLAN_MOST: u16 = 4094;

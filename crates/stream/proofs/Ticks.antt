@@ -1,7 +1,7 @@
 -- A tick, case by case as the code goes. Assumes nothing.
 use Prim.Native.Nat.{_-_}
 use mathlib.Core.Path.{_≡_, refl}
-use mathlib.Core.Bool.{Bool, true, false, _&&_}
+use mathlib.Core.Bool.{Bool, true, false, _&&_, and-true, and-false}
 use native.Mathlib.Omega.{arith}
 use borrow.Author.Tests.{eq-eqb, ne-eqb}
 use Rattle.record.specs.Words.{yes}
@@ -9,14 +9,6 @@ use Rattle.stream.specs.Record.{Stream, lawful, damaged}
 use Rattle.stream.specs.Decisions.{with, reset, expires, aged, ticked}
 use Rattle.stream.specs.Laws.{TickLeaves, TickNoneLeft}
 use Rattle.stream.specs.Steps.{tickOf}
-
-and-false : (b : Bool) → (b && false) ≡ false
-and-false true = refl
-and-false false = refl
-
-and-true : (b : Bool) → (b && true) ≡ b
-and-true true = refl
-and-true false = refl
 
 pub tick-leaves : TickLeaves
 unfolding ticked expires

@@ -40,7 +40,7 @@ use Rattle.calls.specs.declared.Answer.{Answer}
 use Rattle.calls.specs.Calls.{arriving, Meets as CallMeets}
 use Rattle.calls.specs.Said.{saidArrival}
 use Rattle.port.specs.declared.ArrivalAnswer.{ArrivalAnswer}
-use Rattle.port.specs.Answers.{tellArrival, Told}
+use Rattle.port.specs.Answers.{tellArrival, MeetsInC}
 use Rattle.receiver.proofs.Both.{calls-mut-two}
 use Rattle.receiver.proofs.Calling.{calls-value}
 use Rattle.receiver.proofs.Enums.{answer-val, answer-tells, answer-typed, answer-has}
@@ -92,7 +92,7 @@ module _ {M : Type 1} (𝓤 : URA M) (H : Heap 𝓤) (A : Atoms 𝓤) (W : Given
   abbrev Post′ : Val → SProp 𝓤
   Post′ = walkOf 𝓤 H A fn.ended stayed (fn.clauses 𝓤 H A mem run) .post (((κ, (κ₁, (κ₂, tt))), (q, (q₁, (q₂, tt))), tt, x, mv), tt)
 
-  exits : Room R (length ys) → (zs : List Stream) → length zs ≡ length ys → Room u8 (length us) → (us′ : List ℕ) → length us′ ≡ length us → (r : ArrivalAnswer) → arrivalanswer-ok r → Told tellArrival ys (arriving network fr us) r zs us′ → ent 𝓤 (⋆ 𝓤 H A (‵ (fobs γ (codedHoleys R .code (heres R zs))) ∷ ‵ (fbor κ (Held R (length zs) b o γ)) ∷ ‵ (flft κ q) ∷ ‵ (flft κ₁ q₁) ∷ ‵ (fobs γ₂ (codedHoleys u8 .code (heres u8 us′))) ∷ ‵ (fbor κ₂ (Held u8 (length us′) b₂ o₂ γ₂)) ∷ ‵ (flft κ₂ q₂) ∷ [])) (Post′ (arrivalanswer-val r))
+  exits : Room R (length ys) → (zs : List Stream) → length zs ≡ length ys → Room u8 (length us) → (us′ : List ℕ) → length us′ ≡ length us → (r : ArrivalAnswer) → arrivalanswer-ok r → MeetsInC tellArrival ys (arriving network fr us) r zs us′ → ent 𝓤 (⋆ 𝓤 H A (‵ (fobs γ (codedHoleys R .code (heres R zs))) ∷ ‵ (fbor κ (Held R (length zs) b o γ)) ∷ ‵ (flft κ q) ∷ ‵ (flft κ₁ q₁) ∷ ‵ (fobs γ₂ (codedHoleys u8 .code (heres u8 us′))) ∷ ‵ (fbor κ₂ (Held u8 (length us′) b₂ o₂ γ₂)) ∷ ‵ (flft κ₂ q₂) ∷ [])) (Post′ (arrivalanswer-val r))
   exits g-ys zs len-ys g-us us′ len-us r g said =
       qed W (‵ (fobs γ (codedHoleys R .code (heres R zs))) ∷ ‵ (fbor κ (Held R (length zs) b o γ)) ∷ ‵ (flft κ q) ∷ ‵ (flft κ₁ q₁) ∷ ‵ (fobs γ₂ (codedHoleys u8 .code (heres u8 us′))) ∷ ‵ (fbor κ₂ (Held u8 (length us′) b₂ o₂ γ₂)) ∷ ‵ (flft κ₂ q₂) ∷ []) ∵
       suffices ! _ (ends-at 𝓤 H A fn.ended stayed (fn.clauses 𝓤 H A mem run) W (((κ, (κ₁, (κ₂, tt))), (q, (q₁, (q₂, tt))), tt, x, mv), tt) (arrivalanswer-val r) r (zs, (tt, (tt, (us′, tt)))) (len-ys, (tt, (tt, (len-us, tt))))) $ says ! said $

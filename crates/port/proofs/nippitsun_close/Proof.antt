@@ -39,7 +39,7 @@ use Rattle.record.specs.declared.Stream.{Stream}
 use Rattle.calls.specs.declared.Done.{Done}
 use Rattle.calls.specs.Calls.{closing, Meets as CallMeets}
 use Rattle.calls.specs.Said.{saidDone}
-use Rattle.port.specs.Answers.{tellDone, Told}
+use Rattle.port.specs.Answers.{tellDone, MeetsInC}
 use Rattle.receiver.proofs.Calling.{calls-value}
 use Rattle.receiver.proofs.Enums.{done-val, done-tells, done-typed, done-has}
 use Rattle.receiver.proofs.Handing.{owns-slice}
@@ -89,7 +89,7 @@ module _ {M : Type 1} (𝓤 : URA M) (H : Heap 𝓤) (A : Atoms 𝓤) (W : Given
   abbrev Post′ : Val → SProp 𝓤
   Post′ = walkOf 𝓤 H A fn.ended stayed (fn.clauses 𝓤 H A mem run) .post (((κ, tt), (q, tt), tt, x, mv), tt)
 
-  exits : Room R n → (zs : List Stream) → length zs ≡ n → (r : ℕ) → r < 2 ^ 8 → Told tellDone ys (closing slot) r zs [] → ent 𝓤 (⋆ 𝓤 H A (‵ (fobs γ (codedHoleys R .code (heres R zs))) ∷ ‵ (fbor κ (Held R (length zs) b o γ)) ∷ ‵ (flft κ q) ∷ [])) (Post′ (vint w8 r))
+  exits : Room R n → (zs : List Stream) → length zs ≡ n → (r : ℕ) → r < 2 ^ 8 → MeetsInC tellDone ys (closing slot) r zs [] → ent 𝓤 (⋆ 𝓤 H A (‵ (fobs γ (codedHoleys R .code (heres R zs))) ∷ ‵ (fbor κ (Held R (length zs) b o γ)) ∷ ‵ (flft κ q) ∷ [])) (Post′ (vint w8 r))
   exits gn zs len r g said =
       qed W (‵ (fobs γ (codedHoleys R .code (heres R zs))) ∷ ‵ (fbor κ (Held R (length zs) b o γ)) ∷ ‵ (flft κ q) ∷ []) ∵
       suffices ! _ (ends-at 𝓤 H A fn.ended stayed (fn.clauses 𝓤 H A mem run) W (((κ, tt), (q, tt), tt, x, mv), tt) (vint w8 r) r (zs, (tt, tt)) (len, (tt, tt))) $ says ! said $

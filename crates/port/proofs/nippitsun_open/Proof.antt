@@ -40,7 +40,7 @@ use Rattle.calls.specs.declared.Opened.{Opened}
 use Rattle.calls.specs.Calls.{opening, Meets as CallMeets}
 use Rattle.calls.specs.Said.{saidOpened}
 use Rattle.port.specs.declared.SlotAnswer.{SlotAnswer}
-use Rattle.port.specs.Answers.{tellOpened, Told}
+use Rattle.port.specs.Answers.{tellOpened, MeetsInC}
 use Rattle.receiver.proofs.Calling.{calls-value, calls-with}
 use Rattle.receiver.proofs.Enums.{opened-val, opened-tells, opened-typed, opened-has}
 use Rattle.receiver.proofs.Handing.{owns-slice}
@@ -100,7 +100,7 @@ module _ {M : Type 1} (𝓤 : URA M) (H : Heap 𝓤) (A : Atoms 𝓤) (W : Given
   abbrev Post′ : Val → SProp 𝓤
   Post′ = walkOf 𝓤 H A fn.ended stayed (fn.clauses 𝓤 H A mem run) .post (((κ, (κ₁, tt)), (q, (q₁, tt)), tt, x, mv), tt)
 
-  exits : Room R (length ys) → (zs : List Stream) → length zs ≡ length ys → (r : SlotAnswer) → slotanswer-ok r → Told tellOpened ys (opening dest vlan rule window time) r zs [] → ent 𝓤 (⋆ 𝓤 H A (‵ (fobs γ (codedHoleys R .code (heres R zs))) ∷ ‵ (fbor κ (Held R (length zs) b o γ)) ∷ ‵ (flft κ q) ∷ ‵ (flft κ₁ q₁) ∷ [])) (Post′ (slotanswer-val r))
+  exits : Room R (length ys) → (zs : List Stream) → length zs ≡ length ys → (r : SlotAnswer) → slotanswer-ok r → MeetsInC tellOpened ys (opening dest vlan rule window time) r zs [] → ent 𝓤 (⋆ 𝓤 H A (‵ (fobs γ (codedHoleys R .code (heres R zs))) ∷ ‵ (fbor κ (Held R (length zs) b o γ)) ∷ ‵ (flft κ q) ∷ ‵ (flft κ₁ q₁) ∷ [])) (Post′ (slotanswer-val r))
   exits g-ys zs len-ys r g said =
       qed W (‵ (fobs γ (codedHoleys R .code (heres R zs))) ∷ ‵ (fbor κ (Held R (length zs) b o γ)) ∷ ‵ (flft κ q) ∷ ‵ (flft κ₁ q₁) ∷ []) ∵
       suffices ! _ (ends-at 𝓤 H A fn.ended stayed (fn.clauses 𝓤 H A mem run) W (((κ, (κ₁, tt)), (q, (q₁, tt)), tt, x, mv), tt) (slotanswer-val r) r (zs, (tt, (tt, (tt, (tt, (tt, tt)))))) (len-ys, (tt, (tt, (tt, (tt, (tt, tt))))))) $ says ! said $
@@ -129,7 +129,7 @@ module _ {M : Type 1} (𝓤 : URA M) (H : Heap 𝓤) (A : Atoms 𝓤) (W : Given
         calls-value {𝓤 = 𝓤} {H = H} {A = A} ! fm fn-tell-opened.ended (fn-tell-opened.clauses 𝓤 H A mem run) (known .tell-opened′) ((tt, tt, tt, (a, tt), (opened-val a ∷ [], tt)), tt) (qed W [] ∵ nothing ! $ opened-has ! a g-a $ fjoin ! $ nothing ! $ join ! $ frame ! $ done !) slotanswer-val (λ r vs p. slotanswer-tells r vs p) (λ (r : SlotAnswer). r ≡ tellOpened (saidOpened a)) (λ r ws. id⊢ 𝓤 _) (and-then ! (load ! (from ! (stop !)) (look-cell ! 10 refl)) (no-more !)) (λ r g-r heard.
         land ! (from ! (stop !)) (init ! 25 refl (slotanswer-typed 𝓤 H A W r g-r)) $
         returns ! (look-cell ! 25 refl) $ forget ! 25 refl $ forget ! 23 refl $ forget ! 21 refl $ forget ! 19 refl $ forget ! 17 refl $ forget ! 15 refl $ forget ! 13 refl $ forget ! 11 refl $ forget ! 9 refl $ forget ! 7 refl $ forget ! 5 refl $
-        move ! (25 ∷ 26 ∷ []) $ free1 ! $ move ! (23 ∷ 24 ∷ []) $ free1 ! $ move ! (21 ∷ 22 ∷ []) $ free1 ! $ move ! (19 ∷ 20 ∷ []) $ free1 ! $ move ! (17 ∷ 18 ∷ []) $ free1 ! $ move ! (15 ∷ 16 ∷ []) $ free1 ! $ move ! (13 ∷ 14 ∷ []) $ free1 ! $ move ! (11 ∷ 12 ∷ []) $ free1 ! $ move ! (9 ∷ 10 ∷ []) $ free1 ! $ move ! (7 ∷ 8 ∷ []) $ free1 ! $ move ! (5 ∷ 6 ∷ []) $ free1 ! $ free0 ! $ keep ! (0 ∷ 1 ∷ 2 ∷ 4 ∷ []) $ by ! (exits g-ys zs len r g-r (subst (λ (e : Six). Told tellOpened ys (opening e vlan rule window time) r zs []) copied (meets-told tellOpened ys (opening d vlan rule window time) said heard)))))))))))))))))
+        move ! (25 ∷ 26 ∷ []) $ free1 ! $ move ! (23 ∷ 24 ∷ []) $ free1 ! $ move ! (21 ∷ 22 ∷ []) $ free1 ! $ move ! (19 ∷ 20 ∷ []) $ free1 ! $ move ! (17 ∷ 18 ∷ []) $ free1 ! $ move ! (15 ∷ 16 ∷ []) $ free1 ! $ move ! (13 ∷ 14 ∷ []) $ free1 ! $ move ! (11 ∷ 12 ∷ []) $ free1 ! $ move ! (9 ∷ 10 ∷ []) $ free1 ! $ move ! (7 ∷ 8 ∷ []) $ free1 ! $ move ! (5 ∷ 6 ∷ []) $ free1 ! $ free0 ! $ keep ! (0 ∷ 1 ∷ 2 ∷ 4 ∷ []) $ by ! (exits g-ys zs len r g-r (subst (λ (e : Six). MeetsInC tellOpened ys (opening e vlan rule window time) r zs []) copied (meets-told tellOpened ys (opening d vlan rule window time) said heard)))))))))))))))))
 
 pub nippitsun-open-spec : {M : Type 1} → stated.statement M
 unfolding code.routine tablesOf

@@ -36,7 +36,7 @@ use Rattle.calls.specs.declared.Swept.{Swept}
 use Rattle.calls.specs.Calls.{ticking, Meets as CallMeets}
 use Rattle.calls.specs.Said.{saidSwept}
 use Rattle.port.specs.declared.TickAnswer.{TickAnswer}
-use Rattle.port.specs.Answers.{tellSwept, Told}
+use Rattle.port.specs.Answers.{tellSwept, MeetsInC}
 use Rattle.receiver.proofs.Calling.{calls-value}
 use Rattle.receiver.proofs.Enums.{swept-val, swept-tells, swept-typed, swept-has}
 use Rattle.receiver.proofs.Handing.{owns-slice}
@@ -87,7 +87,7 @@ module _ {M : Type 1} (𝓤 : URA M) (H : Heap 𝓤) (A : Atoms 𝓤) (W : Given
   abbrev Post′ : Val → SProp 𝓤
   Post′ = walkOf 𝓤 H A fn.ended stayed (fn.clauses 𝓤 H A mem run) .post (((κ, tt), (q, tt), tt, x, mv), tt)
 
-  exits : Room R n → (zs : List Stream) → length zs ≡ n → (r : TickAnswer) → tickanswer-ok r → Told tellSwept ys ticking r zs [] → ent 𝓤 (⋆ 𝓤 H A (‵ (fobs γ (codedHoleys R .code (heres R zs))) ∷ ‵ (fbor κ (Held R (length zs) b o γ)) ∷ ‵ (flft κ q) ∷ [])) (Post′ (tickanswer-val r))
+  exits : Room R n → (zs : List Stream) → length zs ≡ n → (r : TickAnswer) → tickanswer-ok r → MeetsInC tellSwept ys ticking r zs [] → ent 𝓤 (⋆ 𝓤 H A (‵ (fobs γ (codedHoleys R .code (heres R zs))) ∷ ‵ (fbor κ (Held R (length zs) b o γ)) ∷ ‵ (flft κ q) ∷ [])) (Post′ (tickanswer-val r))
   exits gn zs len r g said =
       qed W (‵ (fobs γ (codedHoleys R .code (heres R zs))) ∷ ‵ (fbor κ (Held R (length zs) b o γ)) ∷ ‵ (flft κ q) ∷ []) ∵
       suffices ! _ (ends-at 𝓤 H A fn.ended stayed (fn.clauses 𝓤 H A mem run) W (((κ, tt), (q, tt), tt, x, mv), tt) (tickanswer-val r) r (zs, tt) (len, tt)) $ says ! said $

@@ -50,7 +50,7 @@ use Rattle.calls.specs.declared.Answer.{Answer}
 use Rattle.calls.specs.declared.Asked.{Asked}
 use Rattle.calls.specs.declared.Found.{Found}
 use Rattle.calls.specs.declared.Judged.{Judged}
-use Rattle.calls.proofs.Arrivals.{arrival-refused, arrival-unknown, arrival-settled}
+use Rattle.calls.proofs.Arrivals.{arrival-refused, arrival-unknown, arrival-decided}
 use Rattle.calls.proofs.Places.{found-at, some-place}
 use Rattle.receiver.proofs.Calling.{calls-value, calls-with}
 use Rattle.receiver.proofs.Enums.{found-ty, found-val, found-tells, found-ok, found-typed, asked-ty, asked-val, asked-tells, asked-ok, asked-typed, asked-has, judged-ty, judged-val, judged-tells, judged-typed, judged-has, answer-ty, answer-val, answer-tells, answer-ok, answer-typed, answer-has}
@@ -80,10 +80,10 @@ use Rattle.calls.proofs.fits as fn-fits
 use Rattle.calls.proofs.fits.Symbol as fn-fits-def
 use Rattle.calls.proofs.fits.Symbol.{name as #calls·fits}
 use Rattle.calls.proofs.fits.Met as fn-fits-met
-use Rattle.receiver.proofs.settle as fn-settle
-use Rattle.receiver.proofs.settle.Symbol as fn-settle-def
-use Rattle.receiver.proofs.settle.Symbol.{name as #receiver·settle}
-use Rattle.receiver.proofs.settle.Met as fn-settle-met
+use Rattle.receiver.proofs.decide_at as fn-decide-at
+use Rattle.receiver.proofs.decide_at.Symbol as fn-decide-at-def
+use Rattle.receiver.proofs.decide_at.Symbol.{name as #receiver·decide-at}
+use Rattle.receiver.proofs.decide_at.Met as fn-decide-at-met
 use Rattle.calls.proofs.finish as fn-finish
 use Rattle.calls.proofs.finish.Symbol as fn-finish-def
 use Rattle.calls.proofs.finish.Symbol.{name as #calls·finish}
@@ -113,8 +113,8 @@ module _ {M : Type 1} (𝓤 : URA M) (H : Heap 𝓤) (A : Atoms 𝓤) (mem : Mem
   abbrev Fits : Contract 𝓤
   Fits = tripleOf 𝓤 H A fn-fits.signature (fn-fits.spec 𝓤 H A mem run)
 
-  abbrev Settle : Contract 𝓤
-  Settle = tripleOf 𝓤 H A fn-settle.signature (fn-settle.spec 𝓤 H A mem run)
+  abbrev DecideAt : Contract 𝓤
+  DecideAt = tripleOf 𝓤 H A fn-decide-at.signature (fn-decide-at.spec 𝓤 H A mem run)
 
   abbrev Finish : Contract 𝓤
   Finish = tripleOf 𝓤 H A fn-finish.signature (fn-finish.spec 𝓤 H A mem run)
@@ -125,7 +125,7 @@ module _ {M : Type 1} (𝓤 : URA M) (H : Heap 𝓤) (A : Atoms 𝓤) (mem : Mem
     pub find′ : Triple 𝓤 (C #receiver·find) Find
     pub unknown′ : Triple 𝓤 (C #calls·unknown) Unknown
     pub fits′ : Triple 𝓤 (C #calls·fits) Fits
-    pub settle′ : Triple 𝓤 (C #receiver·settle) Settle
+    pub decide-at′ : Triple 𝓤 (C #receiver·decide-at) DecideAt
     pub finish′ : Triple 𝓤 (C #calls·finish) Finish
 
 module _ {M : Type 1} (𝓤 : URA M) (H : Heap 𝓤) (A : Atoms 𝓤) (W : Given 𝓤 H A) (mem : Memory → SProp 𝓤) (run : Routine → Fun 𝓤) (κ : Lft) (q : Share) (b o : ℕ) (γ : GName) (ys : List Stream) (network : ℕ) (κ₁ : Lft) (q₁ : Share) (b₁ o₁ : ℕ) (γ₁ : GName) (fr : List ℕ) (κ₂ : Lft) (q₂ : Share) (b₂ o₂ : ℕ) (γ₂ : GName) (us : List ℕ) where
@@ -191,14 +191,14 @@ module _ {M : Type 1} (𝓤 : URA M) (H : Heap 𝓤) (A : Atoms 𝓤) (W : Given
             land ! (from ! (stop !)) (init ! 28 refl (tt, tt)) $
             assigns ! (addr ! (from ! (fld ! refl (hop ! (look-in ! 46 (sub ! 0 refl (whole !))) (stop !))))) (from ! (stop !)) (init ! 14 refl (tt, tt)) $
             assigns ! (agg ! (and-then ! (load ! (from ! (stop !)) (look-cell ! 14 refl)) (and-then ! (load ! (from ! (fld ! refl (stop !))) (look-in ! 46 (sub ! 1 refl (whole !)))) (no-more !)))) (from ! (stop !)) (init ! 12 refl (tt, (tt, (record { fits = g-ys .0 }, tt)))) $
-            calls-mut {𝓤 = 𝓤} {H = H} {A = A} ! fm R ys b o g-ys fn-settle.ended (fn-settle.clauses 𝓤 H A mem run) (known .settle′) (λ ν δ. (((ν ∷ [], tt), (fullShare, tt), tt, (record { ptr = (b, o); name = δ; now = ys }, (i, (network, (number, (room, tt))))), (sliceVal (b, o) (length ys) ∷ [], (vint w64 i ∷ [], (vint w8 network ∷ [], (vint w16 number ∷ [], (vbool room ∷ [], tt)))))), tt)) (λ ν δ. qed W (‵ (flft (ν ∷ []) fullShare) ∷ ‵ (mut-own R b o ν δ ys) ∷ []) ∵ says ! l $ nothing ! $ move ! (1 ∷ 0 ∷ []) $ join ! $ move ! (1 ∷ []) $ nothing ! $ owned ! Boolean (Is Boolean) (bool-makes 𝓤 H A W) room _ refl $ fjoin ! $ owned ! u16 (Is u16) (uint-makes 𝓤 H A W w16) number _ (refl, g-number) $ fjoin ! $ owned ! u8 (Is u8) (uint-makes 𝓤 H A W w8) network _ (refl, g-network) $ fjoin ! $ owned ! usize (Is usize) (uint-makes 𝓤 H A W w64) i _ (refl, (at-fits i g-f)) $ fjoin ! $ move ! (1 ∷ 0 ∷ []) $ fjoin ! $ move ! (1 ∷ 0 ∷ []) $ frame ! $ done !) (λ ν δ. fst∗ 𝓤 _ (emp 𝓤)) (λ ν δ. judged-val) (λ ν δ j vs p. judged-tells j vs p) (λ ν δ ws. ws .0) (λ ν δ ws. fst∗ 𝓤 (sem 𝓤 H A (fsep (finally R δ (ws .0)) (feq ℕ (length (ws .0)) (length ys)))) (sem 𝓤 H A (fsep ftrue (fsep ftrue (fsep ftrue (fsep ftrue ftrue)))))) (λ ν δ (j : Judged) (zs : List Stream). (j ≡ judged (getD ys i blank) number room) × (zs ≡ set ys i (recordOf (getD ys i blank) network j))) (λ ν δ j ws. id⊢ 𝓤 _) (λ ν δ. (and-then ! (load ! (from ! (stop !)) (look-cell ! 11 refl)) (and-then ! (load ! (from ! (stop !)) (look-cell ! 29 refl)) (and-then ! (load ! (from ! (stop !)) (look-cell ! 43 refl)) (and-then ! (load ! (from ! (stop !)) (look-cell ! 33 refl)) (and-then ! (load ! (from ! (stop !)) (look-cell ! 27 refl)) (no-more !))))))) (λ ν δ j zs g-j len settled.
+            calls-mut {𝓤 = 𝓤} {H = H} {A = A} ! fm R ys b o g-ys fn-decide-at.ended (fn-decide-at.clauses 𝓤 H A mem run) (known .decide-at′) (λ ν δ. (((ν ∷ [], tt), (fullShare, tt), tt, (record { ptr = (b, o); name = δ; now = ys }, (i, (network, (number, (room, tt))))), (sliceVal (b, o) (length ys) ∷ [], (vint w64 i ∷ [], (vint w8 network ∷ [], (vint w16 number ∷ [], (vbool room ∷ [], tt)))))), tt)) (λ ν δ. qed W (‵ (flft (ν ∷ []) fullShare) ∷ ‵ (mut-own R b o ν δ ys) ∷ []) ∵ says ! l $ nothing ! $ move ! (1 ∷ 0 ∷ []) $ join ! $ move ! (1 ∷ []) $ nothing ! $ owned ! Boolean (Is Boolean) (bool-makes 𝓤 H A W) room _ refl $ fjoin ! $ owned ! u16 (Is u16) (uint-makes 𝓤 H A W w16) number _ (refl, g-number) $ fjoin ! $ owned ! u8 (Is u8) (uint-makes 𝓤 H A W w8) network _ (refl, g-network) $ fjoin ! $ owned ! usize (Is usize) (uint-makes 𝓤 H A W w64) i _ (refl, (at-fits i g-f)) $ fjoin ! $ move ! (1 ∷ 0 ∷ []) $ fjoin ! $ move ! (1 ∷ 0 ∷ []) $ frame ! $ done !) (λ ν δ. fst∗ 𝓤 _ (emp 𝓤)) (λ ν δ. judged-val) (λ ν δ j vs p. judged-tells j vs p) (λ ν δ ws. ws .0) (λ ν δ ws. fst∗ 𝓤 (sem 𝓤 H A (fsep (finally R δ (ws .0)) (feq ℕ (length (ws .0)) (length ys)))) (sem 𝓤 H A (fsep ftrue (fsep ftrue (fsep ftrue (fsep ftrue ftrue)))))) (λ ν δ (j : Judged) (zs : List Stream). (j ≡ judged (getD ys i blank) number room) × (zs ≡ set ys i (recordOf (getD ys i blank) network j))) (λ ν δ j ws. id⊢ 𝓤 _) (λ ν δ. (and-then ! (load ! (from ! (stop !)) (look-cell ! 11 refl)) (and-then ! (load ! (from ! (stop !)) (look-cell ! 29 refl)) (and-then ! (load ! (from ! (stop !)) (look-cell ! 43 refl)) (and-then ! (load ! (from ! (stop !)) (look-cell ! 33 refl)) (and-then ! (load ! (from ! (stop !)) (look-cell ! 27 refl)) (no-more !))))))) (λ ν δ j zs g-j len decided.
             land ! (from ! (stop !)) (init ! 26 refl (judged-typed 𝓤 H A W j g-j)) $
             assigns ! (addr ! (from ! (fld ! refl (hop ! (look-in ! 40 (sub ! 0 refl (whole !))) (stop !))))) (from ! (stop !)) (init ! 10 refl (tt, tt)) $
             assigns ! (agg ! (and-then ! (load ! (from ! (stop !)) (look-cell ! 10 refl)) (and-then ! (load ! (from ! (fld ! refl (stop !))) (look-in ! 40 (sub ! 1 refl (whole !)))) (no-more !)))) (from ! (stop !)) (init ! 8 refl (tt, (tt, (record { fits = g-us .0 }, tt)))) $
             move ! (3 ∷ []) $ use1 W (‵ (ShrSlice (named 1) κ₁ u8 .own (record { ptr = (b₁, o₁); name = γ₁; now = fr }) (sliceVal (b₁, o₁) (length fr) ∷ [])) ⊛ ‵ (ShrSlice (named 1) κ₁ u8 .own (record { ptr = (b₁, o₁); name = γ₁; now = fr }) (sliceVal (b₁, o₁) (length fr) ∷ []))) (shr-slice-copy 𝓤 H A W (named 1) κ₁ u8 .twice (record { ptr = (b₁, o₁); name = γ₁; now = fr }) (sliceVal (b₁, o₁) (length fr) ∷ [])) $ split ! $ move ! (0 ∷ 5 ∷ []) $ join ! $ move ! (5 ∷ 6 ∷ 7 ∷ 0 ∷ 2 ∷ 3 ∷ 4 ∷ 1 ∷ []) $ calls-mut-with {𝓤 = 𝓤} {H = H} {A = A} ! fm u8 us b₂ o₂ g-us fn-finish.ended (fn-finish.clauses 𝓤 H A mem run) (known .finish′) (λ ν δ. (((κ₁, (ν ∷ [], tt)), (q₁, (fullShare, tt)), tt, (j, (i, ((h .at), (number, (record { ptr = (b₁, o₁); name = γ₁; now = fr }, (record { ptr = (b₂, o₂); name = δ; now = us }, tt)))))), (judged-val j ∷ [], (vint w64 i ∷ [], (vint w64 (h .at) ∷ [], (vint w16 number ∷ [], (sliceVal (b₁, o₁) (length fr) ∷ [], (sliceVal (b₂, o₂) (length us) ∷ [], tt))))))), tt)) (λ ν δ. qed W (‵ (flft (ν ∷ []) fullShare) ∷ ‵ (mut-own u8 b₂ o₂ ν δ us) ∷ (‵ (ShrSlice (named 1) κ₁ u8 .own (record { ptr = (b₁, o₁); name = γ₁; now = fr }) (sliceVal (b₁, o₁) (length fr) ∷ [])) ⊛ ‵ (flft κ₁ q₁)) ∷ []) ∵ move ! (2 ∷ []) $ split ! $ nothing ! $ move ! (4 ∷ 0 ∷ []) $ fjoin ! $ move ! (1 ∷ 0 ∷ []) $ fjoin ! $ owned ! u16 (Is u16) (uint-makes 𝓤 H A W w16) number _ (refl, g-number) $ fjoin ! $ owned ! usize (Is usize) (uint-makes 𝓤 H A W w64) (h .at) _ (refl, (header-at h g-h)) $ fjoin ! $ owned ! usize (Is usize) (uint-makes 𝓤 H A W w64) i _ (refl, (at-fits i g-f)) $ fjoin ! $ judged-has ! j g-j $ fjoin ! $ nothing ! $ move ! (3 ∷ 0 ∷ []) $ join ! $ move ! (2 ∷ 0 ∷ []) $ join ! $ join ! $ frame ! $ done !) (‵ (flft κ₁ q₁)) (λ ν δ. qed W ((‵ (flft (κ₁) q₁) ⊛ (‵ (flft (ν ∷ []) fullShare) ⊛ ‵ ftrue)) ∷ []) ∵ split ! $ move ! (1 ∷ []) $ split ! $ frame ! $ lose ! $ done !) (λ ν δ. answer-val) (λ ν δ r vs p. answer-tells r vs p) (λ ν δ ws. ws .1 .1 .1 .1 .1 .0) (λ ν δ ws. qed W (‵ (fsep ftrue (fsep ftrue (fsep ftrue (fsep ftrue (fsep ftrue (fsep (fsep (finally u8 δ (ws .1 .1 .1 .1 .1 .0)) (feq ℕ (length (ws .1 .1 .1 .1 .1 .0)) (length us))) (ftrue))))))) ∷ []) ∵ fsplit ! $ lose ! $ fsplit ! $ lose ! $ fsplit ! $ lose ! $ fsplit ! $ lose ! $ fsplit ! $ lose ! $ fsplit ! $ move ! (1 ∷ []) $ lose ! $ done !) (λ ν δ (r : Answer) (us′ : List ℕ). (saidArrival r ≡ finished j i number fr) × (us′ ≡ bytesOf j (h .at) fr us)) (λ ν δ r ws. two-facts 𝓤 H A _ _) (λ ν δ. (and-then ! (load ! (from ! (stop !)) (look-cell ! 24 refl)) (and-then ! (load ! (from ! (stop !)) (look-cell ! 28 refl)) (and-then ! (load ! (from ! (fld ! refl (stop !))) (look-in ! 34 (sub ! 2 refl (whole !)))) (and-then ! (load ! (from ! (stop !)) (look-cell ! 32 refl)) (and-then ! (load ! (from ! (stop !)) (look-cell ! 40 refl)) (and-then ! (load ! (from ! (stop !)) (look-cell ! 6 refl)) (no-more !)))))))) (λ ν δ r us′ g-r len-us′ said. move ! (4 ∷ 5 ∷ 6 ∷ 7 ∷ 3 ∷ 0 ∷ 1 ∷ 2 ∷ []) $
             land ! (from ! (stop !)) (init ! 48 refl (answer-typed 𝓤 H A W r g-r)) $
             returns ! (look-cell ! 48 refl) $ forget ! 48 refl $ forget ! 46 refl $ forget ! 44 refl $ forget ! 42 refl $ forget ! 40 refl $ forget ! 38 refl $ forget ! 36 refl $ forget ! 34 refl $ forget ! 32 refl $ forget ! 30 refl $ forget ! 28 refl $ forget ! 26 refl $ forget ! 18 refl $ forget ! 16 refl $ forget ! 14 refl $ forget ! 12 refl $ forget ! 10 refl $ forget ! 8 refl $
-            move ! (48 ∷ 49 ∷ []) $ free1 ! $ move ! (46 ∷ 47 ∷ []) $ free1 ! $ move ! (44 ∷ 45 ∷ []) $ free1 ! $ move ! (42 ∷ 43 ∷ []) $ free1 ! $ move ! (40 ∷ 41 ∷ []) $ free1 ! $ move ! (38 ∷ 39 ∷ []) $ free1 ! $ move ! (36 ∷ 37 ∷ []) $ free1 ! $ move ! (34 ∷ 35 ∷ []) $ free1 ! $ move ! (32 ∷ 33 ∷ []) $ free1 ! $ move ! (30 ∷ 31 ∷ []) $ free1 ! $ move ! (28 ∷ 29 ∷ []) $ free1 ! $ move ! (26 ∷ 27 ∷ []) $ free1 ! $ move ! (24 ∷ 25 ∷ []) $ free1 ! $ move ! (22 ∷ 23 ∷ []) $ free1 ! $ move ! (20 ∷ 21 ∷ []) $ free1 ! $ move ! (18 ∷ 19 ∷ []) $ free1 ! $ move ! (16 ∷ 17 ∷ []) $ free1 ! $ move ! (14 ∷ 15 ∷ []) $ free1 ! $ move ! (12 ∷ 13 ∷ []) $ free1 ! $ move ! (10 ∷ 11 ∷ []) $ free1 ! $ move ! (8 ∷ 9 ∷ []) $ free1 ! $ free0 ! $ keep ! (0 ∷ 1 ∷ 2 ∷ 4 ∷ 5 ∷ 6 ∷ 7 ∷ []) $ by ! (exits g-ys zs len g-us us′ len-us′ r g-r (arrival-settled ys network fr us p refl (sym e) r roomy (settled .0) (settled .1) (said .0) (said .1))))))
+            move ! (48 ∷ 49 ∷ []) $ free1 ! $ move ! (46 ∷ 47 ∷ []) $ free1 ! $ move ! (44 ∷ 45 ∷ []) $ free1 ! $ move ! (42 ∷ 43 ∷ []) $ free1 ! $ move ! (40 ∷ 41 ∷ []) $ free1 ! $ move ! (38 ∷ 39 ∷ []) $ free1 ! $ move ! (36 ∷ 37 ∷ []) $ free1 ! $ move ! (34 ∷ 35 ∷ []) $ free1 ! $ move ! (32 ∷ 33 ∷ []) $ free1 ! $ move ! (30 ∷ 31 ∷ []) $ free1 ! $ move ! (28 ∷ 29 ∷ []) $ free1 ! $ move ! (26 ∷ 27 ∷ []) $ free1 ! $ move ! (24 ∷ 25 ∷ []) $ free1 ! $ move ! (22 ∷ 23 ∷ []) $ free1 ! $ move ! (20 ∷ 21 ∷ []) $ free1 ! $ move ! (18 ∷ 19 ∷ []) $ free1 ! $ move ! (16 ∷ 17 ∷ []) $ free1 ! $ move ! (14 ∷ 15 ∷ []) $ free1 ! $ move ! (12 ∷ 13 ∷ []) $ free1 ! $ move ! (10 ∷ 11 ∷ []) $ free1 ! $ move ! (8 ∷ 9 ∷ []) $ free1 ! $ free0 ! $ keep ! (0 ∷ 1 ∷ 2 ∷ 4 ∷ 5 ∷ 6 ∷ 7 ∷ []) $ by ! (exits g-ys zs len g-us us′ len-us′ r g-r (arrival-decided ys network fr us p refl (sym e) r roomy (decided .0) (decided .1) (said .0) (said .1))))))
 
       -- 1 to 5 are asked: the first `let .. else` and what follows
       abbrev Answered : Asked → List (Item 𝓤)
@@ -248,7 +248,7 @@ arrival-spec 𝓤 H 𝓜 𝓖 𝓡 =
       find′ = cited 𝓤 H (Find 𝓤 H (𝓖 .A) (𝓜 .mem) (𝓡 .run)) 𝓜 𝓡 code.env #receiver·find fn-find-def.routine code.calls-receiver·find (fn-find-met.met 𝓤 H 𝓜 𝓖 𝓡);
       unknown′ = cited 𝓤 H (Unknown 𝓤 H (𝓖 .A) (𝓜 .mem) (𝓡 .run)) 𝓜 𝓡 code.env #calls·unknown fn-unknown-def.routine code.calls-calls·unknown (fn-unknown-met.met 𝓤 H 𝓜 𝓖 𝓡);
       fits′ = cited 𝓤 H (Fits 𝓤 H (𝓖 .A) (𝓜 .mem) (𝓡 .run)) 𝓜 𝓡 code.env #calls·fits fn-fits-def.routine code.calls-calls·fits (fn-fits-met.met 𝓤 H 𝓜 𝓖 𝓡);
-      settle′ = cited 𝓤 H (Settle 𝓤 H (𝓖 .A) (𝓜 .mem) (𝓡 .run)) 𝓜 𝓡 code.env #receiver·settle fn-settle-def.routine code.calls-receiver·settle (fn-settle-met.met 𝓤 H 𝓜 𝓖 𝓡);
+      decide-at′ = cited 𝓤 H (DecideAt 𝓤 H (𝓖 .A) (𝓜 .mem) (𝓡 .run)) 𝓜 𝓡 code.env #receiver·decide-at fn-decide-at-def.routine code.calls-receiver·decide-at (fn-decide-at-met.met 𝓤 H 𝓜 𝓖 𝓡);
       finish′ = cited 𝓤 H (Finish 𝓤 H (𝓖 .A) (𝓜 .mem) (𝓡 .run)) 𝓜 𝓡 code.env #calls·finish fn-finish-def.routine code.calls-calls·finish (fn-finish-met.met 𝓤 H 𝓜 𝓖 𝓡);
     }))
   where

@@ -42,15 +42,15 @@ use Rattle.record.specs.declared.Stream.{Stream}
 use Rattle.calls.specs.Table.{blank}
 use Rattle.calls.specs.Ticks.{sums, noSums, tickedAll, visited}
 use Rattle.calls.specs.declared.Sums.{Sums}
-use Rattle.calls.specs.declared.Turn.{Turn}
+use Rattle.calls.specs.declared.Visited.{Visited}
 use Rattle.calls.proofs.Visits.{sums-nil, sums-snoc, ticked-nil, ticked-snoc, ticked-length}
 use Rattle.receiver.proofs.Calling.{calls-value}
-use Rattle.receiver.proofs.Fields.{turn-stream, turn-sums}
+use Rattle.receiver.proofs.Fields.{visited-stream, visited-sums}
 use Rattle.receiver.proofs.Handing.{owns-slice}
 use Rattle.receiver.proofs.Lists.{drop-past, from-0, one-more, less}
 use Rattle.receiver.proofs.Pieces.{after}
 use Rattle.receiver.proofs.Rows.{R, val, ty, size, mutTy, fits-at, typed, has, opens-at, closes-at, enters-mut}
-use Rattle.receiver.proofs.Values.{sums-ty, sums-val, sums-tells, sums-ok, sums-typed, sums-has, turn-ty, turn-val, turn-tells, turn-ok, turn-typed}
+use Rattle.receiver.proofs.Values.{sums-ty, sums-val, sums-tells, sums-ok, sums-typed, sums-has, visited-ty, visited-val, visited-tells, visited-ok, visited-typed}
 use Rattle.calls.proofs.no_sums as fn-no-sums
 use Rattle.calls.proofs.no_sums.Symbol as fn-no-sums-def
 use Rattle.calls.proofs.no_sums.Symbol.{name as #calls·no-sums}
@@ -133,20 +133,20 @@ module _ {M : Type 1} (𝓤 : URA M) (H : Heap 𝓤) (A : Atoms 𝓤) (W : Given
     same-record : getD zs i blank ≡ e
     same-record = ap (λ (r : List Stream). getD r i blank) parts ∙ getD-at front e (drop (suc i) ys) blank i front-length
 
-    went-on : n < 2 ^ 64 → (v : Turn) → turn-ok v → v ≡ visited c (getD zs i blank) → Facts (suc i) (v .sums) (set zs i (v .stream))
+    went-on : n < 2 ^ 64 → (v : Visited) → visited-ok v → v ≡ visited c (getD zs i blank) → Facts (suc i) (v .sums) (set zs i (v .stream))
     went-on fits v g said =
         let v-is : v ≡ visited (sums (take i ys)) e = said ∙ (λ j. visited (f .1 .1 .1 .0 j) (same-record j)) in
         let more : length (take i ys) + 1 < 2 ^ 64 = (let a : length (take i ys) ≡ i = length-take-le i ys (f .0) in omega (arith, a, l, fits)) in (
           l,
           (
-            turn-sums v g,
+            visited-sums v g,
             (
               length-set zs i (v .stream) ∙ f .1 .1 .0,
               (
-                ap (λ (w : Turn). w .sums) v-is ∙ sym (sums-snoc (take i ys) e more) ∙ ap sums (sym (take-suc ys i blank l)),
+                ap (λ (w : Visited). w .sums) v-is ∙ sym (sums-snoc (take i ys) e more) ∙ ap sums (sym (take-suc ys i blank l)),
                 ap (λ (r : List Stream). set r i (v .stream)) parts ∙ set-at front e (drop (suc i) ys) (v .stream) i front-length
                     ∙ sym (append-assoc front (v .stream ∷ []) (drop (suc i) ys))
-                    ∙ ap (λ (r : List Stream). r ++ drop (suc i) ys) (ap (λ (w : Turn). front ++ w .stream ∷ []) v-is ∙ sym (ticked-snoc (take i ys) e (sums (take i ys))) ∙ ap tickedAll (sym (take-suc ys i blank l))),
+                    ∙ ap (λ (r : List Stream). r ++ drop (suc i) ys) (ap (λ (w : Visited). front ++ w .stream ∷ []) v-is ∙ sym (ticked-snoc (take i ys) e (sums (take i ys))) ∙ ap tickedAll (sym (take-suc ys i blank l))),
               ),
             ),
           ),
@@ -161,11 +161,11 @@ module _ {M : Type 1} (𝓤 : URA M) (H : Heap 𝓤) (A : Atoms 𝓤) (W : Given
 
     module _ (l₀ l₁ l₂ l₃ l₄ l₅ l₆ l₇ l₈ l₉ : ℕ) where
       abbrev En : Env 𝓤 H
-      En = (sums-ty, l₀) ∷ (mutTy, l₁) ∷ (sums-ty, l₂) ∷ (tyInt w64, l₃) ∷ (turn-ty, l₄) ∷ (tyInt w64, l₅) ∷ (tyBool, l₆) ∷ (tyPtr, l₇) ∷ (ty, l₈) ∷ (tyPtr, l₉) ∷ []
+      En = (sums-ty, l₀) ∷ (mutTy, l₁) ∷ (sums-ty, l₂) ∷ (tyInt w64, l₃) ∷ (visited-ty, l₄) ∷ (tyInt w64, l₅) ∷ (tyBool, l₆) ∷ (tyPtr, l₇) ∷ (ty, l₈) ∷ (tyPtr, l₉) ∷ []
 
       -- the context at the start of a turn
       abbrev I : X → List (Item 𝓤)
-      I t = ‵ (fobs γ (codedHoleys R .code (heres R (t .2)))) ∷ ‵ (fbor κ (Held R (length (t .2)) b o γ)) ∷ ‵ (flft κ q) ∷ ‵ (froom tyPtr l₉ 0) ∷ ‵ (fdies tyPtr l₉) ∷ ‵ (froom ty l₈ 0) ∷ ‵ (fdies ty l₈) ∷ ‵ (froom tyPtr l₇ 0) ∷ ‵ (fdies tyPtr l₇) ∷ ‵ (froom tyBool l₆ 0) ∷ ‵ (fdies tyBool l₆) ∷ ‵ (froom (tyInt w64) l₅ 0) ∷ ‵ (fdies (tyInt w64) l₅) ∷ ‵ (froom turn-ty l₄ 0) ∷ ‵ (fdies turn-ty l₄) ∷ ‵ (fat fullShare (tyInt w64) l₃ 0 (vint w64 (t .0))) ∷ ‵ (fdies (tyInt w64) l₃) ∷ ‵ (fat fullShare sums-ty l₂ 0 (sums-val (t .1))) ∷ ‵ (fdies sums-ty l₂) ∷ ‵ (fat fullShare mutTy l₁ 0 s) ∷ ‵ (fdies mutTy l₁) ∷ ‵ (froom sums-ty l₀ 0) ∷ ‵ (fdies sums-ty l₀) ∷ []
+      I t = ‵ (fobs γ (codedHoleys R .code (heres R (t .2)))) ∷ ‵ (fbor κ (Held R (length (t .2)) b o γ)) ∷ ‵ (flft κ q) ∷ ‵ (froom tyPtr l₉ 0) ∷ ‵ (fdies tyPtr l₉) ∷ ‵ (froom ty l₈ 0) ∷ ‵ (fdies ty l₈) ∷ ‵ (froom tyPtr l₇ 0) ∷ ‵ (fdies tyPtr l₇) ∷ ‵ (froom tyBool l₆ 0) ∷ ‵ (fdies tyBool l₆) ∷ ‵ (froom (tyInt w64) l₅ 0) ∷ ‵ (fdies (tyInt w64) l₅) ∷ ‵ (froom visited-ty l₄ 0) ∷ ‵ (fdies visited-ty l₄) ∷ ‵ (fat fullShare (tyInt w64) l₃ 0 (vint w64 (t .0))) ∷ ‵ (fdies (tyInt w64) l₃) ∷ ‵ (fat fullShare sums-ty l₂ 0 (sums-val (t .1))) ∷ ‵ (fdies sums-ty l₂) ∷ ‵ (fat fullShare mutTy l₁ 0 s) ∷ ‵ (fdies mutTy l₁) ∷ ‵ (froom sums-ty l₀ 0) ∷ ‵ (fdies sums-ty l₀) ∷ []
 
       -- when the loop is left, the rest of the body runs; a turn that goes on ends in a later state
       abbrev Left : Post 𝓤 H
@@ -193,14 +193,14 @@ module _ {M : Type 1} (𝓤 : URA M) (H : Heap 𝓤) (A : Atoms 𝓤) (W : Given
           opens-at ! tt zs i blank b o l′ (λ g.
           -- the borrow stays open over the call
           assigns ! (of-opd ! (load ! (from ! (hop ! (look-cell ! 10 refl) (stop !))) (look-raw ! 0 refl))) (from ! (stop !)) (init ! 8 refl (typed 𝓤 H A W (getD zs i blank) g)) $
-          calls-value {𝓤 = 𝓤} {H = H} {A = A} ! fm fn-visit.ended (fn-visit.clauses 𝓤 H A mem run) (known .visit′) ((tt, tt, tt, (c, ((getD zs i blank), tt)), (sums-val c ∷ [], (val (getD zs i blank) ∷ [], tt))), tt) (qed W [] ∵ nothing ! $ has ! (getD zs i blank) g $ fjoin ! $ sums-has ! c (t .3 .1 .0) $ fjoin ! $ nothing ! $ join ! $ frame ! $ done !) turn-val (λ v vs p. turn-tells v vs p) (λ (v : Turn). v ≡ visited c (getD zs i blank)) (λ v ws. id⊢ 𝓤 _) (and-then ! (load ! (from ! (stop !)) (look-cell ! 21 refl)) (and-then ! (load ! (from ! (stop !)) (look-cell ! 9 refl)) (no-more !))) (λ v g-v said.
-          land ! (from ! (stop !)) (init ! 16 refl (turn-typed 𝓤 H A W v g-v)) $
+          calls-value {𝓤 = 𝓤} {H = H} {A = A} ! fm fn-visit.ended (fn-visit.clauses 𝓤 H A mem run) (known .visit′) ((tt, tt, tt, (c, ((getD zs i blank), tt)), (sums-val c ∷ [], (val (getD zs i blank) ∷ [], tt))), tt) (qed W [] ∵ nothing ! $ has ! (getD zs i blank) g $ fjoin ! $ sums-has ! c (t .3 .1 .0) $ fjoin ! $ nothing ! $ join ! $ frame ! $ done !) visited-val (λ v vs p. visited-tells v vs p) (λ (v : Visited). v ≡ visited c (getD zs i blank)) (λ v ws. id⊢ 𝓤 _) (and-then ! (load ! (from ! (stop !)) (look-cell ! 21 refl)) (and-then ! (load ! (from ! (stop !)) (look-cell ! 9 refl)) (no-more !))) (λ v g-v said.
+          land ! (from ! (stop !)) (init ! 16 refl (visited-typed 𝓤 H A W v g-v)) $
           assigns ! (bin ! (load ! (from ! (stop !)) (look-cell ! 18 refl)) (lit ! tt) (record { fits = gp })) (from ! (stop !)) (store-cell ! 14 refl (tt, record { fits = gp })) $
           assigns ! (bin ! (load ! (from ! (fld ! refl (stop !))) (look-in ! 22 (sub ! 0 refl (whole !)))) (load ! (from ! (stop !)) (look-cell ! 14 refl)) tt) (from ! (stop !)) (init ! 6 refl (tt, tt)) $
           rewrite ! 6 (λ (p : ℕ). ‵ (fat fullShare tyPtr l₉ 0 (vptr b p))) (sym (place-is size o i)) refl $
-          assigns ! (of-opd ! (load ! (from ! (fld ! refl (stop !))) (look-in ! 16 (sub ! 0 refl (whole !))))) (from ! (hop ! (look-cell ! 6 refl) (stop !))) (store-raw ! 0 refl (typed 𝓤 H A W (v .stream) (turn-stream v g-v))) $
-          closes-at ! tt zs i blank (v .stream) b o l′ (turn-stream v g-v) $
-          assigns ! (of-opd ! (load ! (from ! (fld ! refl (stop !))) (look-in ! 13 (sub ! 1 refl (whole !))))) (from ! (stop !)) (store-cell ! 17 refl (sums-typed 𝓤 H A W (v .sums) (turn-sums v g-v))) $
+          assigns ! (of-opd ! (load ! (from ! (fld ! refl (stop !))) (look-in ! 16 (sub ! 0 refl (whole !))))) (from ! (hop ! (look-cell ! 6 refl) (stop !))) (store-raw ! 0 refl (typed 𝓤 H A W (v .stream) (visited-stream v g-v))) $
+          closes-at ! tt zs i blank (v .stream) b o l′ (visited-stream v g-v) $
+          assigns ! (of-opd ! (load ! (from ! (fld ! refl (stop !))) (look-in ! 13 (sub ! 1 refl (whole !))))) (from ! (stop !)) (store-cell ! 17 refl (sums-typed 𝓤 H A W (v .sums) (visited-sums v g-v))) $
           assigns-last ! (bin ! (load ! (from ! (stop !)) (look-cell ! 15 refl)) (lit ! tt) (record { fits = next })) (from ! (stop !)) (store-cell ! 15 refl (tt, record { fits = next })) $
           forget ! 13 refl $ forget ! 11 refl $ forget ! 9 refl $ forget ! 7 refl $ forget ! 5 refl $ forget ! 3 refl $ rewrite ! 15 (λ (k : ℕ). ‵ (fat fullShare (tyInt w64) l₃ 0 (vint w64 k))) (one-more i) refl $
           again ! ≺ I t (suc i, v .sums, set zs i (v .stream), went-on i c zs (t .3) l (g-ys .0) v g-v said) (less n i l))))

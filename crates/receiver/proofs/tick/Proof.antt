@@ -42,9 +42,9 @@ use Rattle.calls.specs.declared.Sums.{Sums}
 use Rattle.calls.specs.Calls.{ticking, Meets as CallMeets}
 use Rattle.calls.specs.Said.{saidSwept}
 use Rattle.calls.specs.Ticks.{sums, tickedAll}
-use Rattle.calls.proofs.Slots.{tick-refused, sweep-meets}
+use Rattle.calls.proofs.Slots.{many-refused, sweep-meets}
 use Rattle.receiver.proofs.Enums.{swept-ty, swept-val, swept-ok, swept-typed, swept-has}
-use Rattle.receiver.proofs.Fields.{refused-ok, counted-ok}
+use Rattle.receiver.proofs.Fields.{swept-refused, counted-ok}
 use Rattle.receiver.proofs.Handing.{owns-slice}
 use Rattle.receiver.proofs.Lending.{mut-own, calls-mut}
 use Rattle.receiver.proofs.Rows.{R, mutTy, enters-mut}
@@ -95,7 +95,7 @@ module _ {M : Type 1} (𝓤 : URA M) (H : Heap 𝓤) (A : Atoms 𝓤) (W : Given
   too-long = Swept.Refused TABLE
 
   abbrev too-long-ok : swept-ok too-long
-  too-long-ok = refused-ok TABLE (lit< tt)
+  too-long-ok = swept-refused TABLE (lit< tt)
 
   abbrev counted : Sums → Swept
   counted c = Swept.Counted (c .resets) (c .damaged)
@@ -117,7 +117,7 @@ module _ {M : Type 1} (𝓤 : URA M) (H : Heap 𝓤) (A : Atoms 𝓤) (W : Given
           first ! $ branches ! (load ! (from ! (stop !)) (look-cell ! 7 refl))
           (λ many. assigns ! (agg ! (and-then ! (lit ! tt) (and-then ! (lit ! tt) (no-more !)))) (from ! (stop !)) (init ! 15 refl (swept-typed 𝓤 H A W too-long too-long-ok)) $
           returns-within ! Post′ refl (look-cell ! 15 refl) $ forget ! 15 refl $ forget ! 13 refl $ forget ! 9 refl $ forget ! 7 refl $
-          move ! (15 ∷ 16 ∷ []) $ free1 ! $ move ! (13 ∷ 14 ∷ []) $ free1 ! $ move ! (11 ∷ 12 ∷ []) $ free1 ! $ move ! (9 ∷ 10 ∷ []) $ free1 ! $ move ! (7 ∷ 8 ∷ []) $ free1 ! $ move ! (5 ∷ 6 ∷ []) $ free1 ! $ move ! (3 ∷ 4 ∷ []) $ free1 ! $ free0 ! $ keep ! (0 ∷ 1 ∷ 2 ∷ []) $ by ! (exits g-ys ys refl too-long too-long-ok (tick-refused ys too-long (ltb→lt slotsMost n many) refl)))
+          move ! (15 ∷ 16 ∷ []) $ free1 ! $ move ! (13 ∷ 14 ∷ []) $ free1 ! $ move ! (11 ∷ 12 ∷ []) $ free1 ! $ move ! (9 ∷ 10 ∷ []) $ free1 ! $ move ! (7 ∷ 8 ∷ []) $ free1 ! $ move ! (5 ∷ 6 ∷ []) $ free1 ! $ move ! (3 ∷ 4 ∷ []) $ free1 ! $ free0 ! $ keep ! (0 ∷ 1 ∷ 2 ∷ []) $ by ! (exits g-ys ys refl too-long too-long-ok (many-refused ys ticking (ltb→lt slotsMost n many) refl)))
           (λ few. skips ! $ exec ! C Λ En mir′.t-4 (atRet En Post′) $
           assigns ! (addr ! (from ! (fld ! refl (hop ! (look-in ! 13 (sub ! 0 refl (whole !))) (stop !))))) (from ! (stop !)) (init ! 5 refl (tt, tt)) $
           assigns ! (agg ! (and-then ! (load ! (from ! (stop !)) (look-cell ! 5 refl)) (and-then ! (load ! (from ! (fld ! refl (stop !))) (look-in ! 13 (sub ! 1 refl (whole !)))) (no-more !)))) (from ! (stop !)) (init ! 3 refl (tt, (tt, (record { fits = g-ys .0 }, tt)))) $

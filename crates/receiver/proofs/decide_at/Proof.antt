@@ -1,5 +1,5 @@
--- `receiver::settle` meets its contract: a record is read, judged, read again and stored as it is after that; the borrow stays open throughout.
--- A walk of its MIR, made by walks/walk.py from walks/receiver/settle.walk: edit that. Assumes nothing.
+-- `receiver::decide_at` meets its contract: a record is read, judged, read again and stored as it is after that; the borrow stays open throughout.
+-- A walk of its MIR, made by walks/walk.py from walks/receiver/decide_at.walk: edit that. Assumes nothing.
 use mathlib.Core.Path.{_≡_, refl, sym, ap}
 use Prim.Native.Nat.{ℕ, _<_, _*_, _^_}
 use mathlib.Core.Bool.{Bool}
@@ -53,10 +53,10 @@ use Rattle.calls.proofs.record_after as fn-record-after
 use Rattle.calls.proofs.record_after.Symbol as fn-record-after-def
 use Rattle.calls.proofs.record_after.Symbol.{name as #calls·record-after}
 use Rattle.calls.proofs.record_after.Met as fn-record-after-met
-use Rattle.receiver.proofs.settle.Key.{name as #receiver·settle}
-use Rattle.receiver.proofs.settle as fn
-use Rattle.receiver.proofs.settle.Statement as stated
-use Rattle.receiver.proofs.settle.Code as code
+use Rattle.receiver.proofs.decide_at.Key.{name as #receiver·decide-at}
+use Rattle.receiver.proofs.decide_at as fn
+use Rattle.receiver.proofs.decide_at.Statement as stated
+use Rattle.receiver.proofs.decide_at.Code as code
 
 abbrev stayed : Stays (fn.ended .signature .params) (fn.ended .kept)
 stayed = (stay-slice (0 ∷ []) tt (plain (λ _. R)), (stay-dropped (plain (λ _. usize)) yes, (stay-dropped (plain (λ _. u8)) yes, (stay-dropped (plain (λ _. u16)) yes, (stay-dropped (plain (λ _. Boolean)) yes, tt)))))
@@ -132,11 +132,11 @@ module _ {M : Type 1} (𝓤 : URA M) (H : Heap 𝓤) (A : Atoms 𝓤) (W : Given
         returns ! (look-cell ! 29 refl) $ forget ! 29 refl $ forget ! 27 refl $ forget ! 25 refl $ forget ! 23 refl $ forget ! 21 refl $ forget ! 19 refl $ forget ! 17 refl $ forget ! 15 refl $ forget ! 13 refl $ forget ! 11 refl $ forget ! 9 refl $ forget ! 7 refl $ forget ! 5 refl $ forget ! 3 refl $
         move ! (29 ∷ 30 ∷ []) $ free1 ! $ move ! (27 ∷ 28 ∷ []) $ free1 ! $ move ! (25 ∷ 26 ∷ []) $ free1 ! $ move ! (23 ∷ 24 ∷ []) $ free1 ! $ move ! (21 ∷ 22 ∷ []) $ free1 ! $ move ! (19 ∷ 20 ∷ []) $ free1 ! $ move ! (17 ∷ 18 ∷ []) $ free1 ! $ move ! (15 ∷ 16 ∷ []) $ free1 ! $ move ! (13 ∷ 14 ∷ []) $ free1 ! $ move ! (11 ∷ 12 ∷ []) $ free1 ! $ move ! (9 ∷ 10 ∷ []) $ free1 ! $ move ! (7 ∷ 8 ∷ []) $ free1 ! $ move ! (5 ∷ 6 ∷ []) $ free1 ! $ move ! (3 ∷ 4 ∷ []) $ free1 ! $ free0 ! $ keep ! (0 ∷ 1 ∷ 2 ∷ []) $ by ! (exits g-ys (set ys i e) (length-set ys i e) j g-j (judging, ap (set ys i) said)))))))))))))))))))
 
-pub settle-spec : {M : Type 1} → stated.statement M
+pub decide-at-spec : {M : Type 1} → stated.statement M
 unfolding code.routine tablesOf
-settle-spec 𝓤 H 𝓜 𝓖 𝓡 =
+decide-at-spec 𝓤 H 𝓜 𝓖 𝓡 =
     entered 𝓤 H (tripleOf 𝓤 H (𝓖 .A) fn.signature (fn.spec 𝓤 H (𝓖 .A) (𝓜 .mem) (𝓡 .run)))
-    (tables 𝓤 H 𝓜 𝓡 code.env .C) (tables 𝓤 H 𝓜 𝓡 code.env .Λ) #receiver·settle code.function (code.unfolded 𝓤 H 𝓜 𝓡)
+    (tables 𝓤 H 𝓜 𝓡 code.env .C) (tables 𝓤 H 𝓜 𝓡 code.env .Λ) #receiver·decide-at code.function (code.unfolded 𝓤 H 𝓜 𝓡)
     (meets 𝓤 H (𝓖 .A) (givenOf 𝓤 H 𝓜 𝓖) (𝓜 .mem) (𝓡 .run) (tablesOf 𝓤 H 𝓜 (tables 𝓤 H 𝓜 𝓡 code.env)) (record {
       judge′ = cited 𝓤 H (Judge 𝓤 H (𝓖 .A) (𝓜 .mem) (𝓡 .run)) 𝓜 𝓡 code.env #calls·judge fn-judge-def.routine code.calls-calls·judge (fn-judge-met.met 𝓤 H 𝓜 𝓖 𝓡);
       record-after′ = cited 𝓤 H (RecordAfter 𝓤 H (𝓖 .A) (𝓜 .mem) (𝓡 .run)) 𝓜 𝓡 code.env #calls·record-after fn-record-after-def.routine code.calls-calls·record-after (fn-record-after-met.met 𝓤 H 𝓜 𝓖 𝓡);
