@@ -19,3 +19,6 @@ pub mod tag;
 pub use receiver::{Arrival, Receiver, Settings, Ticked, Verdict};
 pub use record::{dest_of, Counts, State, Stream};
 pub use refusal::Refusal;
+
+/// The version of this crate.
+pub const VERSION: &str = env!("CARGO_PKG_VERSION");
