@@ -1,6 +1,6 @@
 """Window L and reset time R from known delays. docs/INTEGRATION.md derives each formula.
 
-Times are exact fractions of a nanosecond's multiple: no rounding anywhere.
+Times are exact fractions, in nanoseconds: no rounding anywhere.
 """
 import pathlib
 import re
@@ -18,12 +18,18 @@ def size(name):
 
 WINDOW_LEAST, WINDOW_MOST = size("windowLeast"), size("windowMost")
 TIME_LEAST, TIME_MOST = size("timeLeast"), size("timeMost")
+FRAME_MOST = size("frameMost")
 NUMBERS = 65536
 
 
-def least_window(spread, spacing, losses):
-    """J, T, m: the least L with which every first arrival is handed up."""
-    return max(WINDOW_LEAST, spread // spacing + losses + 2)
+# Ticks that can fall into a stall of the machine that the receivers of host/ do not notice.
+HIDDEN = 1
+
+
+def least_window(spread, spacing, losses, traffic=False):
+    """J, T, m: the least L with which every first arrival is handed up; with `traffic` from an open in its middle on, too."""
+    overtaken = spread // spacing
+    return max(WINDOW_LEAST, (2 * overtaken if traffic else overtaken) + losses + 2)
 
 
 def match_fits(spread, spacing):
@@ -31,9 +37,10 @@ def match_fits(spread, spacing):
     return spread < spacing
 
 
-def least_time(spread, tick):
-    """J, and the least time between two ticks: the least R with which no twin comes behind a reset."""
-    return max(TIME_LEAST, spread // tick + 2)
+def least_time(spread, tick, hidden=0):
+    """J, the least time between two ticks, and the ticks that a stall can hide: the least R with which no twin comes behind
+    a reset."""
+    return max(TIME_LEAST, spread // tick + hidden + 2)
 
 
 def farthest(time, tick, spread, spacing):

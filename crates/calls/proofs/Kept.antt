@@ -60,7 +60,7 @@ pub length-kept : LengthKept
 length-kept t c = as-long t (act t c)
 
 -- ---- the other records
-other : (t : Table) (i j : ℕ) (s : Stream) → eqb i j ≡ false → at (set t i s) j ≡ at t j
+pub other : (t : Table) (i j : ℕ) (s : Stream) → eqb i j ≡ false → at (set t i s) j ≡ at t j
 other t i j s e = getD-set-other t i j s blank (λ h. eqb-false i j e (sym h))
 
 stays : (t : Table) (a : Act) (j : ℕ) → forSlot a j ≡ false → at (after t a) j ≡ at t j

@@ -6,7 +6,6 @@ use mathlib.Core.List.{[]}
 use native.Mathlib.Omega.{arith}
 use lib.Dec.{ltb}
 use lib.ListN.{length}
-use lib.Seq.{getD-set-same}
 use Rattle.refusal.specs.Checks.Said.{refused, answers}
 use Rattle.refusal.specs.Numbers.{TABLE, SETTING, TAKEN, FULL}
 use Rattle.record.specs.declared.Stream.{Stream}
@@ -16,7 +15,7 @@ use Rattle.frame.specs.Frame.{destOf}
 use Rattle.stream.specs.Record.{settled, opened}
 use Rattle.stream.specs.Decisions.{up, caseOf, verdict}
 use Rattle.stream.proofs.Law.{law}
-use Rattle.calls.specs.Table.{Table, at, blank, search, someSlot, hasKey, isFree}
+use Rattle.calls.specs.Table.{Table, at, search, someSlot, hasKey, isFree}
 use Rattle.calls.specs.Calls.{opening, ticking, refuse, opens, ticks, open-call, checked, act, after, answer, placed, swept}
 use Rattle.calls.proofs.Sound.{at-ticked, open-lawful, open-takes-free}
 use Rattle.demands.specs.Receiver.{Receiver, MeetsContract, theReceiver, run}
@@ -26,6 +25,7 @@ use Rattle.demands.specs.Corollaries.{handed, NeverTwice, UnlimitedNever
 use Rattle.demands.proofs.Alike.{carried, the-receiver-meets}
 use Rattle.demands.proofs.Once.{once}
 use Rattle.demands.proofs.Sums.{sums}
+use Rattle.demands.proofs.Slot.{at-set}
 use Rattle.demands.proofs.Told.{answered-arrival}
 use Rattle.demands.proofs.Follow.{reset-seen}
 use Rattle.demands.proofs.Three.{inside, over, from-fresh, demand-3}
@@ -60,7 +60,7 @@ opened-so t dest vlan window time i later indices e p =
     let s = opened (destOf dest) vlan vectorRule window time in
     let o = is-open t s i e in
     let l = open-lawful t c i s o in
-    let z : at (after t (act t c)) i ≡ s = rw o (getD-set-same t i s blank (open-takes-free t c i s o .0)) in
+    let z : at (after t (act t c)) i ≡ s = rw o (at-set t i s (open-takes-free t c i s o .0)) in
     from-fresh window (after t (act t c)) i later indices (inside (after t (act t c)) i l) (law l) (rw z refl) (rw z refl) (rw z refl) p
 
 pub opened-decides : {receive : Receiver} → MeetsContract receive → OpenedDecides receive

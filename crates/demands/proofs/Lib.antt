@@ -1,6 +1,7 @@
 -- The theorems, and the laws of runs that other crates may cite.
 pub mod Theorems
 pub mod Alike
+pub mod Coded
 pub mod One
 pub mod Told
 pub mod Three

@@ -6,13 +6,14 @@ use mathlib.Core.List.{List, [], _∷_}
 use native.Mathlib.Omega.{arith}
 use native.Mathlib.Decide.{decLt}
 use lib.Dec.{eqb, ltb}
-use borrow.Author.Tests.{lt-ltb, le-ltb, eqb-true, eqb-false, eq-eqb, ne-eqb, leb-true}
+use borrow.Author.Tests.{lt-ltb, le-ltb, eqb-true, eqb-false, eq-eqb, ne-eqb}
 use Rattle.record.specs.Words.{yes as holds}
 use Rattle.record.specs.Sizes.{vectorRule, windowMost}
 use Rattle.stream.specs.History.{bit, single, advance}
 use Rattle.stream.specs.Record.{State, Stream}
 use Rattle.stream.specs.Decisions.{far, again, late, next, difference, vectorCase, caseOf, verdictOf, stateAfter}
 use Rattle.demands.specs.Unlimited.{elem, highest, apart, judged, remembered, near}
+use Rattle.stream.proofs.Logic.{tests}
 use Rattle.stream.proofs.Past.{set-bit, advance-zero, advance-low, advance-high, single-bit}
 use Rattle.demands.proofs.Wrap.{forward, backward, far-forward, far-backward}
 use Rattle.demands.proofs.Handed.{above, top, more}
@@ -154,7 +155,8 @@ module _ (l : ℕ) (s : Stream) (rule : s .rule ≡ vectorRule) (window : s .win
     on-later : (x : ℕ) → near l (h ∷ hs) x ≡ true → Step l s (h ∷ hs) x
     unfolding near apart
     on-later x r =
-        let b : (x - highest (h ∷ hs)) + (highest (h ∷ hs) - x) ≤ 65536 - l = leb-true _ _ r in
+        let q = simp tests at r in
+        let b : (x - highest (h ∷ hs)) + (highest (h ∷ hs) - x) ≤ 65536 - l = omega (arith, q) in
         elim (decLt (highest (h ∷ hs)) x) [
           | yes p ↦ on-ahead x (x - highest (h ∷ hs)) (omega arith) (omega arith) (omega arith)
           | no p ↦ on-behind x (highest (h ∷ hs) - x) (omega arith) (omega arith)

@@ -5,8 +5,8 @@ use mathlib.Core.Bool.{Bool, true, false, not, false≢true}
 use mathlib.Core.List.{List, [], _∷_}
 use lib.Dec.{eqb, leb, ltb}
 use lib.ListN.{length, set}
-use lib.Seq.{getD-set-same, getD-set-other}
-use borrow.Author.Tests.{eqb-true, eqb-false, not-false}
+use lib.Seq.{getD-set-same}
+use borrow.Author.Tests.{eqb-true, not-false}
 use Rattle.refusal.specs.Checks.{Said}
 use Rattle.refusal.specs.Checks.Said.{refused, answers}
 use Rattle.refusal.specs.Numbers.{TABLE, NETWORK, UNKNOWN, DAMAGED, ROOM, SETTING, TAKEN, FULL, SLOT}
@@ -19,7 +19,7 @@ use Rattle.stream.specs.Decisions.{Verdict, up, duplicate, rogue, verdict, deci
 use Rattle.stream.proofs.Logic.{not-iff}
 use Rattle.calls.specs.Table.{Table, at, search, someSlot, hasKey, isFree}
 use Rattle.calls.specs.Calls.{Call, arriving, opening, closing, resetting, ticking, Act, refuse, arrive, opens, closes, resets, ticks, arrivalAt, arrival, inUse, open-call, checked, act, after, answer, output, outOf, Result, verdictWith}
-use Rattle.calls.proofs.Kept.{length-kept}
+use Rattle.calls.proofs.Kept.{length-kept, other}
 use Rattle.calls.proofs.Lowest.{lowest-found}
 use Rattle.calls.proofs.Sound.{at-ticked}
 use Rattle.demands.specs.Receiver.{theReceiver, run}
@@ -28,9 +28,6 @@ use Rattle.demands.proofs.Moves.{Moves, Trace}
 
 pub at-set : (t : Table) (i : ℕ) (u : Stream) → i < length t → at (set t i u) i ≡ u
 at-set t i u b = getD-set-same t i u _ b
-
-pub at-other : (t : Table) (i j : ℕ) (u : Stream) → eqb j i ≡ false → at (set t j u) i ≡ at t i
-at-other t i j u e = getD-set-other t j i u _ (λ q. eqb-false j i e (sym q))
 
 -- What the call c leaves of a table t where it comes to a.
 abbrev pub resultOf : Table → Call → Act → Result
@@ -64,13 +61,13 @@ module _ (i : ℕ) (t : Table) (within : i < length t) where
       go true e =
           let q : j ≡ i = eqb-true j i e in
           rw e (told-with (length bare) (verdict (at t j) n) ∙ ap (λ (k : ℕ). verdict (at t k) n) q, (w, rw q (at-set t i _ within)))
-      go false e = rw e (λ u. at-other t i j _ e)
+      go false e = rw e (λ u. other t j i _ e)
 
   -- An open takes a slot that is free.
   fills : (dest : List ℕ) (vlan rule window time j : ℕ) (s : Stream) → isFree (at t j) ≡ true
       → Sound (opening dest vlan rule window time) (opens j s)
   unfolding answer after seenOf answered isFree
-  fills dest vlan rule window time j s f = record { moves = λ u. at-other t i j s (go (eqb j i) refl u) }
+  fills dest vlan rule window time j s f = record { moves = λ u. other t j i s (go (eqb j i) refl u) }
     where
       go : (v : Bool) → eqb j i ≡ v → yes (at t i .used) ≡ true → eqb j i ≡ false
       go true e u = absurd (false≢true (sym (rw (eqb-true j i e) at (not-iff (yes (at t j .used)) .0 f)) ∙ u))
@@ -82,7 +79,7 @@ module _ (i : ℕ) (t : Table) (within : i < length t) where
     where
       go : (v : Bool) → eqb j i ≡ v → Moves (at t i) (if eqb j i then ended else nothing) (at (after t (closes j)) i)
       go true e = rw e tt
-      go false e = rw e (λ u. at-other t i j _ e)
+      go false e = rw e (λ u. other t j i _ e)
 
   mends : (j : ℕ) → Sound (resetting j) (resets j)
   unfolding answer after seenOf answered
@@ -90,7 +87,7 @@ module _ (i : ℕ) (t : Table) (within : i < length t) where
     where
       go : (v : Bool) → eqb j i ≡ v → Moves (at t i) (if eqb j i then ended else nothing) (at (after t (resets j)) i)
       go true e = rw e tt
-      go false e = rw e (λ u. at-other t i j _ e)
+      go false e = rw e (λ u. other t j i _ e)
 
   ages : Sound ticking ticks
   unfolding answer after seenOf answered

@@ -2,11 +2,12 @@
 use Rattle.demands.specs.Receiver.{Receiver, MeetsContract}
 use Rattle.demands.specs.Theorems.{Demands, Theorems}
 use Rattle.demands.proofs.Alike.{the-receiver-meets, runs-coincide}
+use Rattle.demands.proofs.Coded.{code-meets}
 use Rattle.demands.proofs.One.{demand-1, demand-1-tags}
 use Rattle.demands.proofs.Told.{arrivals-recovered}
 use Rattle.demands.proofs.Three.{demand-3, fresh-decides}
 use Rattle.demands.proofs.After.{never-twice, unlimited-never-twice, opened-decides, restart-gets-through, counts-once, resets-seen}
-use Rattle.demands.proofs.Runs.{wrap-meets, bound-sharp, premises-needed}
+use Rattle.demands.proofs.Runs.{wrap-meets, bound-reached, premises-are, bound-sharp, premises-needed}
 use Rattle.demands.proofs.Wrong.{right-otherwise, ruled-out}
 
 pub demands : {receive : Receiver} → MeetsContract receive → Demands receive
@@ -27,6 +28,7 @@ pub theorems : Theorems
 theorems = record {
   demands = λ receive m. demands m;
   met = the-receiver-meets;
+  code-meets = code-meets;
   runs-coincide = runs-coincide;
   tags-1 = λ tagger m. demand-1-tags m;
   tags-2 = λ tagger m. m;
@@ -34,6 +36,8 @@ theorems = record {
   ruled-out = ruled-out;
   right-otherwise = right-otherwise;
   wrap-meets = wrap-meets;
+  bound-reached = bound-reached;
+  premises-are = premises-are;
   bound-sharp = bound-sharp;
   premises-needed = premises-needed;
 }

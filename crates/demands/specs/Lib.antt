@@ -1,4 +1,5 @@
 pub mod Receiver
+pub mod Code
 pub mod Demand1
 pub mod Demand2
 pub mod Wrong
@@ -7,4 +8,5 @@ pub mod Unlimited
 pub mod Demand3
 pub mod Corollaries
 pub mod Examples
+pub mod Needed
 pub mod Theorems

@@ -11,7 +11,7 @@ use Rattle.calls.specs.Calls.{Call, act, after, answer, output, outOf, Result, 
 abbrev pub Receiver : Type 0
 Receiver = Table → Call → Result
 
--- It meets document 01 if each call on each table does: the same `Meets` by name that the public calls ensure.
+-- It meets document 01 if each call on each table does: the same `Meets` by name that the public calls ensure (`CodeMeets`).
 abbrev pub MeetsContract : Receiver → Type 0
 MeetsContract receive = (t : Table) (c : Call) → Meets t c (receive t c)
 

@@ -1,13 +1,16 @@
--- What this crate proves, as one list: the three demands of every receiver that meets document 01's contract, what follows
--- from them, and what shows that they are not empty. `proofs/Theorems` has the proof of each line. Assumes nothing.
+-- What this crate proves, as one list: the three demands of every receiver that meets document 01's contract, that the code
+-- meets it, what follows from them, and what shows that they are not empty. `proofs/Theorems` has the proof of each line.
+-- Assumes nothing.
 use Rattle.demands.specs.Receiver.{Receiver, MeetsContract, theReceiver, RunsCoincide, Tagger, MeetsTags}
+use Rattle.demands.specs.Code.{CodeMeets}
 use Rattle.demands.specs.Demand1.{Demand1, Demand1Tags}
 use Rattle.demands.specs.Demand2.{Demand2, Demand2Tags, ArrivalsRecovered}
 use Rattle.demands.specs.Seen.{ResetsSeen}
 use Rattle.demands.specs.Demand3.{Demand3}
 use Rattle.demands.specs.Corollaries.{NeverTwice, UnlimitedNeverTwice, FreshDecides, OpenedDecides, RestartGetsThrough, CountsOnce}
 use Rattle.demands.specs.Wrong.{RightOtherwise, RuledOut}
-use Rattle.demands.specs.Examples.{WrapMeets, BoundSharp, PremisesNeeded}
+use Rattle.demands.specs.Examples.{WrapMeets}
+use Rattle.demands.specs.Needed.{BoundReached, PremisesAre, BoundSharp, PremisesNeeded}
 
 -- Of a receiver.
 pub record Demands (receive : Receiver) : Type 0 where
@@ -22,11 +25,13 @@ pub record Demands (receive : Receiver) : Type 0 where
   pub counts-once : CountsOnce receive
   pub resets-seen : ResetsSeen receive
 
-pub record Theorems : Type 0 where
+pub record Theorems : Type 2 where
   -- Every receiver that meets the contract fulfils the demands,
   pub demands : (receive : Receiver) → MeetsContract receive → Demands receive
-  -- there is one that meets it, and the results that the public calls ensure are its results;
+  -- there is one that meets it, the code of the public calls meets it, and the results that these ensure in a run are that
+  -- one's;
   pub met : MeetsContract theReceiver
+  pub code-meets : CodeMeets
   pub runs-coincide : RunsCoincide
   -- the same of the two calls that have no table.
   pub tags-1 : (tagger : Tagger) → MeetsTags tagger → Demand1Tags tagger
@@ -36,8 +41,10 @@ pub record Theorems : Type 0 where
   -- The wrong receivers of document 01 fail, and those that are made by `deciding` are wrong in nothing else.
   pub ruled-out : RuledOut
   pub right-otherwise : RightOtherwise
-  -- Demand 3's premises can be met, by a run over the wrap; its bound is sharp; and R ticks, no hand-up among them, and
-  -- neither a reset nor a closing afterwards are needed.
+  -- Demand 3's premises can be met, by a run over the wrap and by runs that reach its bound; the bound is sharp; and each of
+  -- the premises is needed.
   pub wrap-meets : WrapMeets
+  pub bound-reached : BoundReached
+  pub premises-are : PremisesAre
   pub bound-sharp : BoundSharp
   pub premises-needed : PremisesNeeded

@@ -7,7 +7,7 @@ use lib.Dec.{eqb}
 use Rattle.record.specs.Words.{if_then_else_}
 use Rattle.record.specs.Sizes.{frameMost}
 use Rattle.calls.specs.Table.{Table, blank}
-use Rattle.calls.specs.Calls.{Call, arriving, opening, closing, resetting, ticking, act, after, answer}
+use Rattle.calls.specs.Calls.{Call, arriving, opening, closing, resetting, ticking, act, after, answer, output as outputAfter}
 use Rattle.event_file.specs.Text.{text}
 use Rattle.event_file.specs.Records.{File, ended, cut, body, recordsOf, Asked, nothing, asks, asked}
 use Rattle.event_file.specs.Lines.{Entry, bad, told, lineOf}
@@ -20,7 +20,7 @@ letterFor (resetting slot) = code "R"
 letterFor (arriving network frame out) = code "A"
 letterFor ticking = code "T"
 
--- What is told of a record, and the table after it. A bad record leaves the table.
+-- What is told of a record, the table after it, and what the output buffer holds after it. A bad record leaves both.
 unfoldable pub entryFor : Table → Asked → Entry
 entryFor t nothing = bad
 entryFor t (asks c) = told (letterFor c) (answer t (act t c))
@@ -28,6 +28,10 @@ entryFor t (asks c) = told (letterFor c) (answer t (act t c))
 unfoldable pub tableAfter : Table → Asked → Table
 tableAfter t nothing = t
 tableAfter t (asks c) = after t (act t c)
+
+unfoldable pub outAfter : Table → (out : List ℕ) → Asked → List ℕ
+outAfter t out nothing = out
+outAfter t out (asks c) = outputAfter t out (act t c)
 
 -- The table has 8 slots, free at first;
 abbrev pub freeTable : Table

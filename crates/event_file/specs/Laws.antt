@@ -6,7 +6,7 @@ use lib.ListN.{length}
 use Rattle.record.specs.Sizes.{frameMost}
 use Rattle.calls.specs.Table.{Table}
 use Rattle.event_file.specs.Records.{recordsIn, recordsOf, asked}
-use Rattle.event_file.specs.Files.{output, entryFor, tableAfter}
+use Rattle.event_file.specs.Files.{output, entryFor, tableAfter, outAfter}
 use Rattle.event_file.specs.Buffers.{Writes}
 use Rattle.event_file.specs.Pieces.{piecesOf, allOf}
 
@@ -24,6 +24,10 @@ abbrev pub AnyOutput : Type 0
 AnyOutput =
     (t : Table) (b out : List ℕ) → length out ≡ frameMost
     → (entryFor t (asked out b) ≡ entryFor t (asked output b)) × (tableAfter t (asked out b) ≡ tableAfter t (asked output b))
+
+-- No record changes how many bytes the output buffer has.
+abbrev pub OutputLength : Type 0
+OutputLength = (t : Table) (b out : List ℕ) → length (outAfter t out (asked out b)) ≡ length out
 
 -- Two outcomes of a line writer coincide.
 abbrev pub WritesCoincide : Type 0

@@ -1,85 +1,100 @@
--- What is due stays due: a record's answer and its line. Assumes nothing.
-use mathlib.Core.Path.{_≡_, refl, _∙_}
-use Prim.Native.Nat.{ℕ, _+_, _-_, _≤_, _<_}
+-- What is due stays due. Assumes nothing.
+use mathlib.Core.Path.{_≡_, refl, sym, ap, _∙_, subst}
+use Prim.Native.Nat.{ℕ, zero, suc, _+_, _-_, _≤_}
 use native.Mathlib.Omega.{arith}
-use mathlib.Core.Bool.{Bool, true, false, _&&_}
-use mathlib.Core.List.{List, _++_, append-assoc}
-use lib.ListN.{length, take, drop}
-use lib.Dec.{ltb, leb}
-use borrow.Author.Tests.{lt-ltb, le-ltb, le-leb, lt-leb, ltb-true, leb-true}
-use Rattle.record.specs.Words.{if_then_else_}
+use mathlib.Core.List.{List, append-assoc}
+use lib.ListN.{length, take, drop, length-append, length-take, length-drop}
 use Rattle.record.specs.Sizes.{frameMost}
-use Rattle.calls.specs.Table.{Table}
-use Rattle.event_file.specs.Records.{readAt}
-use Rattle.event_file.specs.Lines.{lineOf, saidTold}
-use Rattle.event_file.specs.Buffers.{lineMost}
+use Rattle.event_file.specs.Records.{asked}
+use Rattle.event_file.specs.Buffers.{written, Put, lineMost}
 use Rattle.event_file.specs.Files.{linesFrom}
 use Rattle.event_file.specs.declared.reader.Read.{Read}
 use Rattle.event_file.specs.declared.reader.Read.the-variants.{More, Body}
-use Rattle.event_file.specs.declared.line.Told.{Told}
-use Rattle.event_file.proofs.Framing.{Whole, whole-is, one-record}
-use Rattle.event_file.proofs.Writing.{front-of, writes-put}
-use Rattle.event_file.proofs.Outputs.{any-output}
-use Rattle.event_run.specs.declared.Place.{Place}
-use Rattle.event_run.specs.Run.{due, lastNumber, nextOf, Handled, Noted, Kept}
+use Rattle.event_file.proofs.Framing.{one-record}
+use Rattle.event_file.proofs.Writing.{front-of}
+use Rattle.event_file.proofs.Outputs.{any-output, output-length}
+use Rattle.event_run.specs.Run.{due, Work, lineFor, answered, goesOn, drainedIn, drainedOf, Kept, Drained}
+use Rattle.event_run.specs.Laws.{DrainsKeep}
+use Rattle.event_run.proofs.Nexts.{Found, found}
+use Rattle.event_run.proofs.Draining.{next, one, left, less, none-left}
 
--- ---- the next record that can be answered
+module _ (input : List ℕ) where
+  -- what is due from one work on is due from another
+  abbrev Keeps : Work → Work → Type 0
+  Keeps w v = Kept (w .table) (w .place) input (w .lines) (v .table) (v .place) (v .lines)
 
-and-false : (b : Bool) → (b && false) ≡ false
-and-false true = refl
-and-false false = refl
+  -- ---- one record
 
-module _ (p : Place) (input : List ℕ) (room : ℕ) where
-  pub no-room : room < p .used + lineMost → More ≡ nextOf p input room
-  unfolding nextOf
-  no-room h = simp (lt-leb _ _ h)
+  module _ (w : Work) (i j : ℕ) where
+    abbrev b : List ℕ
+    b = take (j - i) (drop i input)
 
-  pub no-number : lastNumber ≤ p .number → More ≡ nextOf p input room
-  unfolding nextOf
-  no-number h = simp (le-ltb _ _ h, and-false)
+    abbrev line : List ℕ
+    line = lineFor w (asked (w .out) b)
 
-  pub answerable : p .used + lineMost ≤ room → p .number < lastNumber → readAt input (p .at) ≡ nextOf p input room
-  unfolding nextOf
-  answerable h k = simp (le-leb _ _ h, lt-ltb _ _ k)
+    -- the line buffer does not get shorter, and keeps its length only where the line had room
+    longer : length (w .lines) ≤ length (one input w i j .lines)
+    unfolding answered written
+    longer = simp (length-append, length-take, length-drop) (omega arith)
 
--- ---- one record
+    had-room : length (one input w i j .lines) ≡ length (w .lines) → w .place .used + lineMost ≤ length (w .lines) → w .place .used + length line ≤ length (w .lines)
+    unfolding answered written
+    had-room e h = let k = simp (length-append, length-take, length-drop) at e in omega arith
 
--- the record that was found, and that there is room for its line, and a number for the next
-pub record Found (p : Place) (input : List ℕ) (most i j : ℕ) : Type 0 where
-  pub whole : Whole input (p .at) i j
-  pub room : p .used + lineMost ≤ most
-  pub number : p .number < lastNumber
+    out-length : length (one input w i j .out) ≡ length (w .out)
+    unfolding answered
+    out-length = output-length (w .table) b (w .out)
 
-tests : (a b : Bool) {r : Read} {i j : ℕ} → (if a && b then r else More) ≡ Body i j → (a ≡ true) × (b ≡ true) × (r ≡ Body i j)
-tests true true e = (refl, refl, e)
-tests true false e = absurd (let z : _≡_ {A = ℕ} 0 1 = cc in omega arith)
-tests false b e = absurd (let z : _≡_ {A = ℕ} 0 1 = cc in omega arith)
+    one-keeps : length (w .out) ≡ frameMost → Found (w .place) input (length (w .lines)) i j → length (one input w i j .lines) ≡ length (w .lines) → Keeps w (one input w i j)
+    unfolding answered due linesFrom
+    one-keeps h f l =
+        let x : Put line (w .place .used) (w .lines) (one input w i j .lines) (w .place .used + length line) = record { room = had-room l (f .room); same = refl; place = refl } in
+        let alike = any-output (w .table) b (w .out) h in
+        record {
+          same = λ rest. rw (front-of x, alike .0, alike .1, one-record input (w .place .at) i j rest (f .whole)) (append-assoc (take (w .place .used) (w .lines)) _ _);
+          within = λ _. f .whole .room;
+          room = λ _. omega (arith, x .room);
+        }
 
-pub found : (p : Place) (input : List ℕ) (room i j : ℕ) → nextOf p input room ≡ Body i j → Found p input room i j
-unfolding nextOf
-found p input room i j e =
-    let t = tests (leb (p .used + lineMost) room) (ltb (p .number) lastNumber) e in
-    record { whole = whole-is input (p .at) i j refl (t .2); room = leb-true _ _ (t .0); number = ltb-true _ _ (t .1) }
+  -- ---- all that can be answered
 
-module _ (t u : Table) (p r : Place) (input old new out : List ℕ) (i j : ℕ) (told : Told) where
-  due-step : length out ≡ frameMost → Found p input (length old) i j → Handled t (take (j - i) (drop i input)) out u told → Noted p j told old new r
-      → (rest : List ℕ) → due u r new (drop (r .at) input ++ rest) ≡ due t p old (drop (p .at) input ++ rest)
-  unfolding due linesFrom
-  due-step h f w n rest =
-      let alike = any-output t (take (j - i) (drop i input)) out h in
-      let front : take (r .used) new ≡ take (p .used) old ++ lineOf (p .number) (saidTold told) = front-of (writes-put lineMost (p .used) (f .room) (n .line)) in
-      let number : r .number ≡ p .number + 1 = omega (arith, f .number, n .number) in
-      rw (front, w .entry ∙ alike .0, w .table ∙ alike .1, number, n .place, one-record input (p .at) i j rest (f .whole)) (append-assoc (take (p .used) old) _ _)
+  longer-all : (most : ℕ) (w : Work) → length (w .lines) ≤ length (drainedIn most input w .lines)
+  unfolding drainedIn goesOn
+  longer-all zero w = omega arith
+  longer-all (suc most) w = go (λ v. longer-all most v) (next input w)
+    where
+      go : ((v : Work) → length (v .lines) ≤ length (drainedIn most input v .lines)) → (v : Read) → length (w .lines) ≤ length (goesOn input (drainedIn most input) w v .lines)
+      go all More = omega arith
+      go all (Body i j) = omega (arith, longer w i j, all (one input w i j))
 
-  pub kept-step : {s : Table} {q : Place} {first : List ℕ} → length out ≡ frameMost → length new ≡ length old → Kept s q input first t p old
-      → Found p input (length old) i j → Handled t (take (j - i) (drop i input)) out u told → Noted p j told old new r → Kept s q input first u r new
-  kept-step h l k f w n =
-      let x = writes-put lineMost (p .used) (f .room) (n .line) in
-      record {
-        same = λ rest. due-step h f w n rest ∙ k .same rest;
-        within = λ _. omega (arith, n .place, f .whole .room);
-        room = λ _. omega (arith, x .place, x .room);
-      }
+  keeps : (most : ℕ) (w : Work) → length (w .out) ≡ frameMost → length (drainedIn most input w .lines) ≡ length (w .lines) → Keeps w (drainedIn most input w)
+  unfolding drainedIn goesOn
+  keeps zero w h l = record { same = λ rest. refl; within = λ h. h; room = λ h. h }
+  keeps (suc most) w h l = go (λ v. keeps most v) (next input w) refl l
+    where
+      go : ((v : Work) → length (v .out) ≡ frameMost → length (drainedIn most input v .lines) ≡ length (v .lines) → Keeps v (drainedIn most input v))
+          → (v : Read) → next input w ≡ v → length (goesOn input (drainedIn most input) w v .lines) ≡ length (w .lines) → Keeps w (goesOn input (drainedIn most input) w v)
+      go all More e l = record { same = λ rest. refl; within = λ h. h; room = λ h. h }
+      go all (Body i j) e l =
+          let v : Work = one input w i j in
+          let first : length (v .lines) ≡ length (w .lines) = omega (arith, longer w i j, longer-all most v) in
+          let k = one-keeps w i j h (found _ input _ i j e) first in
+          let k′ = all v (out-length w i j ∙ h) (l ∙ sym first) in
+          record { same = λ rest. k′ .same rest ∙ k .same rest; within = λ x. k′ .within (k .within x); room = λ x. k′ .room (k .room x) }
 
-pub kept-start : (t : Table) (p : Place) (input lines : List ℕ) → Kept t p input lines t p lines
-kept-start t p input lines = record { same = λ rest. refl; within = λ h. h; room = λ h. h }
+  none : (most : ℕ) (w : Work) → left input w ≤ most → next input (drainedIn most input w) ≡ More
+  unfolding drainedIn goesOn
+  none zero w h = none-left input w h
+  none (suc most) w h = go (λ v. none most v) (next input w) refl
+    where
+      go : ((v : Work) → left input v ≤ most → next input (drainedIn most input v) ≡ More) → (v : Read) → next input w ≡ v → next input (goesOn input (drainedIn most input) w v) ≡ More
+      go all More e = e
+      go all (Body i j) e = let l = less input w i j e in all (one input w i j) (omega arith)
+
+pub drains-keep : DrainsKeep
+unfolding drainedOf
+drains-keep t p input old out u r new left l d =
+    let w : Work = record { table = t; place = p; lines = old; out = out } in
+    let long : length (drainedIn (length input) input w .lines) ≡ length old = ap (λ (v : Work). length (v .lines)) (sym (d .same)) ∙ l in
+    subst (λ (v : Work). Drained t p input old out (v .table) (v .place) (v .lines)) (sym (d .same))
+    (record { kept = λ h. keeps input (length input) w h long; none = none input (length input) w (omega arith) })

@@ -12,7 +12,7 @@ use borrow.Author.Tests.{leb-true}
 use Rattle.refusal.specs.Checks.{Said}
 use Rattle.record.specs.Words.{if_then_else_}
 use Rattle.calls.specs.Table.{Table}
-use Rattle.calls.specs.Calls.{Call, arriving, opening, closing, resetting, ticking, Answer, Meets}
+use Rattle.calls.specs.Calls.{Call, arriving, opening, closing, resetting, ticking, Answer, act, output, Meets}
 use Rattle.calls.specs.Said.{saidArrival, saidOpened, saidDone, saidSwept}
 use Rattle.calls.specs.declared.Answer as arrival
 use Rattle.calls.specs.declared.Opened.{Opened}
@@ -25,6 +25,8 @@ use Rattle.event_file.specs.declared.reader.Settings.{Settings}
 use Rattle.event_file.specs.declared.reader.Event.{Event}
 use Rattle.event_file.specs.declared.line.Reply.{Reply}
 use Rattle.event_file.specs.declared.line.Told.{Told}
+use Rattle.event_file.specs.Files.{outAfter}
+use Rattle.event_file.proofs.Outputs.{Alone, left-alone}
 use Rattle.event_run.specs.Run.{Handled}
 
 -- ---- the frame of an arrival
@@ -66,40 +68,46 @@ frame-part s start end from e =
 -- ---- the answers
 
 module _ (t : Table) (b out : List ℕ) where
-  -- a bad record is told, and leaves the table
-  pub handled-bad : {v : Event} → v ≡ Event.Bad → v ≡ eventOf b → Handled t b out t Told.Bad
-  unfolding asked askedBy entryFor tableAfter
+  -- a bad record is told, and leaves the table and the output
+  pub handled-bad : {v : Event} → v ≡ Event.Bad → v ≡ eventOf b → Handled t b out t Told.Bad out
+  unfolding asked askedBy entryFor tableAfter outAfter
   handled-bad e f =
       let a : asked out b ≡ Asked.nothing = ap (askedBy out b) (sym f ∙ e) in
-      record { table = ap (tableAfter t) (sym a); entry = ap (entryFor t) (sym a) }
+      record { table = ap (tableAfter t) (sym a); entry = ap (entryFor t) (sym a); output = ap (outAfter t out) (sym a) }
 
   -- any other asks for a call, whose answer is told with its letter
-  handled : {v : Event} (c : Call) (r : Told) {s : Said Answer} {u : Table} {o : List ℕ}
-      → v ≡ eventOf b → askedBy out b v ≡ asks c → Meets t c (record { said = s; table = u; output = o }) → saidTold r ≡ told (letterFor c) s → Handled t b out u r
-  unfolding asked entryFor tableAfter
-  handled c r f e m k =
+  handled : {v : Event} (c : Call) (r : Told) {s : Said Answer} {u : Table} {o left : List ℕ}
+      → v ≡ eventOf b → askedBy out b v ≡ asks c → Meets t c (record { said = s; table = u; output = o }) → left ≡ output t out (act t c)
+      → saidTold r ≡ told (letterFor c) s → Handled t b out u r left
+  unfolding asked entryFor tableAfter outAfter
+  handled c r f e m l k =
       let a : asked out b ≡ asks c = ap (askedBy out b) (sym f) ∙ e in
-      record { table = m .table ∙ ap (tableAfter t) (sym a); entry = k ∙ (ap (told (letterFor c)) (m .said) ∙ ap (entryFor t) (sym a)) }
+      record { table = m .table ∙ ap (tableAfter t) (sym a); entry = k ∙ (ap (told (letterFor c)) (m .said) ∙ ap (entryFor t) (sym a)); output = l ∙ ap (outAfter t out) (sym a) }
+
+  -- one that is lent no output leaves it
+  alone : {v : Event} (c : Call) (r : Told) {s : Said Answer} {u : Table} {o : List ℕ} → Alone c
+      → v ≡ eventOf b → askedBy out b v ≡ asks c → Meets t c (record { said = s; table = u; output = o }) → saidTold r ≡ told (letterFor c) s → Handled t b out u r out
+  alone c r z f e m k = handled c r f e m (sym (left-alone t out c z)) k
 
   module _ {u : Table} {o : List ℕ} {r : Told} where
     pub handled-open : (v : Settings) {dest : List ℕ} {a : Opened} → Event.Open v ≡ eventOf b → dest ≡ destinationOf b
-        → Meets t (opening dest (v .vlan) (v .rule) (v .window) (v .time)) (record { said = saidOpened a; table = u; output = o }) → r ≡ Told.Answered (Reply.Open a) → Handled t b out u r
+        → Meets t (opening dest (v .vlan) (v .rule) (v .window) (v .time)) (record { said = saidOpened a; table = u; output = o }) → r ≡ Told.Answered (Reply.Open a) → Handled t b out u r out
     unfolding askedBy
-    handled-open v {dest} e f m h = handled (opening dest (v .vlan) (v .rule) (v .window) (v .time)) r e (rw f refl) m (ap saidTold h)
+    handled-open v {dest} e f m h = alone (opening dest (v .vlan) (v .rule) (v .window) (v .time)) r tt e (rw f refl) m (ap saidTold h)
 
-    pub handled-close : (slot : ℕ) {a : Done} → Event.Close slot ≡ eventOf b → Meets t (closing slot) (record { said = saidDone a; table = u; output = o }) → r ≡ Told.Answered (Reply.Close a) → Handled t b out u r
+    pub handled-close : (slot : ℕ) {a : Done} → Event.Close slot ≡ eventOf b → Meets t (closing slot) (record { said = saidDone a; table = u; output = o }) → r ≡ Told.Answered (Reply.Close a) → Handled t b out u r out
     unfolding askedBy
-    handled-close slot e m h = handled (closing slot) r e refl m (ap saidTold h)
+    handled-close slot e m h = alone (closing slot) r tt e refl m (ap saidTold h)
 
-    pub handled-reset : (slot : ℕ) {a : Done} → Event.Reset slot ≡ eventOf b → Meets t (resetting slot) (record { said = saidDone a; table = u; output = o }) → r ≡ Told.Answered (Reply.Reset a) → Handled t b out u r
+    pub handled-reset : (slot : ℕ) {a : Done} → Event.Reset slot ≡ eventOf b → Meets t (resetting slot) (record { said = saidDone a; table = u; output = o }) → r ≡ Told.Answered (Reply.Reset a) → Handled t b out u r out
     unfolding askedBy
-    handled-reset slot e m h = handled (resetting slot) r e refl m (ap saidTold h)
+    handled-reset slot e m h = alone (resetting slot) r tt e refl m (ap saidTold h)
 
     pub handled-arrival : (network : ℕ) {frame : List ℕ} {a : arrival.Answer} → Event.Arrival network ≡ eventOf b → frame ≡ drop 2 b
-        → Meets t (arriving network frame out) (record { said = saidArrival a; table = u; output = o }) → r ≡ Told.Answered (Reply.Arrival a) → Handled t b out u r
+        → Meets t (arriving network frame out) (record { said = saidArrival a; table = u; output = o }) → r ≡ Told.Answered (Reply.Arrival a) → Handled t b out u r o
     unfolding askedBy
-    handled-arrival network {frame} e f m h = handled (arriving network frame out) r e (rw f refl) m (ap saidTold h)
+    handled-arrival network {frame} e f m h = handled (arriving network frame out) r e (rw f refl) m (m .output) (ap saidTold h)
 
-    pub handled-tick : {a : Swept} → Event.Tick ≡ eventOf b → Meets t ticking (record { said = saidSwept a; table = u; output = o }) → r ≡ Told.Answered (Reply.Tick a) → Handled t b out u r
+    pub handled-tick : {a : Swept} → Event.Tick ≡ eventOf b → Meets t ticking (record { said = saidSwept a; table = u; output = o }) → r ≡ Told.Answered (Reply.Tick a) → Handled t b out u r out
     unfolding askedBy
-    handled-tick e m h = handled ticking r e refl m (ap saidTold h)
+    handled-tick e m h = alone ticking r tt e refl m (ap saidTold h)

@@ -13,7 +13,7 @@ ghost use mathlib.Core.Path.{_≡_};
 ghost use Prim.Native.Nat.{_+_, _-_, _^_, _≤_, _<_};
 ghost use lib.ListN.{length, take, drop};
 ghost use Rattle.event_file.specs.Records.{eventOf, destinationOf};
-ghost use Rattle.event_run.specs.Run.{nextOf, Handled, Noted, Drained};
+ghost use Rattle.event_run.specs.Run.{nextOf, Handled, Noted, Drains};
 
 // Where a run is: the next record's number and its place in the input, and how many bytes of lines wait.
 pub struct Place {
@@ -112,7 +112,7 @@ fn tell_tick(a: Swept) -> Told
 // walk of one needs nothing of the others.
 fn handle(table: &mut [Stream], input: &[u8], start: usize, end: usize, out: &mut [u8]) -> Told
     requires { ⌜ (start ≤ end) × (end ≤ length (now input)) ⌝ }
-    ensures { λ r. ⌜ Handled (now (table .entry)) (take (end - start) (drop start (now (input .entry)))) (now (out .entry)) (now (table .exit)) r ⌝ }
+    ensures { λ r. ⌜ Handled (now (table .entry)) (take (end - start) (drop start (now (input .entry)))) (now (out .entry)) (now (table .exit)) r (now (out .exit)) ⌝ }
 {
     let event = event_at(input, start, end);
     match event {
@@ -146,7 +146,7 @@ fn handle(table: &mut [Stream], input: &[u8], start: usize, end: usize, out: &mu
 
 // All records that can be answered: each is answered, and its line is noted.
 fn drain(table: &mut [Stream], p: Place, input: &[u8], lines: &mut [u8], out: &mut [u8]) -> Place
-    ensures { λ r. ⌜ Drained (now (table .entry)) p (now (input .entry)) (now (lines .entry)) (now (out .entry)) (now (table .exit)) r (now (lines .exit)) ⌝ }
+    ensures { λ r. ⌜ Drains (now (table .entry)) p (now (input .entry)) (now (lines .entry)) (now (out .entry)) (now (table .exit)) r (now (lines .exit)) (now (out .exit)) ⌝ }
 {
     let mut p = p;
     loop {
@@ -168,7 +168,7 @@ pub struct Round {
 
 // `drain` with a table of 8 by value, which is lent once for a whole buffer: so a caller needs no walk.
 pub fn drain8(table: [Stream; 8], p: Place, input: &[u8], lines: &mut [u8], out: &mut [u8]) -> Round
-    ensures { λ r. ⌜ Drained table p (now (input .entry)) (now (lines .entry)) (now (out .entry)) (r .table) (r .place) (now (lines .exit)) ⌝ }
+    ensures { λ r. ⌜ Drains table p (now (input .entry)) (now (lines .entry)) (now (out .entry)) (r .table) (r .place) (now (lines .exit)) (now (out .exit)) ⌝ }
 {
     let mut table = table;
     let place = drain(&mut table, p, input, lines, out);

@@ -7,6 +7,8 @@ use std::process::ExitCode;
 
 use event_text::{decode, encode};
 
+const USAGE: &str = "usage: event-text encode | decode | beside TEXT LINES";
+
 fn main() -> ExitCode {
     let arguments: Vec<String> = std::env::args().skip(1).collect();
     let words: Vec<&str> = arguments.iter().map(String::as_str).collect();
@@ -18,7 +20,8 @@ fn main() -> ExitCode {
         ["beside", shown, lines] => read(shown)
             .and_then(text)
             .and_then(|shown| Ok(beside(&shown, &read(lines).and_then(text)?)?.into_bytes())),
-        _ => Err("usage: event-text encode | decode | beside TEXT LINES".into()),
+        ["--help"] => Ok(format!("{USAGE}\n").into_bytes()),
+        _ => Err(USAGE.into()),
     };
     let done = done.and_then(|bytes| io::stdout().write_all(&bytes).map_err(say));
     if let Err(message) = done {

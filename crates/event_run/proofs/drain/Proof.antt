@@ -1,6 +1,6 @@
 -- `event_run::drain` meets its contract: a loop that seeks a record, answers it and notes its line, until there is none; table, lines and output stay lent over all its turns.
 -- A walk of its MIR, made by walks/walk.py from walks/event_run/drain.walk: edit that. Assumes nothing.
-use mathlib.Core.Path.{_≡_, refl, sym, _∙_, subst}
+use mathlib.Core.Path.{_≡_, refl, sym, _∙_, ap, subst}
 use Prim.Native.Nat.{ℕ, _-_, _<_, _≤_, _^_}
 use native.Mathlib.Omega.{arith}
 use mathlib.Core.List.{List, [], _∷_}
@@ -41,19 +41,19 @@ use denote.Triple.Table.{entered, cited}
 use denote.Triple.Walked.{says, Stays, stay-slice, stay-dropped, walkOf, goes-slice, goes-dropped, ends-at, walked, walk-meets}
 use denote.Exit.{yes}
 use Rattle.record.specs.declared.Stream.{Stream}
-use Rattle.record.specs.Sizes.{frameMost}
 use Rattle.event_file.specs.declared.reader.Read.{Read}
 use Rattle.event_file.specs.declared.line.Told.{Told}
 use Rattle.event_run.specs.declared.Place.{Place}
-use Rattle.event_run.specs.Run.{nextOf, Handled, Noted, Kept, Drained}
+use Rattle.event_run.specs.Run.{nextOf, Handled, Noted, Work, drainedOf, Drains}
 use Rattle.receiver.proofs.Both.{calls-mut-two}
 use Rattle.receiver.proofs.Calling.{calls-with}
 use Rattle.receiver.proofs.Handing.{owns-slice}
 use Rattle.receiver.proofs.Lending.{mut-own, calls-mut}
 use Rattle.receiver.proofs.Pieces.{after, arm-of}
 use Rattle.receiver.proofs.Rows.{R, mutTy, has}
-use Rattle.event_run.proofs.Dues.{Found, found, kept-step, kept-start}
+use Rattle.event_run.proofs.Draining.{left, drained-none, drained-one, one-more}
 use Rattle.event_run.proofs.Enums.{read-ty, read-val, read-tells, read-ok, read-typed, told-ty, told-val, told-tells, told-typed, told-has}
+use Rattle.event_run.proofs.Nexts.{Found, found}
 use Rattle.event_run.proofs.Values.{place-row, place-ty, place-val, place-spells, place-tells, place-ok, place-typed, place-has}
 use Rattle.event_run.proofs.seek as fn-seek
 use Rattle.event_run.proofs.seek.Symbol as fn-seek-def
@@ -107,24 +107,30 @@ module _ {M : Type 1} (𝓤 : URA M) (H : Heap 𝓤) (A : Atoms 𝓤) (W : Given
   abbrev Post′ : Val → SProp 𝓤
   Post′ = walkOf 𝓤 H A fn.ended stayed (fn.clauses 𝓤 H A mem run) .post (((κ, (κ₁, (κ₂, (κ₃, tt)))), (q, (q₁, (q₂, (q₃, tt)))), tt, x, mv), tt)
 
-  exits : Room R (length ys) → (zs : List Stream) → length zs ≡ length ys → Room u8 (length cs) → (cs′ : List ℕ) → length cs′ ≡ length cs → Room u8 (length us) → (us′ : List ℕ) → length us′ ≡ length us → (r : Place) → place-ok r → Drained ys p₀ bs cs us zs r cs′ → ent 𝓤 (⋆ 𝓤 H A (‵ (fobs γ (codedHoleys R .code (heres R zs))) ∷ ‵ (fbor κ (Held R (length zs) b o γ)) ∷ ‵ (flft κ q) ∷ ‵ (flft κ₁ q₁) ∷ ‵ (fobs γ₂ (codedHoleys u8 .code (heres u8 cs′))) ∷ ‵ (fbor κ₂ (Held u8 (length cs′) b₂ o₂ γ₂)) ∷ ‵ (flft κ₂ q₂) ∷ ‵ (fobs γ₃ (codedHoleys u8 .code (heres u8 us′))) ∷ ‵ (fbor κ₃ (Held u8 (length us′) b₃ o₃ γ₃)) ∷ ‵ (flft κ₃ q₃) ∷ [])) (Post′ (place-val r))
+  exits : Room R (length ys) → (zs : List Stream) → length zs ≡ length ys → Room u8 (length cs) → (cs′ : List ℕ) → length cs′ ≡ length cs → Room u8 (length us) → (us′ : List ℕ) → length us′ ≡ length us → (r : Place) → place-ok r → Drains ys p₀ bs cs us zs r cs′ us′ → ent 𝓤 (⋆ 𝓤 H A (‵ (fobs γ (codedHoleys R .code (heres R zs))) ∷ ‵ (fbor κ (Held R (length zs) b o γ)) ∷ ‵ (flft κ q) ∷ ‵ (flft κ₁ q₁) ∷ ‵ (fobs γ₂ (codedHoleys u8 .code (heres u8 cs′))) ∷ ‵ (fbor κ₂ (Held u8 (length cs′) b₂ o₂ γ₂)) ∷ ‵ (flft κ₂ q₂) ∷ ‵ (fobs γ₃ (codedHoleys u8 .code (heres u8 us′))) ∷ ‵ (fbor κ₃ (Held u8 (length us′) b₃ o₃ γ₃)) ∷ ‵ (flft κ₃ q₃) ∷ [])) (Post′ (place-val r))
   exits g-ys zs len-ys g-cs cs′ len-cs g-us us′ len-us r g said =
       qed W (‵ (fobs γ (codedHoleys R .code (heres R zs))) ∷ ‵ (fbor κ (Held R (length zs) b o γ)) ∷ ‵ (flft κ q) ∷ ‵ (flft κ₁ q₁) ∷ ‵ (fobs γ₂ (codedHoleys u8 .code (heres u8 cs′))) ∷ ‵ (fbor κ₂ (Held u8 (length cs′) b₂ o₂ γ₂)) ∷ ‵ (flft κ₂ q₂) ∷ ‵ (fobs γ₃ (codedHoleys u8 .code (heres u8 us′))) ∷ ‵ (fbor κ₃ (Held u8 (length us′) b₃ o₃ γ₃)) ∷ ‵ (flft κ₃ q₃) ∷ []) ∵
       suffices ! _ (ends-at 𝓤 H A fn.ended stayed (fn.clauses 𝓤 H A mem run) W (((κ, (κ₁, (κ₂, (κ₃, tt)))), (q, (q₁, (q₂, (q₃, tt)))), tt, x, mv), tt) (place-val r) r (zs, (tt, (tt, (cs′, (us′, tt))))) (len-ys, (tt, (tt, (len-cs, (len-us, tt)))))) $ says ! said $
       nothing ! $ move ! (10 ∷ 0 ∷ []) $ join ! $ move ! (7 ∷ 0 ∷ []) $ join ! $ move ! (4 ∷ 0 ∷ []) $ join ! $ move ! (3 ∷ 0 ∷ []) $ join ! $ frame ! $ move ! (0 ∷ 1 ∷ []) $ owns-slice ! R (named 0) ys zs b o len-ys g-ys $ move ! (1 ∷ 2 ∷ []) $ owns-slice ! u8 (named 2) cs cs′ b₂ o₂ len-cs g-cs $ move ! (2 ∷ 3 ∷ []) $ owns-slice ! u8 (named 3) us us′ b₃ o₃ len-us g-us $ nothing ! $ move ! (1 ∷ 0 ∷ []) $ fjoin ! $ move ! (1 ∷ 0 ∷ []) $ fjoin ! $ nothing ! $ fjoin ! $ nothing ! $ fjoin ! $ move ! (1 ∷ 0 ∷ []) $ fjoin ! $ frame ! $ place-has ! r g $ done !
 
-  -- ---- the loop: p is the place, zs the table, cs′ the lines, us′ the output
+  -- ---- the loop: p is the place, zs the table, cs′ the lines, us′ the output. All that is left to answer leaves what all leaves
+  abbrev work : Place → List Stream → List ℕ → List ℕ → Work
+  work p zs cs′ us′ = record { table = zs; place = p; lines = cs′; out = us′ }
+
   abbrev Facts : Place → List Stream → List ℕ → List ℕ → Type 0
-  Facts p zs cs′ us′ = place-ok p × ((length zs ≡ length ys) × ((length cs′ ≡ length cs) × ((length us′ ≡ length us) × (length us ≡ frameMost → Kept ys p₀ bs cs zs p cs′))))
+  Facts p zs cs′ us′ = place-ok p × ((length zs ≡ length ys) × ((length cs′ ≡ length cs) × ((length us′ ≡ length us) × (drainedOf bs (work p zs cs′ us′) ≡ drainedOf bs (work p₀ ys cs us)))))
 
   abbrev X : Type 0
   X = (p : Place) × (zs : List Stream) × (cs′ : List ℕ) × (us′ : List ℕ) × Facts p zs cs′ us′
 
-  abbrev start : place-ok p₀ → X
-  start g = (p₀, ys, cs, us, (g, (refl, (refl, (refl, λ _. kept-start ys p₀ bs cs)))))
+  abbrev worked : X → Work
+  worked t = work (t .0) (t .1) (t .2) (t .3)
 
-  ended : (t : X) → Read.More ≡ nextOf (t .0) bs (length (t .2)) → Drained ys p₀ bs cs us (t .1) (t .0) (t .2)
-  ended t e = record { kept = t .4 .1 .1 .1 .1; none = sym e }
+  abbrev start : place-ok p₀ → X
+  start g = (p₀, ys, cs, us, (g, (refl, (refl, (refl, refl)))))
+
+  ended : (t : X) → Read.More ≡ nextOf (t .0) bs (length (t .2)) → Drains ys p₀ bs cs us (t .1) (t .0) (t .2) (t .3)
+  ended t e = record { same = sym (drained-none bs (worked t) (sym e)) ∙ t .4 .1 .1 .1 .1 }
 
   -- a turn: the record was found, answered and noted
   module _ (t : X) (i j : ℕ) (e : Read.Body i j ≡ nextOf (t .0) bs (length (t .2))) where
@@ -138,21 +144,10 @@ module _ {M : Type 1} (𝓤 : URA M) (H : Heap 𝓤) (A : Atoms 𝓤) (W : Given
     within = f .whole .room
 
     went-on : (zs : List Stream) (us′ cs′ : List ℕ) (v : Told) (r : Place) → place-ok r → length zs ≡ length (t .1) → length us′ ≡ length (t .3) → length cs′ ≡ length (t .2)
-        → Handled (t .1) (take (j - i) (drop i bs)) (t .3) zs v → Noted (t .0) j v (t .2) cs′ r → Facts r zs cs′ us′
-    went-on zs us′ cs′ v r g lz lu lc h m = (
-      g,
-      (
-        lz ∙ t .4 .1 .0,
-        (
-          lc ∙ t .4 .1 .1 .0,
-          (
-            lu ∙ t .4 .1 .1 .1 .0,
-            λ long.
-                kept-step (t .1) zs (t .0) r bs (t .2) cs′ (t .3) i j v (t .4 .1 .1 .1 .0 ∙ long) lc (t .4 .1 .1 .1 .1 long) f h m,
-          ),
-        ),
-      ),
-    )
+        → Handled (t .1) (take (j - i) (drop i bs)) (t .3) zs v us′ → Noted (t .0) j v (t .2) cs′ r → Facts r zs cs′ us′
+    went-on zs us′ cs′ v r g lz lu lc h m =
+        let more : drainedOf bs (work r zs cs′ us′) ≡ drainedOf bs (worked t) = ap (drainedOf bs) (one-more (t .1) zs (t .0) r bs (t .2) cs′ (t .3) us′ i j v f h m) ∙ drained-one bs (worked t) i j (sym e) in
+        (g, (lz ∙ t .4 .1 .0, (lc ∙ t .4 .1 .1 .0, (lu ∙ t .4 .1 .1 .1 .0, more ∙ t .4 .1 .1 .1 .1))))
 
     -- the place is farther in the input
     later : (r : Place) (v : Told) (cs′ : List ℕ) → Noted (t .0) j v (t .2) cs′ r → length bs - r .at < length bs - t .0 .at
@@ -215,7 +210,7 @@ module _ {M : Type 1} (𝓤 : URA M) (H : Heap 𝓤) (A : Atoms 𝓤) (W : Given
           assigns ! (agg ! (and-then ! (load ! (from ! (stop !)) (look-cell ! 21 refl)) (and-then ! (load ! (from ! (fld ! refl (stop !))) (look-in ! 45 (sub ! 1 refl (whole !)))) (no-more !)))) (from ! (stop !)) (init ! 19 refl (tt, (tt, (record { fits = g-zs .0 }, tt)))) $
           assigns ! (addr ! (from ! (fld ! refl (hop ! (look-in ! 37 (sub ! 0 refl (whole !))) (stop !))))) (from ! (stop !)) (init ! 17 refl (tt, tt)) $
           assigns ! (agg ! (and-then ! (load ! (from ! (stop !)) (look-cell ! 17 refl)) (and-then ! (load ! (from ! (fld ! refl (stop !))) (look-in ! 37 (sub ! 1 refl (whole !)))) (no-more !)))) (from ! (stop !)) (init ! 15 refl (tt, (tt, (record { fits = g-us′ .0 }, tt)))) $
-          move ! (3 ∷ []) $ use1 W (‵ (ShrSlice (named 1) κ₁ u8 .own (record { ptr = (b₁, o₁); name = γ₁; now = bs }) (sliceVal (b₁, o₁) (length bs) ∷ [])) ⊛ ‵ (ShrSlice (named 1) κ₁ u8 .own (record { ptr = (b₁, o₁); name = γ₁; now = bs }) (sliceVal (b₁, o₁) (length bs) ∷ []))) (shr-slice-copy 𝓤 H A W (named 1) κ₁ u8 .twice (record { ptr = (b₁, o₁); name = γ₁; now = bs }) (sliceVal (b₁, o₁) (length bs) ∷ [])) $ split ! $ move ! (0 ∷ 5 ∷ []) $ join ! $ move ! (2 ∷ 3 ∷ 4 ∷ 8 ∷ 9 ∷ 10 ∷ 0 ∷ 1 ∷ 5 ∷ 6 ∷ 7 ∷ []) $ calls-mut-two {𝓤 = 𝓤} {H = H} {A = A} ! fm R zs b o g-zs u8 us′ b₃ o₃ g-us′ fn-handle.ended (fn-handle.clauses 𝓤 H A mem run) (known .handle′) (λ ν ν′ δ δ′. (((ν ∷ [], (κ₁, (ν′ ∷ [], tt))), (fullShare, (q₁, (fullShare, tt))), tt, (record { ptr = (b, o); name = δ; now = zs }, (record { ptr = (b₁, o₁); name = γ₁; now = bs }, (i, (j, (record { ptr = (b₃, o₃); name = δ′; now = us′ }, tt))))), (sliceVal (b, o) (length zs) ∷ [], (sliceVal (b₁, o₁) (length bs) ∷ [], (vint w64 i ∷ [], (vint w64 j ∷ [], (sliceVal (b₃, o₃) (length us′) ∷ [], tt)))))), tt)) (λ ν ν′ δ δ′. qed W ((‵ (flft (ν ∷ []) fullShare) ⊛ ‵ (mut-own R b o ν δ zs)) ∷ (‵ (flft (ν′ ∷ []) fullShare) ⊛ ‵ (mut-own u8 b₃ o₃ ν′ δ′ us′)) ∷ (‵ (ShrSlice (named 1) κ₁ u8 .own (record { ptr = (b₁, o₁); name = γ₁; now = bs }) (sliceVal (b₁, o₁) (length bs) ∷ [])) ⊛ ‵ (flft κ₁ q₁)) ∷ []) ∵ says ! (in-order t i j e, within t i j e) $ split ! $ move ! (2 ∷ []) $ split ! $ move ! (4 ∷ []) $ split ! $ nothing ! $ move ! (4 ∷ 0 ∷ []) $ fjoin ! $ owned ! usize (Is usize) (uint-makes 𝓤 H A W w64) j _ (refl, j-fits) $ fjoin ! $ owned ! usize (Is usize) (uint-makes 𝓤 H A W w64) i _ (refl, i-fits) $ fjoin ! $ move ! (1 ∷ 0 ∷ []) $ fjoin ! $ move ! (4 ∷ 0 ∷ []) $ fjoin ! $ nothing ! $ move ! (3 ∷ 0 ∷ []) $ join ! $ move ! (2 ∷ 0 ∷ []) $ join ! $ move ! (2 ∷ 0 ∷ []) $ join ! $ frame ! $ done !) (‵ (flft κ₁ q₁)) (λ ν ν′ δ δ′. qed W ((‵ (flft (ν ∷ []) fullShare) ⊛ (‵ (flft (κ₁) q₁) ⊛ (‵ (flft (ν′ ∷ []) fullShare) ⊛ ‵ ftrue))) ∷ []) ∵ split ! $ frame ! $ split ! $ move ! (1 ∷ []) $ split ! $ frame ! $ lose ! $ done !) (λ ν ν′ δ δ′. told-val) (λ ν ν′ δ δ′ v vs p. told-tells v vs p) (λ ν ν′ δ δ′ ws. ws .0) (λ ν ν′ δ δ′ ws. ws .1 .1 .1 .1 .0) (λ ν ν′ δ δ′ ws. qed W (‵ (fsep (fsep (finally R δ (ws .0)) (feq ℕ (length (ws .0)) (length zs))) (fsep ftrue (fsep ftrue (fsep ftrue (fsep (fsep (finally u8 δ′ (ws .1 .1 .1 .1 .0)) (feq ℕ (length (ws .1 .1 .1 .1 .0)) (length us′))) (ftrue)))))) ∷ []) ∵ fsplit ! $ move ! (1 ∷ []) $ fsplit ! $ lose ! $ fsplit ! $ lose ! $ fsplit ! $ lose ! $ fsplit ! $ move ! (1 ∷ []) $ lose ! $ move ! (1 ∷ 0 ∷ []) $ fjoin ! $ done !) (λ ν ν′ δ δ′ (v : Told) (zs₂ : List Stream) (us₂ : List ℕ). Handled zs (take (j - i) (drop i bs)) us′ zs₂ v) (λ ν ν′ δ δ′ v ws. id⊢ 𝓤 _) (λ ν ν′ δ δ′. (and-then ! (load ! (from ! (stop !)) (look-cell ! 15 refl)) (and-then ! (load ! (from ! (stop !)) (look-cell ! 37 refl)) (and-then ! (load ! (from ! (stop !)) (look-cell ! 29 refl)) (and-then ! (load ! (from ! (stop !)) (look-cell ! 27 refl)) (and-then ! (load ! (from ! (stop !)) (look-cell ! 11 refl)) (no-more !))))))) (λ ν ν′ δ δ′ v zs₂ us₂ g-v len-zs₂ len-us₂ handled. move ! (0 ∷ 1 ∷ 2 ∷ 7 ∷ 6 ∷ 8 ∷ 9 ∷ 10 ∷ 3 ∷ 4 ∷ 5 ∷ []) $
+          move ! (3 ∷ []) $ use1 W (‵ (ShrSlice (named 1) κ₁ u8 .own (record { ptr = (b₁, o₁); name = γ₁; now = bs }) (sliceVal (b₁, o₁) (length bs) ∷ [])) ⊛ ‵ (ShrSlice (named 1) κ₁ u8 .own (record { ptr = (b₁, o₁); name = γ₁; now = bs }) (sliceVal (b₁, o₁) (length bs) ∷ []))) (shr-slice-copy 𝓤 H A W (named 1) κ₁ u8 .twice (record { ptr = (b₁, o₁); name = γ₁; now = bs }) (sliceVal (b₁, o₁) (length bs) ∷ [])) $ split ! $ move ! (0 ∷ 5 ∷ []) $ join ! $ move ! (2 ∷ 3 ∷ 4 ∷ 8 ∷ 9 ∷ 10 ∷ 0 ∷ 1 ∷ 5 ∷ 6 ∷ 7 ∷ []) $ calls-mut-two {𝓤 = 𝓤} {H = H} {A = A} ! fm R zs b o g-zs u8 us′ b₃ o₃ g-us′ fn-handle.ended (fn-handle.clauses 𝓤 H A mem run) (known .handle′) (λ ν ν′ δ δ′. (((ν ∷ [], (κ₁, (ν′ ∷ [], tt))), (fullShare, (q₁, (fullShare, tt))), tt, (record { ptr = (b, o); name = δ; now = zs }, (record { ptr = (b₁, o₁); name = γ₁; now = bs }, (i, (j, (record { ptr = (b₃, o₃); name = δ′; now = us′ }, tt))))), (sliceVal (b, o) (length zs) ∷ [], (sliceVal (b₁, o₁) (length bs) ∷ [], (vint w64 i ∷ [], (vint w64 j ∷ [], (sliceVal (b₃, o₃) (length us′) ∷ [], tt)))))), tt)) (λ ν ν′ δ δ′. qed W ((‵ (flft (ν ∷ []) fullShare) ⊛ ‵ (mut-own R b o ν δ zs)) ∷ (‵ (flft (ν′ ∷ []) fullShare) ⊛ ‵ (mut-own u8 b₃ o₃ ν′ δ′ us′)) ∷ (‵ (ShrSlice (named 1) κ₁ u8 .own (record { ptr = (b₁, o₁); name = γ₁; now = bs }) (sliceVal (b₁, o₁) (length bs) ∷ [])) ⊛ ‵ (flft κ₁ q₁)) ∷ []) ∵ says ! (in-order t i j e, within t i j e) $ split ! $ move ! (2 ∷ []) $ split ! $ move ! (4 ∷ []) $ split ! $ nothing ! $ move ! (4 ∷ 0 ∷ []) $ fjoin ! $ owned ! usize (Is usize) (uint-makes 𝓤 H A W w64) j _ (refl, j-fits) $ fjoin ! $ owned ! usize (Is usize) (uint-makes 𝓤 H A W w64) i _ (refl, i-fits) $ fjoin ! $ move ! (1 ∷ 0 ∷ []) $ fjoin ! $ move ! (4 ∷ 0 ∷ []) $ fjoin ! $ nothing ! $ move ! (3 ∷ 0 ∷ []) $ join ! $ move ! (2 ∷ 0 ∷ []) $ join ! $ move ! (2 ∷ 0 ∷ []) $ join ! $ frame ! $ done !) (‵ (flft κ₁ q₁)) (λ ν ν′ δ δ′. qed W ((‵ (flft (ν ∷ []) fullShare) ⊛ (‵ (flft (κ₁) q₁) ⊛ (‵ (flft (ν′ ∷ []) fullShare) ⊛ ‵ ftrue))) ∷ []) ∵ split ! $ frame ! $ split ! $ move ! (1 ∷ []) $ split ! $ frame ! $ lose ! $ done !) (λ ν ν′ δ δ′. told-val) (λ ν ν′ δ δ′ v vs p. told-tells v vs p) (λ ν ν′ δ δ′ ws. ws .0) (λ ν ν′ δ δ′ ws. ws .1 .1 .1 .1 .0) (λ ν ν′ δ δ′ ws. qed W (‵ (fsep (fsep (finally R δ (ws .0)) (feq ℕ (length (ws .0)) (length zs))) (fsep ftrue (fsep ftrue (fsep ftrue (fsep (fsep (finally u8 δ′ (ws .1 .1 .1 .1 .0)) (feq ℕ (length (ws .1 .1 .1 .1 .0)) (length us′))) (ftrue)))))) ∷ []) ∵ fsplit ! $ move ! (1 ∷ []) $ fsplit ! $ lose ! $ fsplit ! $ lose ! $ fsplit ! $ lose ! $ fsplit ! $ move ! (1 ∷ []) $ lose ! $ move ! (1 ∷ 0 ∷ []) $ fjoin ! $ done !) (λ ν ν′ δ δ′ (v : Told) (zs₂ : List Stream) (us₂ : List ℕ). Handled zs (take (j - i) (drop i bs)) us′ zs₂ v us₂) (λ ν ν′ δ δ′ v ws. id⊢ 𝓤 _) (λ ν ν′ δ δ′. (and-then ! (load ! (from ! (stop !)) (look-cell ! 15 refl)) (and-then ! (load ! (from ! (stop !)) (look-cell ! 37 refl)) (and-then ! (load ! (from ! (stop !)) (look-cell ! 29 refl)) (and-then ! (load ! (from ! (stop !)) (look-cell ! 27 refl)) (and-then ! (load ! (from ! (stop !)) (look-cell ! 11 refl)) (no-more !))))))) (λ ν ν′ δ δ′ v zs₂ us₂ g-v len-zs₂ len-us₂ handled. move ! (0 ∷ 1 ∷ 2 ∷ 7 ∷ 6 ∷ 8 ∷ 9 ∷ 10 ∷ 3 ∷ 4 ∷ 5 ∷ []) $
           land ! (from ! (stop !)) (init ! 29 refl (told-typed 𝓤 H A W v g-v)) $
           assigns ! (addr ! (from ! (fld ! refl (hop ! (look-in ! 39 (sub ! 0 refl (whole !))) (stop !))))) (from ! (stop !)) (init ! 13 refl (tt, tt)) $
           assigns ! (agg ! (and-then ! (load ! (from ! (stop !)) (look-cell ! 13 refl)) (and-then ! (load ! (from ! (fld ! refl (stop !))) (look-in ! 39 (sub ! 1 refl (whole !)))) (no-more !)))) (from ! (stop !)) (init ! 11 refl (tt, (tt, (record { fits = g-cs′ .0 }, tt)))) $

@@ -41,10 +41,11 @@ use base.Fml.{flent}
 use Rattle.record.specs.declared.Stream.{Stream}
 use Rattle.event_run.specs.declared.Place.{Place}
 use Rattle.event_run.specs.declared.Round.{Round}
-use Rattle.event_run.specs.Run.{Drained}
+use Rattle.event_run.specs.Run.{Drains}
 use Rattle.receiver.proofs.Calling.{calls-with}
 use Rattle.receiver.proofs.Lending.{mut-own}
 use Rattle.receiver.proofs.Rows.{R, val, tells}
+use Rattle.event_run.proofs.Draining.{left}
 use Rattle.event_run.proofs.Eight.{Eight, eight-row, eight-ty, eight-val, eight-spells, eight-tells, eight-ok, eight-typed, eight-has, eight-same, round-made}
 use Rattle.event_run.proofs.Local.{lends-array, array-back}
 use Rattle.event_run.proofs.Values.{place-row, place-val, place-spells, place-tells, place-ok, place-typed, round-val, round-ok, round-typed, round-has}
@@ -93,7 +94,7 @@ module _ {M : Type 1} (𝓤 : URA M) (H : Heap 𝓤) (A : Atoms 𝓤) (W : Given
   abbrev left′ : List ℕ → List ℕ → Fml
   left′ cs′ us′ = fsep ftrue (fsep ftrue (fsep (fsep (finally u8 γ₁ cs′) (feq ℕ (length cs′) (length cs))) (fsep (fsep (finally u8 γ₂ us′) (feq ℕ (length us′) (length us))) ftrue)))
 
-  exits : (cs′ us′ : List ℕ) (r : Round) → round-ok r → Drained ts p bs cs us (r .table) (r .place) cs′ → ent 𝓤 (⋆ 𝓤 H A (tokens′ ∷ ‵ (left′ cs′ us′) ∷ [])) (Post′ (round-val r))
+  exits : (cs′ us′ : List ℕ) (r : Round) → round-ok r → Drains ts p bs cs us (r .table) (r .place) cs′ us′ → ent 𝓤 (⋆ 𝓤 H A (tokens′ ∷ ‵ (left′ cs′ us′) ∷ [])) (Post′ (round-val r))
   exits cs′ us′ r g said =
       qed W (tokens′ ∷ ‵ (left′ cs′ us′) ∷ []) ∵
       move ! (1 ∷ []) $ fsplit ! $ lose ! $ fsplit ! $ lose ! $ fsplit ! $ fsplit ! $ move ! (1 ∷ []) $ feqL ! (λ len-cs.
@@ -139,7 +140,7 @@ module _ {M : Type 1} (𝓤 : URA M) (H : Heap 𝓤) (A : Atoms 𝓤) (W : Given
         calls-with {𝓤 = 𝓤} {H = H} {A = A} ! fm fn-drain.ended (fn-drain.clauses 𝓤 H A mem run) (known .drain′) (((ν ∷ [], (κ, (κ₁, (κ₂, tt)))), (fullShare, (q, (q₁, (q₂, tt)))), tt, (record { ptr = (l₆, 0); name = δ; now = ts }, x .1), (sliceVal (l₆, 0) (length ts) ∷ [], mv .1)), tt)
         (qed W (((‵ (flft (ν ∷ []) fullShare) ⊛ tokens′) ⊛ ‵ (fsep (mut-own R l₆ 0 ν δ ts) others′)) ∷ []) ∵ frame ! $ done !) (‵ (flft (ν ∷ []) fullShare) ⊛ tokens′) (id⊢ 𝓤 _)
         (λ ws. ‵ (fsep (fsep (finally R δ (ws .0)) (feq ℕ (length (ws .0)) (length ts))) (left′ (ws .1 .1 .1 .0) (ws .1 .1 .1 .1 .0)))) (λ ws. id⊢ 𝓤 _) place-val (λ r vs p. place-tells r vs p)
-        (λ (r : Place) ws. Drained ts p bs cs us (ws .0) r (ws .1 .1 .1 .0)) (λ r ws. id⊢ 𝓤 _)
+        (λ (r : Place) ws. Drains ts p bs cs us (ws .0) r (ws .1 .1 .1 .0) (ws .1 .1 .1 .1 .0)) (λ r ws. id⊢ 𝓤 _)
         -- [what `drain` is handed; the lender's part; the locals]
         (and-then ! (load ! (from ! (stop !)) (look-cell ! 12 refl))
         -- _2 and _3 stand behind _6

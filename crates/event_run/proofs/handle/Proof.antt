@@ -200,7 +200,7 @@ module _ {M : Type 1} (𝓤 : URA M) (H : Heap 𝓤) (A : Atoms 𝓤) (W : Given
   abbrev body : List ℕ
   body = take (end - start) (drop start input)
 
-  exits : Room R (length ys) → (zs : List Stream) → length zs ≡ length ys → Room u8 (length us) → (us′ : List ℕ) → length us′ ≡ length us → (r : Told) → told-ok r → Handled ys body us zs r → ent 𝓤 (⋆ 𝓤 H A (‵ (fobs γ (codedHoleys R .code (heres R zs))) ∷ ‵ (fbor κ (Held R (length zs) b o γ)) ∷ ‵ (flft κ q) ∷ ‵ (flft κ₁ q₁) ∷ ‵ (fobs γ₂ (codedHoleys u8 .code (heres u8 us′))) ∷ ‵ (fbor κ₂ (Held u8 (length us′) b₂ o₂ γ₂)) ∷ ‵ (flft κ₂ q₂) ∷ [])) (Post′ (told-val r))
+  exits : Room R (length ys) → (zs : List Stream) → length zs ≡ length ys → Room u8 (length us) → (us′ : List ℕ) → length us′ ≡ length us → (r : Told) → told-ok r → Handled ys body us zs r us′ → ent 𝓤 (⋆ 𝓤 H A (‵ (fobs γ (codedHoleys R .code (heres R zs))) ∷ ‵ (fbor κ (Held R (length zs) b o γ)) ∷ ‵ (flft κ q) ∷ ‵ (flft κ₁ q₁) ∷ ‵ (fobs γ₂ (codedHoleys u8 .code (heres u8 us′))) ∷ ‵ (fbor κ₂ (Held u8 (length us′) b₂ o₂ γ₂)) ∷ ‵ (flft κ₂ q₂) ∷ [])) (Post′ (told-val r))
   exits g-ys zs len-ys g-us us′ len-us r g said =
       qed W (‵ (fobs γ (codedHoleys R .code (heres R zs))) ∷ ‵ (fbor κ (Held R (length zs) b o γ)) ∷ ‵ (flft κ q) ∷ ‵ (flft κ₁ q₁) ∷ ‵ (fobs γ₂ (codedHoleys u8 .code (heres u8 us′))) ∷ ‵ (fbor κ₂ (Held u8 (length us′) b₂ o₂ γ₂)) ∷ ‵ (flft κ₂ q₂) ∷ []) ∵
       suffices ! _ (ends-at 𝓤 H A fn.ended stayed (fn.clauses 𝓤 H A mem run) W (((κ, (κ₁, (κ₂, tt))), (q, (q₁, (q₂, tt))), tt, x, mv), tt) (told-val r) r (zs, (tt, (tt, (tt, (us′, tt))))) (len-ys, (tt, (tt, (tt, (len-us, tt)))))) $ says ! said $

@@ -2,7 +2,7 @@
 use mathlib.Core.Path.{_∙_}
 use native.Mathlib.Omega.{arith}
 use borrow.Author.Needs.{needs}
-use Rattle.event_run.proofs.Dues.{no-room, no-number, answerable}
+use Rattle.event_run.proofs.Nexts.{no-room, no-number, answerable}
 use Rattle.event_run.proofs.seek.Statement.{statement}
 use Rattle.event_run.proofs.seek.Tie as tie
 

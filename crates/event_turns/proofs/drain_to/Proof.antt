@@ -1,6 +1,7 @@
 -- `event_turns::drain_to` meets its contract: the place stays within the bytes that are held. Assumes nothing.
 use native.Mathlib.Omega.{arith}
 use lib.ListN.{length-take}
+use Rattle.event_run.proofs.Dues.{drains-keep}
 use Rattle.event_turns.proofs.Turning.{drained-to}
 use borrow.Author.Needs.{needs}
 use Rattle.event_turns.proofs.drain_to.Statement.{statement}
@@ -19,7 +20,11 @@ same-length-2 : tie.Need-same-length-2
 same-length-2 c = search needs
 
 returns : tie.Need-returns
-returns c = let d = c .before .before .before .before .drain8 in let a = c .before .before .before .before .before .before .before .before .before .before .before .before in (d .ensures, drained-to (a .args .h .to) (a .args .input .now) (a .pre .0, a .pre .1, omega arith, a .pre .2) (d .ensures))
+returns c =
+    let d = c .before .before .before .before .drain8 in
+    let a = c .before .before .before .before .before .before .before .before .before .before .before .before in
+    let k = drains-keep _ _ _ _ _ _ _ _ _ (d .kept .1 .1 .1 .0) (d .ensures) in
+    (k, drained-to (a .args .h .to) (a .args .input .now) (a .pre .0, a .pre .1, omega arith, a .pre .2) k)
 
 pub drain-to-spec : {M : Type 1} → statement M
 drain-to-spec =
