@@ -2,12 +2,13 @@
  *
  * The calls are the exported functions of the crate `port`, proved to do what document 01 says. This header is written by
  * hand: bindings/c/test.c holds it to the compiled code, and bindings/check to the sources. C11 or C++11, x86-64;
- * link with libport.a (docs/LINKING.md).
+ * link with libport.a, which is called libnippitsun.a once it is installed (docs/LINKING.md).
  *
  * What the caller owes. The proof takes it for granted, and no call can test it:
  *
  * - An area is a pointer and a number of ELEMENTS: records for a table, bytes for a frame and an output. So many are there,
- *   and a table is aligned for its records. The pointer may be NULL where the number is 0.
+ *   and a table is aligned for its records. The pointer may be NULL where the number is 0. The destination of an open has
+ *   no number: its six bytes are always there, and its pointer is never NULL.
  * - The areas of one call lie apart: no byte of the table, the frame, the output or the destination belongs to another.
  * - They are lent for the call alone. No call keeps a pointer, and nobody else reads a table or an output, or writes to any
  *   of the areas, while the call runs.
@@ -22,6 +23,11 @@
 
 #include <stddef.h>
 #include <stdint.h>
+
+#define NIPPITSUN_VERSION "0.1.0"
+#define NIPPITSUN_VERSION_MAJOR 0
+#define NIPPITSUN_VERSION_MINOR 1
+#define NIPPITSUN_VERSION_PATCH 0
 
 #ifdef __cplusplus
 #define NIPPITSUN_ASSERT(what, why) static_assert(what, why)
@@ -102,7 +108,8 @@ typedef struct nippitsun_counts {
     uint64_t discarded; /* duplicates */
     uint64_t rogue;     /* outside the window */
     uint64_t disorder;  /* handed up out of order */
-    uint64_t lost;      /* numbers that left the window and never came */
+    uint64_t lost;      /* places that left the window empty: numbers that never came, and behind each start (an open or a
+                           reset) the L - 1 places before the first number; 0 with the match rule */
     uint64_t resets;    /* times the stream became fresh, by ticks or by reset */
 } nippitsun_counts;
 
@@ -155,13 +162,13 @@ typedef struct nippitsun_tag_answer {
 /* A frame came in on a network. Refusals 1, 2, 3, 4, 5, 6, 7, 8.
  * The lowest slot in use with the frame's key has the arrival. Handed up: the frame without its tag stands at the start of
  * the output, and the bytes after it keep their values. Duplicate and rogue write nothing to the output. The output must
- * hold frame_bytes - 6 bytes for every verdict; NIPPITSUN_FRAME_MOST - 6 bytes are always enough. */
+ * hold frame_bytes - 6 bytes for every verdict; NIPPITSUN_FRAME_MOST bytes are always enough. */
 nippitsun_arrival_answer nippitsun_arrival(nippitsun_stream *NIPPITSUN_APART table, size_t slots, uint8_t network,
                                            const uint8_t *NIPPITSUN_APART frame, size_t frame_bytes,
                                            uint8_t *NIPPITSUN_APART out, size_t out_bytes);
 
 /* Opens a stream: fills the lowest free slot with a fresh record, counters zero. Refusals 1, 9, 10, 11.
- * `dest` points to the destination's six bytes, as they stand in a frame. */
+ * `dest` points to the destination's six bytes, as they stand in a frame. It is never NULL. */
 nippitsun_slot_answer nippitsun_open(nippitsun_stream *NIPPITSUN_APART table, size_t slots, const uint8_t *NIPPITSUN_APART dest,
                                      uint16_t vlan, uint8_t rule, uint16_t window, uint16_t time);
 
@@ -179,12 +186,13 @@ nippitsun_tick_answer nippitsun_tick(nippitsun_stream *table, size_t slots);
 /* ---- the tag, with no table */
 
 /* Takes the tag out and writes the frame without it to the start of the output; the bytes after it keep their values.
- * Refusals 3, 4, 5, 8. */
+ * Refusals 3, 4, 5, 8. The output must hold frame_bytes - 6 bytes; NIPPITSUN_FRAME_MOST bytes are always enough. */
 nippitsun_tag_answer nippitsun_take_tag(const uint8_t *NIPPITSUN_APART frame, size_t frame_bytes, uint8_t *NIPPITSUN_APART out,
                                         size_t out_bytes);
 
 /* Puts a tag with this number into the frame and writes the tagged frame to the start of the output; the bytes after it keep
- * their values. Refusals 3 (above NIPPITSUN_UNTAGGED_MOST), 4, 13, 8. */
+ * their values. Refusals 3 (above NIPPITSUN_UNTAGGED_MOST), 4, 13, 8. The output must hold frame_bytes + 6 bytes;
+ * NIPPITSUN_FRAME_MOST bytes are always enough. */
 nippitsun_tag_answer nippitsun_write_tag(const uint8_t *NIPPITSUN_APART frame, size_t frame_bytes, uint16_t number,
                                          uint8_t *NIPPITSUN_APART out, size_t out_bytes);
 

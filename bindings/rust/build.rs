@@ -1,25 +1,28 @@
-// Links libport.a, the archive of the proved crate `port`, which tools/archive makes. NIPPITSUN_ARCHIVES names its folder, if
-// it is not the repository's own target/native.
+// Links the archive of the proved crate `port`. In the repository tools/archive makes it: target/native/libport.a. Where
+// tools/install put this crate, it stands in the same prefix: lib/libnippitsun.a. NIPPITSUN_ARCHIVES names another folder.
 use std::env;
 use std::path::PathBuf;
 
 fn main() {
     println!("cargo:rerun-if-env-changed=NIPPITSUN_ARCHIVES");
-    let folder = match env::var("NIPPITSUN_ARCHIVES") {
-        Ok(given) => PathBuf::from(given),
-        Err(_) => {
-            PathBuf::from(env::var("CARGO_MANIFEST_DIR").unwrap()).join("../../target/native")
-        }
+    let here = PathBuf::from(env::var("CARGO_MANIFEST_DIR").unwrap());
+    let folders = match env::var("NIPPITSUN_ARCHIVES") {
+        Ok(given) => vec![PathBuf::from(given)],
+        Err(_) => vec![here.join("../../target/native"), here.join("../../../lib")],
     };
-    let archive = folder.join("libport.a");
-    if !archive.is_file() {
-        eprintln!(
-            "{} is not there: run tools/archive, or set NIPPITSUN_ARCHIVES to the folder with libport.a",
-            archive.display()
-        );
-        std::process::exit(1);
+    for folder in &folders {
+        for name in ["port", "nippitsun"] {
+            let archive = folder.join(format!("lib{name}.a"));
+            if archive.is_file() {
+                println!("cargo:rerun-if-changed={}", archive.display());
+                println!("cargo:rustc-link-search=native={}", folder.display());
+                println!("cargo:rustc-link-lib=static={name}");
+                return;
+            }
+        }
     }
-    println!("cargo:rerun-if-changed={}", archive.display());
-    println!("cargo:rustc-link-search=native={}", folder.display());
-    println!("cargo:rustc-link-lib=static=port");
+    eprintln!(
+        "there is neither libport.a nor libnippitsun.a in {folders:?}: run tools/archive, or set NIPPITSUN_ARCHIVES to their folder"
+    );
+    std::process::exit(1);
 }

@@ -1,0 +1,55 @@
+//! A controller's receiver in short: one stream, a command that comes on both networks, and a tick.
+
+use nippitsun::{Receiver, Refusal, Settings, Stream, Verdict};
+
+fn receive(receiver: &mut Receiver, network: u8, frame: &[u8]) {
+    let mut out = [0; Stream::FRAME_MOST];
+    match receiver.arrival(network, frame, &mut out) {
+        Ok(a) => match a.verdict {
+            // Carry out the command in out[..length].
+            Verdict::HandedUp { length } => {
+                println!(
+                    "network {network}: number {} handed up, {length} bytes",
+                    a.number
+                )
+            }
+            Verdict::Duplicate => println!("network {network}: number {} is a duplicate", a.number),
+            Verdict::Rogue => println!("network {network}: number {} is a rogue", a.number),
+        },
+        Err(refusal) => println!("network {network}: refused ({})", refusal.number()),
+    }
+}
+
+fn main() -> Result<(), Refusal> {
+    let mut receiver = Receiver::new(8);
+    // VLAN 0, the vector rule, a window of 4 numbers, reset after 3 ticks with nothing handed up.
+    let slot = receiver.open(Settings {
+        destination: [2, 0, 0, 0, 0, 1],
+        vlan: 0,
+        rule: Stream::VECTOR_RULE,
+        window: 4,
+        time: 3,
+    })?;
+
+    let frame = [
+        2, 0, 0, 0, 0, 1, 2, 0, 0, 0, 0, 2, 0xF1, 0xC1, 0, 0, 0, 7, 0x08, 0x00, 0xAB,
+    ];
+    receive(&mut receiver, 0, &frame);
+    receive(&mut receiver, 1, &frame);
+    receive(&mut receiver, 1, &frame[..19]);
+
+    // Once in each tick period, whether frames come or not.
+    let ticked = receiver.tick()?;
+    println!(
+        "tick: {} streams reset, {} records damaged",
+        ticked.resets, ticked.damaged
+    );
+
+    if let Some(counts) = receiver.counts(slot) {
+        println!(
+            "handed up {}, duplicates {}",
+            counts.passed, counts.discarded
+        );
+    }
+    Ok(())
+}
