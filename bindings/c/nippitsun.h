@@ -23,6 +23,8 @@
 #include <stddef.h>
 #include <stdint.h>
 
+#define NIPPITSUN_VERSION "0.1.0"
+
 #ifdef __cplusplus
 #define NIPPITSUN_ASSERT(what, why) static_assert(what, why)
 #define NIPPITSUN_ALIGNOF(type) alignof(type)
