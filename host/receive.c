@@ -95,7 +95,7 @@ static unsigned turn(void)
     uint64_t steps = order.steps;
     int64_t ahead = clock_ahead(order.ahead);
     order_read(&order, clock_now(), ahead);
-    if (order.steps != steps) report_step(&report);
+    if (order.steps != steps) report_watch(&report, order.time);
     for (int i = 0; i < NETWORKS; i++) {
         if (!read[i]) continue;
         for (unsigned k = 0; k < ports[i].tail; k++) ports[i].queue[k].time = order_stamp(&order, i, ports[i].queue[k].time);
@@ -202,6 +202,7 @@ int main(int count, char **words)
 
     int64_t last = clock_now(), second = last + SECOND, end = 0;
     order_start(&order, period, last, clock_ahead(0));
+    report_watch(&report, order.time);
     for (;;) {
         int64_t now = clock_now(), until = order.next < second ? order.next : second;
         if (quiet != 0 && last + quiet < until) until = last + quiet;

@@ -22,7 +22,8 @@ void report_arrival(struct report *r, nippitsun_arrival_answer a, int network, i
     if (a.verdict == NIPPITSUN_VERDICT_NONE) return;
     struct watch *w = &r->watch[a.slot];
     w->since[network] = 0;
-    if (w->since[1 - network] == 0) w->since[1 - network] = time;
+    w->last[network] = time;
+    if (w->since[1 - network] == 0 && time - w->last[1 - network] > r->alarm / 2) w->since[1 - network] = time;
     if (!w->silent[network]) return;
     w->silent[network] = 0;
     w->returns[network]++;
@@ -37,7 +38,7 @@ void report_silence(struct report *r, int64_t time)
     {
         struct watch *w = &r->watch[i];
         for (int b = 0; b < NETWORKS; b++) {
-            if (w->silent[b] || w->since[b] == 0 || time - w->since[b] < r->alarm) continue;
+            if (w->silent[b] || w->since[b] == 0 || time - w->since[b] < r->alarm / 2) continue;
             w->silent[b] = 1;
             w->silences[b]++;
             say_slot(r, "alarm", i);
@@ -46,10 +47,13 @@ void report_silence(struct report *r, int64_t time)
     }
 }
 
-void report_step(struct report *r)
+void report_watch(struct report *r, int64_t time)
 {
     for (size_t i = 0; i < NIPPITSUN_SLOTS_MOST; i++)
-        for (int b = 0; b < NETWORKS; b++) r->watch[i].since[b] = 0;
+        for (int b = 0; b < NETWORKS; b++) {
+            r->watch[i].since[b] = 0;
+            r->watch[i].last[b] = time;
+        }
 }
 
 void report_say(struct report *r)

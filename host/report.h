@@ -6,10 +6,12 @@
 #include "order.h"
 #include "port.h"
 
-// A stream's networks. Silence is counted from the first arrival on the other network since the last one here, so a sender
-// that is slow or stands still gives no alarm.
+// A stream's networks. A sender that is slow or stands still is no silence: one begins with an arrival on the other network, and
+// only if that comes well after the last one here, so that it is not the second copy of the same frame. Half of the set time
+// lies before that arrival and half behind it.
 struct watch {
-    int64_t since[NETWORKS]; // 0: the other network has had no arrival either
+    int64_t last[NETWORKS];  // the last arrival; at first, when the watch began
+    int64_t since[NETWORKS]; // the arrival on the other network that began a silence; 0: none
     int silent[NETWORKS];
     uint64_t silences[NETWORKS], returns[NETWORKS];
 };
@@ -32,8 +34,8 @@ void report_arrival(struct report *r, nippitsun_arrival_answer a, int network, i
 // All frames up to this time have been called: says which networks are silent.
 void report_silence(struct report *r, int64_t time);
 
-// Real time has stepped: silence is counted anew.
-void report_step(struct report *r);
+// From this time on silence is counted: at the start, and anew when real time has stepped.
+void report_watch(struct report *r, int64_t time);
 
 // All counters, on standard error.
 void report_say(struct report *r);
