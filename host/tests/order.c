@@ -275,7 +275,7 @@ static void run(void)
 
 int main(int count, char **words)
 {
-    uint64_t runs = count > 1 ? read_number("runs", words[1], 1, UINT32_MAX) : 2000, done = 0;
+    uint64_t runs = count > 1 ? read_number("runs", words[1], 1, UINT32_MAX) : 1000, done = 0;
     for (seed = 1; done < runs; seed++) {
         state = seed * UINT64_C(0x9E3779B97F4A7C15) | 1;
         for (int i = 0; i < 8; i++) draw(2);
