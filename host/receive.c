@@ -117,14 +117,15 @@ static unsigned turn(void)
     }
 }
 
-// An interface that was removed is said to be gone, and looked for each second.
+// An interface that was removed is said to be gone, and looked for at once and then each second.
 static void look_after(int network, const struct port_settings *settings, int each_second)
 {
     struct port *p = &ports[network];
     // What still waits in the socket of a removed interface is read first.
-    if ((p->down || each_second) && order.line[network].empty && !waits(p) && port_close_dead(p))
-        fprintf(stderr, "gone: network %d, %s: the interface is not there; trying each second\n", network, p->interface);
-    else if (each_second && p->socket < 0 && port_open(p, settings) == NULL) {
+    int look = (p->down || each_second) && order.line[network].empty && !waits(p);
+    int gone = look && port_close_dead(p);
+    if (gone) fprintf(stderr, "gone: network %d, %s: the interface is not there; trying each second\n", network, p->interface);
+    if ((gone || each_second) && p->socket < 0 && port_open(p, settings) == NULL) {
         p->reopened++;
         fprintf(stderr, "again: network %d, %s: the interface is there and open\n", network, p->interface);
     }
