@@ -1,4 +1,3 @@
-#define _GNU_SOURCE
 #include "port.h"
 #include "clock.h"
 
@@ -41,7 +40,7 @@ static const char *set_up(struct port *p, int s, const struct port_settings *set
         && setsockopt(s, SOL_SOCKET, SO_ATTACH_FILTER, &settings->filter, sizeof settings->filter) != 0) return "SO_ATTACH_FILTER";
     if (setsockopt(s, SOL_PACKET, PACKET_AUXDATA, &on, sizeof on) != 0) return "PACKET_AUXDATA";
     if (ask_for_stamps(s) != 0) return "SO_TIMESTAMPING";
-    // The kernel counts a waiting frame at about what this doubles to. Without the right to pass the machine's limit
+    // The kernel doubles this, for its own records of a frame. Without the right to pass the machine's limit
     // (CAP_NET_ADMIN) the limit itself is taken.
     if (setsockopt(s, SOL_SOCKET, SO_RCVBUFFORCE, &settings->room, sizeof settings->room) != 0) {
         setsockopt(s, SOL_SOCKET, SO_RCVBUF, &settings->room, sizeof settings->room);

@@ -1,6 +1,5 @@
 // receive: two network interfaces, the proved receiver, one stream of frames on standard output. host/README.md says how
 // to run it and why it does what it does.
-#define _GNU_SOURCE
 #include "clock.h"
 #include "filter.h"
 #include "host.h"

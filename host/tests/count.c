@@ -1,5 +1,4 @@
 // count: reads every frame of an interface, counts it and does nothing else. host/rate measures the receivers beside it.
-#define _GNU_SOURCE
 #include "host.h"
 
 #include <arpa/inet.h>

@@ -1,6 +1,5 @@
 // flood: frames on each interface at the highest rate that the machine gives, one thread an interface, until a signal or for
 // some time. They are foreign (untagged broadcasts), or frames of a stream with the redundancy tag and rising numbers.
-#define _GNU_SOURCE
 #include "clock.h"
 #include "host.h"
 #include "nippitsun.h"
