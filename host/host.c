@@ -1,9 +1,7 @@
 #include "host.h"
 #include "nippitsun.h"
 
-#include <arpa/inet.h>
 #include <errno.h>
-#include <linux/if_ether.h>
 #include <linux/if_packet.h>
 #include <net/if.h>
 #include <stdarg.h>
@@ -100,16 +98,19 @@ const char *refusal_words(unsigned number)
     return number < sizeof words / sizeof words[0] ? words[number] : "a number that document 01 does not have";
 }
 
-int open_port(const char *interface, int receives)
+int open_sender(const char *interface)
 {
-    // A port that only sends is given no frame by the kernel.
-    uint16_t every = receives ? htons(ETH_P_ALL) : 0;
-    // Type 0 here: until it is bound, the socket would take the frames of every interface.
     int s = socket(AF_PACKET, SOCK_RAW, 0);
     if (s < 0) fail("packet socket");
-    struct sockaddr_ll where = {.sll_family = AF_PACKET, .sll_protocol = every};
-    where.sll_ifindex = (int)if_nametoindex(interface);
+    // Type 0: the kernel gives it no frame.
+    struct sockaddr_ll where = {.sll_family = AF_PACKET, .sll_ifindex = (int)if_nametoindex(interface)};
     if (where.sll_ifindex == 0) refuse("there is no interface '%s'", interface);
     if (bind(s, (struct sockaddr *)&where, sizeof where) != 0) fail(interface);
     return s;
+}
+
+_Noreturn void say_usage(const char *usage, int asked)
+{
+    fputs(usage, asked ? stdout : stderr);
+    exit(asked ? 0 : 2);
 }

@@ -1,11 +1,11 @@
-// What the host programs share: reading settings from the command line, the refusals in words, a packet socket.
+// What the host programs share: reading settings from the command line, the refusals in words, a socket that sends.
 #ifndef HOST_H
 #define HOST_H
 
 #include <stdint.h>
 
-// Bytes of an Ethernet address, and the places of document 01, "The frame".
-enum { ADDRESS = 6, TYPE_AT = 12, VLAN_TAG = 4 };
+// Networks, bytes of an Ethernet address, and the places and the type of document 01, "The frame".
+enum { NETWORKS = 2, ADDRESS = 6, TYPE_AT = 12, VLAN_TAG = 4, REDUNDANCY_TYPE = 0xF1C1 };
 
 // The settings of one open, as the command line gives them. The library judges them; here only what no such field can
 // hold is refused.
@@ -35,7 +35,10 @@ struct settings read_settings(const char *text);
 // The words of document 01 for a refusal number.
 const char *refusal_words(unsigned number);
 
-// A packet socket on one interface, for every type of frame. It needs the right CAP_NET_RAW.
-int open_port(const char *interface, int receives);
+// A packet socket that sends on one interface and is given no frame, or refuse. It needs the right CAP_NET_RAW.
+int open_sender(const char *interface);
+
+// Prints the usage and ends the program with status 0 if it was asked for (on standard output), 2 if not.
+_Noreturn void say_usage(const char *usage, int asked);
 
 #endif

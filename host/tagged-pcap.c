@@ -18,8 +18,15 @@ static void put(uint32_t number)
     fwrite(&number, sizeof number, 1, stdout);
 }
 
-int main(void)
+static const char usage[] =
+    "usage: tagged-pcap <RECORDS >CAPTURE\n"
+    "  a record is the number for the tag and the frame's length, two bytes each, high byte first, and the frame\n"
+    "  --help   print this text\n";
+
+int main(int count, char **words)
 {
+    if (count > 1) say_usage(usage, count == 2 && strcmp(words[1], "--help") == 0);
+
     // pcap with microseconds, version 2.4, no limit on the length that matters here, Ethernet.
     put(0xA1B2C3D4);
     fwrite((uint16_t[]){2, 4}, 2, 2, stdout);

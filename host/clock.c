@@ -1,0 +1,40 @@
+#include "clock.h"
+
+#include <stdlib.h>
+#include <time.h>
+
+// A change from here on is a step. Smaller ones add up until they are one: a stamp is wrong by no more than this.
+enum { STEP = 200000 };
+
+static int64_t read_clock(clockid_t which)
+{
+    struct timespec t;
+    clock_gettime(which, &t);
+    return t.tv_sec * SECOND + t.tv_nsec;
+}
+
+int64_t clock_now(void)
+{
+    return read_clock(CLOCK_MONOTONIC);
+}
+
+// From the tightest of some readings: the thread may be held up between the two clocks.
+static int64_t measure_ahead(void)
+{
+    int64_t ahead = 0, tightest = INT64_MAX;
+    for (int i = 0; i < 20; i++) {
+        int64_t before = clock_now(), real = read_clock(CLOCK_REALTIME), after = clock_now();
+        if (after - before >= tightest) continue;
+        tightest = after - before;
+        ahead = real - before - tightest / 2;
+    }
+    return ahead;
+}
+
+int64_t clock_ahead(int64_t known)
+{
+    int64_t quick = read_clock(CLOCK_REALTIME) - clock_now();
+    if (llabs(quick - known) < STEP) return known;
+    int64_t ahead = measure_ahead();
+    return llabs(ahead - known) < STEP ? known : ahead;
+}

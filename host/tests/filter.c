@@ -1,0 +1,208 @@
+// filter-test: what the kernel's filter lets through and stops, held to what the library says of the same frames.
+//
+// Each frame goes two ways. With no tag beside it, through the kernel itself: the filter is attached to a socket, and what
+// comes out of it has passed. And in every form, with a tag beside it or not, coming in or going out, through an interpreter
+// of the few instructions that the filter has. Both must agree, and with the library: the frame as the host would give it,
+// with its tag put back, is let through if the library takes it or finds it damaged in any way that operators should see
+// (0, 3 with F1C1 and an open key, 7, 8), and stopped if it would be refused as foreign (5, 6). Short frames (4) may go either way.
+#include "filter.h"
+#include "host.h"
+
+#include <errno.h>
+#include <inttypes.h>
+#include <linux/if_ether.h>
+#include <linux/if_packet.h>
+#include <stdio.h>
+#include <stdlib.h>
+#include <string.h>
+#include <sys/socket.h>
+#include <unistd.h>
+
+// Longer than the library takes, with room for a tag.
+enum { LONGEST = NIPPITSUN_FRAME_MOST + 40 };
+
+struct form {
+    size_t length; // as the kernel holds it
+    uint8_t bytes[LONGEST];
+    int beside, outgoing;
+    uint16_t mark, tci;
+};
+
+static uint64_t state = 88172645463325252;
+static unsigned draw(unsigned below)
+{
+    state ^= state << 13;
+    state ^= state >> 7;
+    state ^= state << 17;
+    return (unsigned)((state >> 16) % below);
+}
+
+static const struct sock_filter *program;
+
+static uint32_t load(const struct form *f, const struct sock_filter *i, int *bad)
+{
+    switch (i->k) {
+    case (uint32_t)(SKF_AD_OFF + SKF_AD_PKTTYPE): return f->outgoing ? PACKET_OUTGOING : PACKET_HOST;
+    case (uint32_t)(SKF_AD_OFF + SKF_AD_VLAN_TAG_PRESENT): return (uint32_t)f->beside;
+    case (uint32_t)(SKF_AD_OFF + SKF_AD_VLAN_TPID): return f->mark;
+    case (uint32_t)(SKF_AD_OFF + SKF_AD_VLAN_TAG): return f->tci;
+    }
+    size_t bytes = BPF_SIZE(i->code) == BPF_W ? 4 : BPF_SIZE(i->code) == BPF_H ? 2 : 1;
+    *bad = i->k + bytes > f->length;
+    uint32_t n = 0;
+    for (size_t k = 0; !*bad && k < bytes; k++) n = n << 8 | f->bytes[i->k + k];
+    return n;
+}
+
+static int passes(const struct form *f)
+{
+    uint32_t a = 0, kept = 0;
+    for (const struct sock_filter *i = program;; i++) {
+        int bad = 0;
+        switch (i->code) {
+        case BPF_LD | BPF_W | BPF_ABS:
+        case BPF_LD | BPF_H | BPF_ABS:
+        case BPF_LD | BPF_B | BPF_ABS:
+            a = load(f, i, &bad);
+            if (bad) return 0;
+            break;
+        case BPF_LD | BPF_IMM: a = i->k; break;
+        case BPF_LD | BPF_MEM: a = kept; break;
+        case BPF_ST: kept = a; break;
+        case BPF_ALU | BPF_AND | BPF_K: a &= i->k; break;
+        case BPF_JMP | BPF_JA: i += i->k; break;
+        case BPF_JMP | BPF_JEQ | BPF_K: i += a == i->k ? i->jt : i->jf; break;
+        case BPF_RET | BPF_K: return i->k != 0 && i->k >= f->length;
+        default: refuse("instruction %u has no meaning here", i->code);
+        }
+    }
+}
+
+// The same through the kernel. Its socket shows no tag and no direction, so this is for frames that come in with none beside.
+static int passes_kernel(const int pair[2], const struct form *f)
+{
+    uint8_t out[LONGEST];
+    if (send(pair[0], f->bytes, f->length, 0) < 0 && errno != EPERM) fail("send");
+    ssize_t got = recv(pair[1], out, sizeof out, MSG_DONTWAIT);
+    if (got < 0 && errno != EAGAIN) fail("recv");
+    if (got >= 0 && (size_t)got != f->length) refuse("the kernel has cut a frame of %zu bytes to %zd", f->length, got);
+    return got >= 0;
+}
+
+// What the library says of the frame as the host gives it: with the tag put back.
+static unsigned says(nippitsun_stream *table, const struct form *f, int short_enough)
+{
+    uint8_t whole[LONGEST + VLAN_TAG], out[NIPPITSUN_FRAME_MOST];
+    size_t length = f->length;
+    memcpy(whole, f->bytes, length);
+    if (f->beside && length >= TYPE_AT) {
+        memmove(whole + TYPE_AT + VLAN_TAG, whole + TYPE_AT, length - TYPE_AT);
+        whole[TYPE_AT] = (uint8_t)(f->mark >> 8);
+        whole[TYPE_AT + 1] = (uint8_t)f->mark;
+        whole[TYPE_AT + 2] = (uint8_t)(f->tci >> 8);
+        whole[TYPE_AT + 3] = (uint8_t)f->tci;
+        length += VLAN_TAG;
+    }
+    // A frame that is too long is judged by its first bytes as well: is it one of ours?
+    if (short_enough && length > NIPPITSUN_FRAME_MOST) length = NIPPITSUN_FRAME_MOST;
+    return nippitsun_arrival(table, NIPPITSUN_SLOTS_MOST, 0, whole, length, out, sizeof out).refusal;
+}
+
+static void put(struct form *f, size_t at, unsigned two)
+{
+    if (at + 1 >= LONGEST) return;
+    f->bytes[at] = (uint8_t)(two >> 8);
+    f->bytes[at + 1] = (uint8_t)two;
+}
+
+// Type fields that matter: ours, VLAN, the outer tag of a provider, other traffic, near misses.
+static unsigned type(void)
+{
+    static const unsigned types[] = {0xF1C1, 0xF1C1, 0xF1C1, 0x8100, 0x8100, 0x88A8, 0x0800, 0xF1C0, 0xC1F1, 0x9100};
+    return types[draw(sizeof types / sizeof types[0])];
+}
+
+static void make(struct form *f, const nippitsun_stream *table)
+{
+    static const size_t lengths[] = {0, 1, 5, 6, 12, 13, 14, 15, 16, 17, 18, 19, 20, 21, 22, 23, 24, 25, 26, 60, 64, 1514,
+                                     1995, 1996, 1997, 1999, 2000, 2001, 2004, 2030};
+    f->length = lengths[draw(sizeof lengths / sizeof lengths[0])];
+    for (size_t i = 0; i < LONGEST; i++) f->bytes[i] = (uint8_t)draw(256);
+    // An open key, or one that differs in one bit of the destination or in the id.
+    const nippitsun_stream *s = &table[draw(NIPPITSUN_SLOTS_MOST)];
+    uint64_t dest = s->dest;
+    unsigned vlan = s->vlan;
+    if (draw(4) == 0) dest ^= UINT64_C(1) << draw(48);
+    if (draw(4) == 0) vlan ^= 1U << draw(12);
+    for (int i = 0; i < ADDRESS; i++) f->bytes[i] = (uint8_t)(dest >> 8 * (ADDRESS - 1 - i));
+    unsigned tci = vlan | draw(16) << 12;
+    put(f, TYPE_AT, type());
+    put(f, TYPE_AT + 2, tci);
+    put(f, TYPE_AT + 4, type());
+    put(f, TYPE_AT + 6, tci ^ (draw(2) ? 1 : 0));
+    put(f, TYPE_AT + 8, type());
+    f->beside = (int)draw(2);
+    // The kernel takes these two out of a frame, and no other.
+    f->mark = draw(4) == 0 ? ETH_P_8021AD : ETH_P_8021Q;
+    f->tci = (uint16_t)tci;
+    f->outgoing = draw(8) == 0;
+}
+
+int main(int count, char **words)
+{
+    uint64_t frames = count > 1 ? read_number("frames", words[1], 1, UINT32_MAX) : 200000;
+    // Keys that share destinations and ids, with the smallest and largest id, in a full table; then the same with holes.
+    nippitsun_stream table[NIPPITSUN_SLOTS_MOST];
+    memset(table, 0, sizeof table);
+    for (unsigned i = 0; i < NIPPITSUN_SLOTS_MOST; i++) {
+        uint8_t dest[ADDRESS] = {i % 3 == 0 ? 1 : 2, i % 2 ? 0x80 : 0, 0, 0, i % 5 == 0 ? 0xFF : 0, (uint8_t)(i / 8)};
+        uint16_t vlan = (uint16_t[]){0, 1, 2, 100, 2048, 4093, 4094, 7}[i % 8];
+        nippitsun_slot_answer a = nippitsun_open(table, NIPPITSUN_SLOTS_MOST, dest, vlan, NIPPITSUN_RULE_VECTOR, 64, 65535);
+        if (a.refusal != 0) refuse("open %u: %u", i, a.refusal);
+    }
+    static struct sock_filter written[FILTER_MOST];
+    program = written;
+    uint64_t let[UINT8_MAX + 1] = {0}, stopped[UINT8_MAX + 1] = {0}, of_kernel = 0, long_ones = 0;
+    for (int holes = 0; holes < 2; holes++) {
+        for (unsigned i = 0; holes && i < NIPPITSUN_SLOTS_MOST; i++)
+            if (i % 3 != 1) nippitsun_close(table, NIPPITSUN_SLOTS_MOST, i);
+        struct sock_fprog attach = {filter_write(written, table), written};
+        int pair[2];
+        if (socketpair(AF_UNIX, SOCK_DGRAM, 0, pair) != 0) fail("socketpair");
+        if (setsockopt(pair[1], SOL_SOCKET, SO_ATTACH_FILTER, &attach, sizeof attach) != 0) fail("SO_ATTACH_FILTER");
+        for (uint64_t n = 0; n < frames / 2; n++) {
+            static struct form f;
+            make(&f, table);
+            int pass = passes(&f);
+            unsigned refusal = says(table, &f, 0), ours = says(table, &f, 1);
+            int must_pass = !f.outgoing && ours != 4 && ours != 5 && ours != 6;
+            int must_stop = f.outgoing || ours == 5 || ours == 6;
+            if ((must_pass && !pass) || (must_stop && pass)) {
+                printf("FAILED: frame %" PRIu64 " of %zu bytes, %s, tag beside %d mark %04x tci %04x, at 12: %02x%02x %02x%02x %02x%02x: "
+                       "the library says %u, the filter %s it\n", n, f.length, f.outgoing ? "outgoing" : "coming in", f.beside, f.mark,
+                       f.tci, f.bytes[12], f.bytes[13], f.bytes[14], f.bytes[15], f.bytes[16], f.bytes[17], ours, pass ? "passes" : "stops");
+                return 1;
+            }
+            if (!f.beside && !f.outgoing) {
+                of_kernel++;
+                if (passes_kernel(pair, &f) != pass) {
+                    printf("FAILED: frame %" PRIu64 ": the kernel does not do with the filter what this test does\n", n);
+                    return 1;
+                }
+            }
+            if (f.outgoing) continue;
+            if (refusal == 3 && ours == 0) long_ones++;
+            (pass ? let : stopped)[refusal]++;
+        }
+        close(pair[0]);
+        close(pair[1]);
+    }
+    // A test that never met a form shows nothing of it.
+    if (let[0] == 0 || let[3] == 0 || stopped[4] == 0 || stopped[5] == 0 || stopped[6] == 0 || long_ones == 0 || of_kernel == 0)
+        refuse("some form was never made");
+    if (let[5] != 0 || let[6] != 0 || stopped[0] != 0) refuse("the counts do not agree");
+    printf("filter-test: %" PRIu64 " frames, %" PRIu64 " of them through the kernel too; let through %" PRIu64 " that the library takes, "
+           "%" PRIu64 " too long, %" PRIu64 " short; stopped %" PRIu64 " foreign, %" PRIu64 " without a stream, %" PRIu64 " too long, %" PRIu64 " short\n",
+           frames, of_kernel, let[0], let[3], let[4], stopped[5], stopped[6], stopped[3], stopped[4]);
+    return 0;
+}
