@@ -15,6 +15,7 @@
 #include <signal.h>
 #include <stdio.h>
 #include <string.h>
+#include <sys/mman.h>
 
 // How long frames are still taken after a signal, if they do not stop.
 static const int64_t LAST_TURNS = 5000000000;
@@ -182,6 +183,10 @@ int main(int count, char **words)
     // One wire for both would make each frame its own twin. By number: an interface may have two names.
     if (if_nametoindex(ports[0].interface) == if_nametoindex(ports[1].interface)) refuse("both networks are on interface '%s'", ports[0].interface);
 
+    // A page that has to be fetched back from the disk is a stall. Without the right to lock so much the program goes on.
+    if (mlockall(MCL_CURRENT | MCL_FUTURE) != 0) fprintf(stderr, "warning: memory is not locked: %s\n", strerror(errno));
+    // A reader of standard output that has gone is a failed write, which is said.
+    signal(SIGPIPE, SIG_IGN);
     struct sigaction action = {.sa_handler = on_signal};
     sigset_t held, outside;
     sigemptyset(&held);

@@ -237,6 +237,10 @@ fn receive(options: Options) -> Result<(), Trouble> {
         filter: (!options.all).then(|| filter::program(&keys(&options.receiver))),
         room: options.room_kb << 10,
     };
+    // A page that has to be fetched back from the disk is a stall. Without the right to lock so much the program goes on.
+    if let Err(e) = socket::lock_memory() {
+        say(&format!("warning: memory is not locked: {}", words(&e)));
+    }
     let mut signals = Signals::hold().map_err(failed("signals"))?;
     let clock = Clock::new();
     let opened = clock.now();

@@ -49,6 +49,8 @@ const SIG_BLOCK: c_int = 0;
 const SIGINT: u32 = 2;
 const SIGUSR1: u32 = 10;
 const SIGTERM: u32 = 15;
+const MCL_CURRENT: c_int = 1;
+const MCL_FUTURE: c_int = 2;
 const SFD_CLOEXEC: c_int = 0o2000000;
 
 /// `struct sockaddr_ll`: an interface, or where a frame came from.
@@ -182,6 +184,7 @@ extern "C" {
     ) -> c_int;
     fn sigprocmask(how: c_int, set: *const SignalSet, before: *mut SignalSet) -> c_int;
     fn signalfd(file: c_int, set: *const SignalSet, flags: c_int) -> c_int;
+    fn mlockall(flags: c_int) -> c_int;
 }
 
 /// The calls above answer below 0 where they fail.
@@ -190,6 +193,13 @@ fn checked(answer: c_int) -> io::Result<c_int> {
         return Err(io::Error::last_os_error());
     }
     Ok(answer)
+}
+
+/// All memory of the program, what it has and what it will ask for, stays where it is.
+pub fn lock_memory() -> io::Result<()> {
+    // SAFETY: a number.
+    checked(unsafe { mlockall(MCL_CURRENT | MCL_FUTURE) })?;
+    Ok(())
 }
 
 /// The number of an interface, if it is there.
