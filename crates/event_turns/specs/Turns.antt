@@ -4,14 +4,13 @@
 -- answers. Assumes nothing.
 use Prim.Native.Nat.{ℕ, zero, suc, _+_, _-_, _≤_}
 use mathlib.Core.Path.{_≡_}
-use mathlib.Core.Bool.{Bool, true, false}
+use mathlib.Core.Bool.{Bool, true, false, not, _&&_}
 use mathlib.Core.List.{List, [], _∷_, _++_}
 use lib.IntN.{ℤ, pos, negsuc}
 use lib.Signed.{nonNeg}
 use lib.ListN.{length, take, drop}
 use lib.Dec.{eqb, ltb}
 use Rattle.record.specs.Words.{if_then_else_}
-use Rattle.calls.specs.Table.{Table}
 use Rattle.event_file.specs.Text.{text}
 use Rattle.event_file.specs.Records.{recordsOf, readAt}
 use Rattle.event_file.specs.Lines.{lastLine}
@@ -65,10 +64,6 @@ dueFrom h input later = linesFrom (h .table) (h .number) (recordsOf (heldIn h in
 abbrev pub pieceOf : Turn → List ℕ → List ℕ
 pieceOf r input = drop (r .held .to - bytesIn (r .got)) (take (r .held .to) input)
 
--- where in the input buffer, before it read, a turn left off answering: what is held after it, but for what it read, is left
-abbrev pub leftAt : Held → Turn → ℕ
-leftAt h r = h .to - (leftOf (r .held) - bytesIn (r .got))
-
 -- a turn that reads nothing
 abbrev pub stays : Held → Sent → (from : ℤ) → Stand → Turn
 stays h sent from stand = record { held = h; sent = sent; from = from; got = pos 0; stand = stand }
@@ -76,6 +71,10 @@ stays h sent from stand = record { held = h; sent = sent; from = from; got = pos
 abbrev pub isWhole : Read → Bool
 isWhole (Body start end) = true
 isWhole More = false
+
+-- A whole record is left before a turn reads: what is held after the turn, but for what it read, is left of what was held.
+abbrev pub leavesWhole : Held → (old : List ℕ) → Turn → Bool
+leavesWhole h old r = isWhole (readAt (take (h .to) old) (h .to - (leftOf (r .held) - bytesIn (r .got))))
 
 -- a record that is left whole is answered by the next turn, if it has a number
 abbrev pub afterWhole : (number : ℕ) → Stand
@@ -87,7 +86,7 @@ afterRead (pos zero) = Ended
 afterRead (pos (suc n)) = Going
 afterRead (negsuc n) = Failed
 
--- How a run stands after a turn: if its lines went out and no whole record is left, it has read.
+-- How a run stands after a turn, which reads exactly if its lines went out and no whole record is left.
 abbrev pub standOf : (out whole : Bool) (number : ℕ) (got : ℤ) → Stand
 standOf out whole number got = if out then (if whole then afterWhole number else afterRead got) else Failed
 
@@ -96,7 +95,8 @@ standOf out whole number got = if out then (if whole then afterWhole number else
 pub record Turned (from onto : ℤ) (h : Held) (old now lines : List ℕ) (r : Turn) : Type 0 where
   pub same : (later : List ℕ) → take (r .sent .wrote) lines ++ dueFrom (r .held) now later ≡ dueFrom h old (pieceOf r now ++ later)
   pub last : r .stand ≡ Ended → dueFrom (r .held) now [] ≡ lastLine (leftOf (r .held))
-  pub stand : r .stand ≡ standOf (r .sent .out) (isWhole (readAt (take (h .to) old) (leftAt h r))) (r .held .number) (r .got)
+  pub stand : r .stand ≡ standOf (r .sent .out) (leavesWhole h old r) (r .held .number) (r .got)
+  pub unread : (r .sent .out && not (leavesWhole h old r)) ≡ false → r .got ≡ pos 0
   pub there : r .sent .onto ≡ onto
   pub whence : r .from ≡ from
 

@@ -348,8 +348,8 @@ fn serve(from: i32, onto: i32, input: &mut [u8], lines: &mut [u8], out: &mut [u8
     let to = p.to;
     if !versioned(&input[..to]) {
         let used = say_version(lines);
-        let last = flush(onto, lines, used);
-        return Over::Version(last);
+        let said = flush(onto, lines, used);
+        return Over::Version(said);
     }
     turns(from, onto, start(to), input, lines, out)
 }

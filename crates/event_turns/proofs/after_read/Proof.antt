@@ -7,7 +7,7 @@ use mir.Syntax.{w64}
 use mir.Val.{toZ, ofZ}
 use mir.Facts.{toZ-ofZ}
 use borrow.Author.Needs.{needs}
-use Rattle.event_turns.proofs.Turning.{read-failed, read-ended, read-more}
+use Rattle.event_turns.proofs.Answers.{read-failed, read-ended, read-more}
 use Rattle.event_turns.proofs.after_read.Statement.{statement}
 use Rattle.event_turns.proofs.after_read.Tie as tie
 

@@ -6,7 +6,7 @@ use lib.Signed.{nonNeg}
 use mir.Syntax.{w64}
 use mir.Val.{toZ, ofZ}
 use mir.Facts.{toZ-ofZ}
-use Rattle.event_turns.proofs.Turning.{below}
+use Rattle.event_turns.proofs.Answers.{below}
 use Rattle.event_turns.proofs.failed.Statement.{statement}
 use Rattle.event_turns.proofs.failed.Tie as tie
 

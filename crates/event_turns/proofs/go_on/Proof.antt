@@ -8,7 +8,8 @@ use mir.Facts.{toZ-ofZ}
 use native.Mathlib.Omega.{arith}
 use borrow.Author.Tests.{not-true, not-false}
 use Rattle.event_turns.specs.Turns.{bytesIn}
-use Rattle.event_turns.proofs.Turning.{stay-turned, read-turned, failed-no-end, whole-goes}
+use Rattle.event_turns.proofs.Answers.{failed-no-end, whole-goes}
+use Rattle.event_turns.proofs.Turning.{stay-turned, read-turned}
 use borrow.Author.Needs.{needs}
 use Rattle.event_turns.proofs.go_on.Statement.{statement}
 use Rattle.event_turns.proofs.go_on.Tie as tie

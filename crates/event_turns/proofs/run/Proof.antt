@@ -1,7 +1,7 @@
 -- `event_turns::run` meets its contract: the buffers are long enough. Assumes nothing.
 use mir.Facts.{toZ-ofZ}
 use borrow.Author.Needs.{needs}
-use Rattle.event_turns.proofs.Turning.{served-as}
+use Rattle.event_turns.proofs.Running.{served-as}
 use Rattle.event_turns.proofs.run.Statement.{statement}
 use Rattle.event_turns.proofs.run.Tie as tie
 

@@ -4,7 +4,7 @@ use mathlib.Core.Path.{refl}
 use native.Mathlib.Omega.{arith}
 use lib.ListN.{length, length-set}
 use borrow.Author.Needs.{needs}
-use Rattle.event_turns.proofs.Turning.{version-stored}
+use Rattle.event_turns.proofs.Running.{version-stored}
 use Rattle.event_turns.proofs.say_version.Statement.{statement}
 use Rattle.event_turns.proofs.say_version.Tie as tie
 

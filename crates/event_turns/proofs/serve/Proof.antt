@@ -1,6 +1,6 @@
 -- `event_turns::serve` meets its contract: behind the version byte there is a first record, or none. Assumes nothing.
 use mathlib.Core.Path.{_≡_, sym, ap, _∙_}
-use mathlib.Core.Bool.{Bool, true, false}
+use mathlib.Core.Bool.{true}
 use Prim.Native.Nat.{_≤_}
 use native.Mathlib.Omega.{arith}
 use lib.Signed.{nonNeg}
@@ -11,7 +11,7 @@ use mir.Facts.{toZ-ofZ}
 use borrow.Author.Needs.{needs}
 use borrow.Author.Tests.{not-true, not-false}
 use Rattle.event_turns.specs.Turns.{startsOne, failed, version, goes}
-use Rattle.event_turns.proofs.Turning.{starts-some, filled-as, ran-as}
+use Rattle.event_turns.proofs.Running.{starts-some, filled-as, ran-as}
 use Rattle.event_turns.proofs.serve.Statement.{statement}
 use Rattle.event_turns.proofs.serve.Tie as tie
 

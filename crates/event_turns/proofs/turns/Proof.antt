@@ -13,7 +13,7 @@ use borrow.Author.Tests.{not-true, not-false}
 use Rattle.event_run.specs.Run.{lastNumber}
 use Rattle.event_turns.specs.declared.Stand.the-variants.{Going}
 use Rattle.event_turns.specs.Turns.{Gone, here}
-use Rattle.event_turns.proofs.Turning.{gone-on, ran-as}
+use Rattle.event_turns.proofs.Running.{gone-on, ran-as}
 use Rattle.event_turns.proofs.turns.Statement.{statement}
 use Rattle.event_turns.proofs.turns.Tie as tie
 
