@@ -23,7 +23,7 @@ use Rattle.event_turns.specs.declared.Held.{Held}
 use Rattle.event_turns.specs.declared.Sent.{Sent}
 use Rattle.event_turns.specs.declared.Stand.{Stand}
 use Rattle.event_turns.specs.declared.Stand.the-variants.{Ended}
-use Rattle.event_run.specs.Run.{due, Kept, Drained}
+use Rattle.event_run.specs.Run.{due, nextOf, Kept, Drained}
 use Rattle.event_turns.specs.Turns.{bytesIn, placeOf, dueFrom, stays, isWhole, afterRead, standOf, Turned}
 use Rattle.event_turns.proofs.Answers.{none-whole, none-read}
 
@@ -81,7 +81,7 @@ none-behind to l = let n : length (take to l) ≤ to - 0 = omega (arith, length-
 
 -- ---- a turn
 
-module _ (from onto : ℤ) (h : Held) (u : Table) (r : Place) (input old new : List ℕ) (k : Kept (h .table) (placeOf h) (take (h .to) input) old u r new) (s : Sent) (so : (s .onto ≡ onto) × (s .wrote ≡ r .used)) (a : r .at ≤ h .to) where
+module _ (from onto : ℤ) (h : Held) (u : Table) (r : Place) (input old new : List ℕ) (k : Kept (h .table) (placeOf h) (take (h .to) input) old u r new) (s : Sent) (so : (s .onto ≡ onto) × (s .wrote ≡ r .used)) (a : r .at ≤ h .to) (x : nextOf r (take (h .to) input) (length new) ≡ More) where
   -- what is due after the records were answered
   due-held : (rest : List ℕ) → take (s .wrote) new ++ linesFrom u (r .number) (recordsOf (drop (r .at) (take (h .to) input) ++ rest)) ≡ dueFrom h input rest
   unfolding due dueFrom
@@ -94,11 +94,15 @@ module _ (from onto : ℤ) (h : Held) (u : Table) (r : Place) (input old new : L
       record {
         same = λ later. rw (none-behind (h .to) input) (due-held later);
         last = λ z. absurd (n z);
-        stand = let q : h .to - (h .to - r .at - 0) ≡ r .at = omega arith in rw q e;
+        none = rw (at-left, so .1) x;
+        stand = rw at-left e;
         unread = λ _. refl;
         there = so .0;
         whence = w;
       }
+    where
+      at-left : h .to - (h .to - r .at - 0) ≡ r .at
+      at-left = omega arith
 
   module _ (now : List ℕ) (left : ℕ) (l : left ≡ h .to - r .at) (b : h .to ≤ length input) (e : take left now ≡ take left (drop (r .at) input)) where
     -- what is left stands at the front
@@ -122,6 +126,7 @@ module _ (from onto : ℤ) (h : Held) (u : Table) (r : Place) (input old new : L
         record {
           same = λ later. same later;
           last = λ z. last (none-read got (sym st ∙ z));
+          none = rw (at-left, so .1) x;
           stand = rw (at-left, o, ← w) st;
           unread = λ z. absurd (let y : _≡_ {A = Bool} true false = rw (at-left, o, ← w) at z in let x : _≡_ {A = ℕ} 0 1 = cc in omega arith);
           there = so .0;

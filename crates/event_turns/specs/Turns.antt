@@ -17,7 +17,7 @@ use Rattle.event_file.specs.Lines.{lastLine}
 use Rattle.event_file.specs.Files.{freeTable, linesFrom, linesOf}
 use Rattle.event_file.specs.declared.reader.Read.{Read}
 use Rattle.event_file.specs.declared.reader.Read.the-variants.{Body, More}
-use Rattle.event_run.specs.Run.{lastNumber}
+use Rattle.event_run.specs.Run.{lastNumber, nextOf}
 use Rattle.event_run.specs.declared.Place.{Place}
 use Rattle.event_turns.specs.declared.Held.{Held}
 use Rattle.event_turns.specs.declared.Sent.{Sent}
@@ -68,13 +68,16 @@ pieceOf r input = drop (r .held .to - bytesIn (r .got)) (take (r .held .to) inpu
 abbrev pub stays : Held → Sent → (from : ℤ) → Stand → Turn
 stays h sent from stand = record { held = h; sent = sent; from = from; got = pos 0; stand = stand }
 
+-- where a turn left off answering, before it read: what is held after it, but for what it read, is left
+abbrev pub leftAt : Held → Turn → ℕ
+leftAt h r = h .to - (leftOf (r .held) - bytesIn (r .got))
+
 abbrev pub isWhole : Read → Bool
 isWhole (Body start end) = true
 isWhole More = false
 
--- A whole record is left before a turn reads: what is held after the turn, but for what it read, is left of what was held.
 abbrev pub leavesWhole : Held → (old : List ℕ) → Turn → Bool
-leavesWhole h old r = isWhole (readAt (take (h .to) old) (h .to - (leftOf (r .held) - bytesIn (r .got))))
+leavesWhole h old r = isWhole (readAt (take (h .to) old) (leftAt h r))
 
 -- a record that is left whole is answered by the next turn, if it has a number
 abbrev pub afterWhole : (number : ℕ) → Stand
@@ -91,10 +94,12 @@ abbrev pub standOf : (out whole : Bool) (number : ℕ) (got : ℤ) → Stand
 standOf out whole number got = if out then (if whole then afterWhole number else afterRead got) else Failed
 
 -- What a turn handed over to be written, and all that is printed from then on, is what was due before it with the piece
--- that it read; whatever comes later. Where the input has ended, only the last line is due.
+-- that it read; whatever comes later. Where the input has ended, only the last line is due. No record is left that it could
+-- have answered.
 pub record Turned (from onto : ℤ) (h : Held) (old now lines : List ℕ) (r : Turn) : Type 0 where
   pub same : (later : List ℕ) → take (r .sent .wrote) lines ++ dueFrom (r .held) now later ≡ dueFrom h old (pieceOf r now ++ later)
   pub last : r .stand ≡ Ended → dueFrom (r .held) now [] ≡ lastLine (leftOf (r .held))
+  pub none : nextOf (record { number = r .held .number; at = leftAt h r; used = r .sent .wrote }) (take (h .to) old) (length lines) ≡ More
   pub stand : r .stand ≡ standOf (r .sent .out) (leavesWhole h old r) (r .held .number) (r .got)
   pub unread : (r .sent .out && not (leavesWhole h old r)) ≡ false → r .got ≡ pos 0
   pub there : r .sent .onto ≡ onto
