@@ -76,6 +76,7 @@ abbrev pub isWhole : Read → Bool
 isWhole (Body start end) = true
 isWhole More = false
 
+-- a whole record is left before it reads
 abbrev pub leavesWhole : Held → (old : List ℕ) → Turn → Bool
 leavesWhole h old r = isWhole (readAt (take (h .to) old) (leftAt h r))
 
@@ -113,6 +114,7 @@ pub data Goes (from onto : ℤ) (h : Held) (old : List ℕ) : (turns : ℕ) (s :
       → Turned from onto k now after lines r
       → Goes from onto h old (n + 1) (r .stand) (r .held) after (read ++ pieceOf r after) (written ++ take (r .sent .wrote) lines)
 
+-- the same, whatever was read and written
 pub record Gone (from onto : ℤ) (h : Held) (old : List ℕ) (turns : ℕ) (s : Stand) (k : Held) (now : List ℕ) : Type 0 where
   pub read : List ℕ
   pub written : List ℕ

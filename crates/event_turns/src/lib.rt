@@ -13,10 +13,9 @@ ghost use lib.Signed.{nonNeg};
 ghost use lib.ListN.{length, take, drop};
 ghost use Rattle.record.specs.Sizes.{frameMost};
 ghost use Rattle.event_file.specs.Records.{readAt};
-ghost use Rattle.event_file.specs.Lines.{lastLine};
 ghost use Rattle.event_file.specs.Buffers.{lastMost};
 ghost use Rattle.event_run.specs.Run.{Drained};
-ghost use Rattle.event_turns.specs.Turns.{Handed, Filled, placeOf, leftOf, stays, isWhole, afterWhole, afterRead, Turned, Stops, Ran, startsOne, startOf, versionLine, Served, Runs};
+ghost use Rattle.event_turns.specs.Turns.{Filled, placeOf, leftOf, stays, isWhole, afterWhole, afterRead, Turned, Stops, Ran, startsOne, startOf, versionLine, Served, Runs};
 
 // Moves the bytes from a place up to another to the front, and answers how many.
 fn shift(input: &mut [u8], at: usize, to: usize) -> usize
@@ -42,7 +41,8 @@ pub struct Sent {
     pub out: bool,
 }
 
-// Hands bytes over to be written, and says so on standard error where they did not go out.
+// Hands bytes over to be written, and says so on standard error where they did not go out. That a call is made as it is
+// told is what no contract can say, here and in `fill`.
 fn hand_over(onto: i32, bytes: &[u8]) -> Sent
     ensures { λ r. ⌜ (r .onto ≡ onto) × (r .wrote ≡ length (now (bytes .entry))) ⌝ }
 {
