@@ -1,4 +1,6 @@
 -- The theorems of a run in turns.
-pub mod Turning
+pub mod Running
 -- What the proofs of the functions rest on.
+mod Answers
 mod Moves
+mod Turning

@@ -1,27 +1,31 @@
--- A turn keeps what is due, whatever it read; and a whole run hands over what document 01 says is printed. Assumes nothing.
+-- A turn keeps what is due, whatever it read. Assumes nothing.
 use mathlib.Core.Path.{_≡_, refl, sym, ap, _∙_}
 use Prim.Native.Nat.{ℕ, _+_, _-_, _≤_, _<_}
 use native.Mathlib.Decide.{decLt}
 use native.Mathlib.Omega.{arith}
 use mathlib.Core.Bool.{Bool, true, false}
 use mathlib.Core.List.{List, [], _∷_, _++_, append-assoc}
-use lib.ListN.{length, take, drop, getD, length-take, drop-of-length-le, take-append-drop}
+use lib.ListN.{length, take, drop, length-take, drop-of-length-le, take-append-drop}
 use lib.Seq.{length-take-le, take-take, take-add, drop-at}
-use lib.Dec.{eqb}
+use lib.IntN.{ℤ, pos}
 use borrow.Author.Tests.{lt-leb, eq-eqb, ne-eqb}
 use Rattle.record.specs.Sizes.{frameMost}
 use Rattle.calls.specs.Table.{Table}
 use Rattle.event_file.specs.Records.{recordsOf, readAt}
 use Rattle.event_file.specs.Lines.{lastLine}
 use Rattle.event_file.specs.Buffers.{Writes, lastMost}
-use Rattle.event_file.specs.Files.{linesFrom, linesOf, freeTable}
+use Rattle.event_file.specs.Files.{linesFrom}
 use Rattle.event_file.specs.declared.reader.Read.the-variants.{More}
 use Rattle.event_file.proofs.Framing.{last-record}
 use Rattle.event_file.proofs.Writing.{front-of, writes-put}
 use Rattle.event_run.specs.declared.Place.{Place}
 use Rattle.event_turns.specs.declared.Held.{Held}
-use Rattle.event_run.specs.Run.{due, Kept, Drained}
-use Rattle.event_turns.specs.Turns.{placeOf, dueFrom, pieceOf, stays, Turned, startsOne, startOf, Goes, here, turn, RunsPrint, VersionPrints}
+use Rattle.event_turns.specs.declared.Sent.{Sent}
+use Rattle.event_turns.specs.declared.Stand.{Stand}
+use Rattle.event_turns.specs.declared.Stand.the-variants.{Ended}
+use Rattle.event_run.specs.Run.{due, nextOf, Kept, Drained}
+use Rattle.event_turns.specs.Turns.{bytesIn, placeOf, dueFrom, stays, isWhole, afterRead, standOf, Turned}
+use Rattle.event_turns.proofs.Answers.{none-whole, none-read}
 
 -- ---- a buffer that is read up to a place
 
@@ -63,7 +67,7 @@ last-written left {old} {now} {r} w h = front-of (writes-put lastMost 0 h w)
 
 -- ---- parts of a list
 
-append-nil : (l : List ℕ) → l ++ [] ≡ l
+pub append-nil : (l : List ℕ) → l ++ [] ≡ l
 append-nil [] = refl
 append-nil (a ∷ l) = ap (λ (m : List ℕ). a ∷ m) (append-nil l)
 
@@ -77,26 +81,30 @@ none-behind to l = let n : length (take to l) ≤ to - 0 = omega (arith, length-
 
 -- ---- a turn
 
-module _ (h : Held) (u : Table) (r : Place) (input old new : List ℕ) (k : Kept (h .table) (placeOf h) (take (h .to) input) old u r new) where
+module _ (from onto : ℤ) (h : Held) (u : Table) (r : Place) (input old new : List ℕ) (k : Kept (h .table) (placeOf h) (take (h .to) input) old u r new) (s : Sent) (so : (s .onto ≡ onto) × (s .wrote ≡ r .used)) (a : r .at ≤ h .to) (x : nextOf r (take (h .to) input) (length new) ≡ More) where
   -- what is due after the records were answered
-  due-held : (rest : List ℕ) → take (r .used) new ++ linesFrom u (r .number) (recordsOf (drop (r .at) (take (h .to) input) ++ rest)) ≡ dueFrom h input rest
+  due-held : (rest : List ℕ) → take (s .wrote) new ++ linesFrom u (r .number) (recordsOf (drop (r .at) (take (h .to) input) ++ rest)) ≡ dueFrom h input rest
   unfolding due dueFrom
-  due-held rest = k .same rest
+  due-held rest = rw (so .1) (k .same rest)
 
-  pub stay-turned : (going : Bool) → Turned h input input new (stays u (r .number) (r .at) (h .to) (r .used) going)
+  pub stay-turned : (f : ℤ) → f ≡ from → (stand : Stand) → stand ≡ standOf (s .out) (isWhole (readAt (take (h .to) input) (r .at))) (r .number) (pos 0) → (stand ≡ Ended → ⊥)
+      → Turned from onto h input input new (stays (record { table = u; number = r .number; at = r .at; to = h .to }) s f stand)
   unfolding dueFrom linesFrom
-  stay-turned going =
+  stay-turned f w stand e n =
       record {
-        same = λ later. stayed later;
-        last = λ e. absurd (let z : _≡_ {A = ℕ} 0 1 = cc in omega arith);
+        same = λ later. rw (none-behind (h .to) input) (due-held later);
+        last = λ z. absurd (n z);
+        none = rw (at-left, so .1) x;
+        stand = rw at-left e;
+        unread = λ _. refl;
+        there = so .0;
+        whence = w;
       }
     where
-      stayed : (later : List ℕ)
-          → take (r .used) new ++ dueFrom (stays u (r .number) (r .at) (h .to) (r .used) going .held) input later
-          ≡ dueFrom h input (pieceOf (stays u (r .number) (r .at) (h .to) (r .used) going) input ++ later)
-      stayed later = rw (none-behind (h .to) input) (due-held later)
+      at-left : h .to - (h .to - r .at - 0) ≡ r .at
+      at-left = omega arith
 
-  module _ (now : List ℕ) (left : ℕ) (l : left ≡ h .to - r .at) (a : r .at ≤ h .to) (b : h .to ≤ length input) (e : take left now ≡ take left (drop (r .at) input)) where
+  module _ (now : List ℕ) (left : ℕ) (l : left ≡ h .to - r .at) (b : h .to ≤ length input) (e : take left now ≡ take left (drop (r .at) input)) where
     -- what is left stands at the front
     front : take left now ≡ drop (r .at) (take (h .to) input)
     front = e ∙ (ap (λ (n : ℕ). take n (drop (r .at) input)) l ∙ sym (drop-take (r .at) (h .to) input a b))
@@ -106,75 +114,35 @@ module _ (h : Held) (u : Table) (r : Place) (input old new : List ℕ) (k : Kept
     behind to m = sym (ap (λ (s : List ℕ). s ++ drop left (take to now)) (sym front ∙ sym (take-take left to now m)) ∙ take-append-drop left (take to now))
 
     read-same : (to : ℕ) → left ≤ to → (later : List ℕ)
-        → take (r .used) new ++ linesFrom u (r .number) (recordsOf (take to now ++ later)) ≡ dueFrom h input (drop left (take to now) ++ later)
+        → take (s .wrote) new ++ linesFrom u (r .number) (recordsOf (take to now ++ later)) ≡ dueFrom h input (drop left (take to now) ++ later)
     read-same to m later =
-        ap (λ (s : List ℕ). take (r .used) new ++ linesFrom u (r .number) (recordsOf s)) (ap (λ (s : List ℕ). s ++ later) (behind to m) ∙ append-assoc (drop (r .at) (take (h .to) input)) (drop left (take to now)) later)
+        ap (λ (l : List ℕ). take (s .wrote) new ++ linesFrom u (r .number) (recordsOf l)) (ap (λ (l : List ℕ). l ++ later) (behind to m) ∙ append-assoc (drop (r .at) (take (h .to) input)) (drop left (take to now)) later)
         ∙ due-held (drop left (take to now) ++ later)
 
-    pub read-turned : (to : ℕ) → left ≤ to → Turned h input now new (record { held = record { table = u; number = r .number; at = 0; to = to }; wrote = r .used; read = to - left; going = true; ended = false })
+    pub read-turned : (to : ℕ) (f got : ℤ) → f ≡ from → to ≡ left + bytesIn got → s .out ≡ true → false ≡ isWhole (readAt (take (h .to) input) (r .at)) → (stand : Stand) → stand ≡ afterRead got
+        → Turned from onto h input now new (record { held = record { table = u; number = r .number; at = 0; to = to }; sent = s; from = f; got = got; stand = stand })
     unfolding dueFrom linesFrom
-    read-turned to m =
+    read-turned to f got ff t o w stand st =
         record {
           same = λ later. same later;
-          last = λ e. absurd (let z : _≡_ {A = ℕ} 0 1 = cc in omega arith);
+          last = λ z. last (none-read got (sym st ∙ z));
+          none = rw (at-left, so .1) x;
+          stand = rw (at-left, o, ← w) st;
+          unread = λ z. absurd (let y : _≡_ {A = Bool} true false = rw (at-left, o, ← w) at z in let x : _≡_ {A = ℕ} 0 1 = cc in omega arith);
+          there = so .0;
+          whence = ff;
         }
       where
-        same : (later : List ℕ) → take (r .used) new ++ linesFrom u (r .number) (recordsOf (take to now ++ later)) ≡ dueFrom h input (drop (to - (to - left)) (take to now) ++ later)
-        same later = let n : to - (to - left) ≡ left = omega arith in rw n (read-same to m later)
+        at-left : h .to - (to - 0 - bytesIn got) ≡ r .at
+        at-left = omega arith
 
-    pub end-turned : (ended : Bool) → More ≡ readAt (take (h .to) input) (r .at) → Turned h input now new (record { held = record { table = u; number = r .number; at = 0; to = left }; wrote = r .used; read = 0; going = false; ended = ended })
-    unfolding dueFrom linesFrom
-    end-turned ended m = record { same = λ later. same later; last = λ _. (none-behind left now, last) }
-      where
-        same : (later : List ℕ) → take (r .used) new ++ linesFrom u (r .number) (recordsOf (take left now ++ later)) ≡ dueFrom h input (drop (left - 0) (take left now) ++ later)
-        same later = let n : left - 0 ≡ left = omega arith in rw n (read-same left (omega arith) later)
+        same : (later : List ℕ) → take (s .wrote) new ++ linesFrom u (r .number) (recordsOf (take to now ++ later)) ≡ dueFrom h input (drop (to - bytesIn got) (take to now) ++ later)
+        same later = let n : to - bytesIn got ≡ left = omega arith in rw n (read-same to (omega arith) later)
 
-        last : linesFrom u (r .number) (recordsOf (take left now ++ [])) ≡ lastLine (left - 0)
-        last =
+        last : bytesIn got ≡ 0 → linesFrom u (r .number) (recordsOf (take to now ++ [])) ≡ lastLine (to - 0)
+        last z =
             let n : length (take (h .to) input) ≡ h .to = length-take-le (h .to) input b in
-            let q : left - 0 ≡ length (take (h .to) input) - r .at = omega arith in
-            ap (λ (s : List ℕ). linesFrom u (r .number) (recordsOf s)) (append-nil (take left now) ∙ front)
-            ∙ (last-due u (r .number) (take (h .to) input) (r .at) (omega arith) m ∙ ap lastLine (sym q))
-
--- ---- the first byte
-
-pub no-byte : (s : List ℕ) → length s ≡ 0 → false ≡ startsOne s
-unfolding startsOne
-no-byte [] e = refl
-no-byte (a ∷ s) e = absurd (omega arith)
-
-pub first-byte : (s : List ℕ) → eqb (getD s 0 0) 1 ≡ startsOne s
-unfolding startsOne
-first-byte [] = refl
-first-byte (a ∷ s) = refl
-
-pub starts-some : (s : List ℕ) → startsOne s ≡ true → 1 ≤ length s
-unfolding startsOne
-starts-some [] e = absurd (let z : _≡_ {A = ℕ} 0 1 = cc in omega arith)
-starts-some (a ∷ s) e = omega arith
-
--- ---- a run
-
--- what was handed over, and what is due, stays
-goes-due : {h : Held} {old : List ℕ} {k : Held} {now read written : List ℕ} → Goes h old k now read written → (later : List ℕ) → written ++ dueFrom k now later ≡ dueFrom h old (read ++ later)
-goes-due here later = refl
-goes-due {h} {old} (turn {k} {now} {after} {lines} {read} {written} {r} g t) later =
-    append-assoc written (take (r .wrote) lines) (dueFrom (r .held) after later)
-    ∙ (ap (λ (s : List ℕ). written ++ s) (t .same later) ∙ (goes-due g (pieceOf r after ++ later) ∙ ap (dueFrom h old) (sym (append-assoc read (pieceOf r after) later))))
-
-one-starts : (s later : List ℕ) → startsOne s ≡ true → linesFrom freeTable 1 (recordsOf (drop 1 s ++ later)) ≡ linesOf (s ++ later)
-unfolding startsOne linesOf
-one-starts [] later e = absurd (let z : _≡_ {A = ℕ} 0 1 = cc in omega arith)
-one-starts (a ∷ s) later e = rw e refl
-
-pub runs-print : RunsPrint
-unfolding dueFrom
-runs-print to input k now read written after lines r e g t z =
-    ap (λ (s : List ℕ). written ++ (take (r .wrote) lines ++ s)) (sym (t .last z .1))
-    ∙ (ap (λ (s : List ℕ). written ++ s) (t .same [] ∙ ap (λ (s : List ℕ). dueFrom k now (s ++ [])) (t .last z .0))
-    ∙ (goes-due g [] ∙ (ap (dueFrom (startOf to) input) (append-nil read) ∙ one-starts (take to input) read e)))
-
-pub version-prints : VersionPrints
-unfolding startsOne linesOf
-version-prints [] later e h = rw (h refl) refl
-version-prints (a ∷ s) later e h = rw e refl
+            let q : to ≡ left = omega arith in
+            let d : to - 0 ≡ length (take (h .to) input) - r .at = omega arith in
+            ap (λ (l : List ℕ). linesFrom u (r .number) (recordsOf l)) (append-nil (take to now) ∙ (ap (λ (n : ℕ). take n now) q ∙ front))
+            ∙ (last-due u (r .number) (take (h .to) input) (r .at) (omega arith) (none-whole _ w) ∙ ap lastLine (sym d))

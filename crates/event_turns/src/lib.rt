@@ -7,16 +7,15 @@ use event_run::Round;
 use libc::STDERR_FILENO;
 use record::Stream;
 ghost use mathlib.Core.Path.{_≡_};
-ghost use mathlib.Core.Bool.{true, false};
+ghost use mathlib.Core.Bool.{true, false, not};
 ghost use Prim.Native.Nat.{_+_, _-_, _≤_, _<_};
+ghost use lib.Signed.{nonNeg};
 ghost use lib.ListN.{length, take, drop};
 ghost use Rattle.record.specs.Sizes.{frameMost};
-ghost use Rattle.event_file.specs.Text.{text};
 ghost use Rattle.event_file.specs.Records.{readAt};
-ghost use Rattle.event_file.specs.Lines.{lastLine};
 ghost use Rattle.event_file.specs.Buffers.{lastMost};
 ghost use Rattle.event_run.specs.Run.{Drained};
-ghost use Rattle.event_turns.specs.Turns.{placeOf, leftOf, stays, Turned, startsOne, startOf};
+ghost use Rattle.event_turns.specs.Turns.{Filled, placeOf, leftOf, stays, isWhole, afterWhole, afterRead, Turned, Stops, Ran, startsOne, startOf, versionLine, Served, Runs};
 
 // Moves the bytes from a place up to another to the front, and answers how many.
 fn shift(input: &mut [u8], at: usize, to: usize) -> usize
@@ -35,21 +34,24 @@ fn shift(input: &mut [u8], at: usize, to: usize) -> usize
     n
 }
 
-// How many bytes were handed over to be written, and whether they went out.
-struct Sent {
-    wrote: usize,
-    out: bool,
+// The descriptor onto which bytes were handed over to be written, how many, and whether they went out.
+pub struct Sent {
+    pub onto: i32,
+    pub wrote: usize,
+    pub out: bool,
 }
 
-// Hands bytes over to be written, and says so on standard error where they did not go out.
+// Hands bytes over to be written, and says so on standard error where they did not go out. That a call is made as it is
+// told is what no contract can say, here and in `fill`.
 fn hand_over(onto: i32, bytes: &[u8]) -> Sent
-    ensures { λ r. ⌜ r .wrote ≡ length (now (bytes .entry)) ⌝ }
+    ensures { λ r. ⌜ (r .onto ≡ onto) × (r .wrote ≡ length (now (bytes .entry))) ⌝ }
 {
     let out = io::write_all(onto, bytes);
     if !out {
         io::write_all(STDERR_FILENO, b"events: cannot write\n");
     }
     Sent {
+        onto,
         wrote: bytes.len(),
         out,
     }
@@ -58,28 +60,41 @@ fn hand_over(onto: i32, bytes: &[u8]) -> Sent
 // Hands over the first bytes of the lines.
 fn flush(onto: i32, lines: &[u8], used: usize) -> Sent
     requires { ⌜ used ≤ length (now lines) ⌝ }
-    ensures { λ r. ⌜ r .wrote ≡ used ⌝ }
+    ensures { λ r. ⌜ (r .onto ≡ onto) × (r .wrote ≡ used) ⌝ }
 {
     hand_over(onto, &lines[..used])
 }
 
-// What one read brought: the place up to which the buffer is read now, and the read's answer.
+// What one read brought: the descriptor that it came from, the place up to which the buffer is read now, and the read's
+// answer.
 struct Piece {
+    from: i32,
     to: usize,
     got: isize,
+}
+
+// Did a read fail that answered so?
+fn failed(got: isize) -> bool
+    ensures { λ r. ⌜ r ≡ not (nonNeg got) ⌝ }
+{
+    got < 0
 }
 
 // Reads a piece behind the bytes that are left. There is room for one, so that no byte read means the end of the input.
 fn fill(from: i32, input: &mut [u8], left: usize) -> Piece
     requires { ⌜ left < length (now input) ⌝ }
-    ensures { λ r. ⌜ (left ≤ r .to) × (r .to ≤ length (now (input .exit))) × (take left (now (input .exit)) ≡ take left (now (input .entry))) ⌝ }
+    ensures { λ r. ⌜ Filled from left (now (input .entry)) (now (input .exit)) r ⌝ }
 {
     let got = libc::read(from, &mut input[left..]);
-    if got < 0 {
+    if failed(got) {
         io::write_all(STDERR_FILENO, b"events: cannot read\n");
     }
     let n = io::count(got, &input[left..]);
-    Piece { to: left + n, got }
+    Piece {
+        from,
+        to: left + n,
+        got,
+    }
 }
 
 // Where a run is between two turns: the table, the next record's number, and the part of the input buffer, from a place up
@@ -91,14 +106,23 @@ struct Held {
     to: usize,
 }
 
-// What a turn came to: where the run is then, how many of the first bytes of the lines were handed over to be written, how
-// many bytes were read, whether the run goes on, and whether the input has ended.
+// How a run stands after a turn: it goes on, its input has ended, a read or a write has failed, or the numbers for records
+// are used up.
+enum Stand {
+    Going,
+    Ended,
+    Failed,
+    Used,
+}
+
+// What a turn came to: where the run is then, what of the first bytes of the lines was handed over to be written, the
+// descriptor that it reads from and what the read answered (0 where it did not read), and how the run stands.
 struct Turn {
     held: Held,
-    wrote: usize,
-    read: usize,
-    going: bool,
-    ended: bool,
+    sent: Sent,
+    from: i32,
+    got: isize,
+    stand: Stand,
 }
 
 // The records that can be answered, of the part of the input buffer that is held.
@@ -120,7 +144,7 @@ fn drain_to(h: Held, input: &[u8], lines: &mut [u8], out: &mut [u8]) -> Round
 // Is a whole record left?
 fn whole(input: &[u8], at: usize, to: usize) -> bool
     requires { ⌜ to ≤ length (now input) ⌝ }
-    ensures { λ r. ⌜ (r ≡ false → (Read.More ≡ readAt (take to (now (input .entry))) at) × (to < at + 65537)) ⌝ }
+    ensures { λ r. ⌜ (r ≡ isWhole (readAt (take to (now (input .entry))) at)) × (r ≡ false → to < at + 65537) ⌝ }
 {
     let next = event_file::reader::next(&input[..to], at);
     let Read::Body(_, _) = next else {
@@ -129,12 +153,35 @@ fn whole(input: &[u8], at: usize, to: usize) -> bool
     true
 }
 
-// One turn: answers what can be answered and writes the lines; then, if no whole record is left, reads a piece more. One
-// that is left had no room for its line, which is there now, or it is the last that has a number.
+// How a run stands after a turn that left a whole record, with this number: it had no room for its line, which is there
+// now, or it is the last that has a number.
+fn after_whole(number: u64) -> Stand
+    ensures { λ r. ⌜ r ≡ afterWhole number ⌝ }
+{
+    if number < u64::MAX {
+        return Stand::Going;
+    }
+    Stand::Used
+}
+
+// How a run stands after a read that answered so.
+fn after_read(got: isize) -> Stand
+    ensures { λ r. ⌜ r ≡ afterRead got ⌝ }
+{
+    if failed(got) {
+        return Stand::Failed;
+    }
+    if got == 0 {
+        return Stand::Ended;
+    }
+    Stand::Going
+}
+
+// One turn: answers what can be answered and writes the lines; then, if no whole record is left, reads a piece more.
 fn go_on(from: i32, onto: i32, h: Held, input: &mut [u8], lines: &mut [u8], out: &mut [u8]) -> Turn
     requires { ⌜ (65537 ≤ length (now input)) × (length (now out) ≡ frameMost) ⌝ }
     requires { ⌜ (h .at ≤ h .to) × (h .to ≤ length (now input)) ⌝ }
-    ensures { λ r. ⌜ Turned h (now (input .entry)) (now (input .exit)) (now (lines .exit)) r ⌝ }
+    ensures { λ r. ⌜ Turned from onto h (now (input .entry)) (now (input .exit)) (now (lines .exit)) r ⌝ }
     ensures { λ r. ⌜ (r .held .at ≤ r .held .to) × (r .held .to ≤ length (now (input .exit))) ⌝ }
 {
     let d = drain_to(h, input, lines, out);
@@ -143,30 +190,21 @@ fn go_on(from: i32, onto: i32, h: Held, input: &mut [u8], lines: &mut [u8], out:
     let at = d.place.at;
     let used = d.place.used;
     let to = h.to;
+    let held = Held {
+        table,
+        number,
+        at,
+        to,
+    };
     let sent = flush(onto, lines, used);
-    let wrote = sent.wrote;
     if !sent.out {
-        return stay(table, number, at, to, wrote, false);
+        return stay(held, sent, from, Stand::Failed);
     }
     if whole(input, at, to) {
-        return stay(table, number, at, to, wrote, number < u64::MAX);
+        return stay(held, sent, from, after_whole(number));
     }
     let left = shift(input, at, to);
     let p = fill(from, input, left);
-    if p.to == left {
-        return Turn {
-            held: Held {
-                table,
-                number,
-                at: 0,
-                to: left,
-            },
-            wrote,
-            read: 0,
-            going: false,
-            ended: p.got == 0,
-        };
-    }
     Turn {
         held: Held {
             table,
@@ -174,40 +212,57 @@ fn go_on(from: i32, onto: i32, h: Held, input: &mut [u8], lines: &mut [u8], out:
             at: 0,
             to: p.to,
         },
-        wrote,
-        read: p.to - left,
-        going: true,
-        ended: false,
+        sent,
+        from: p.from,
+        got: p.got,
+        stand: after_read(p.got),
     }
 }
 
 // A turn that reads nothing.
-fn stay(table: [Stream; 8], number: u64, at: usize, to: usize, wrote: usize, going: bool) -> Turn
-    ensures { λ r. ⌜ r ≡ stays table number at to wrote going ⌝ }
+fn stay(held: Held, sent: Sent, from: i32, stand: Stand) -> Turn
+    ensures { λ r. ⌜ r ≡ stays held sent from stand ⌝ }
 {
     Turn {
-        held: Held {
-            table,
-            number,
-            at,
-            to,
-        },
-        wrote,
-        read: 0,
-        going,
-        ended: false,
+        held,
+        sent,
+        from,
+        got: 0,
+        stand,
     }
 }
 
-// Writes the last line: the input has ended, and no whole record is left. Answers how many of the first bytes of the lines
-// were handed over to be written.
-fn finish(onto: i32, h: Held, lines: &mut [u8]) -> usize
+// What a run came to: the input has ended and the last line was handed over; the version byte is absent or different, and
+// `version` was; a read or a write before these has failed; or the numbers for records, or the turns, are used up.
+pub enum Over {
+    Printed(Sent),
+    Version(Sent),
+    Broken,
+    LastNumber,
+    LastTurn,
+}
+
+// Stops a run as it stands. At the end of the input, where no whole record is left, it writes the last line.
+fn finish(onto: i32, h: Held, stand: Stand, lines: &mut [u8]) -> Over
     requires { ⌜ (h .at ≤ h .to) × (lastMost ≤ length (now lines)) ⌝ }
-    ensures { λ r. ⌜ take r (now (lines .exit)) ≡ lastLine (leftOf h) ⌝ }
+    ensures { λ r. ⌜ Stops onto (leftOf h) (now (lines .exit)) stand r ⌝ }
 {
-    let used = event_file::line::say_last(h.to - h.at, lines, 0);
-    let last = flush(onto, lines, used);
-    last.wrote
+    match stand {
+        Stand::Ended => {
+            let used = event_file::line::say_last(h.to - h.at, lines, 0);
+            let last = flush(onto, lines, used);
+            return Over::Printed(last);
+        }
+        Stand::Failed => {
+            return Over::Broken;
+        }
+        Stand::Used => {
+            return Over::LastNumber;
+        }
+        Stand::Going => {
+            return Over::LastTurn;
+        }
+    }
 }
 
 // The table has 8 slots, free at first; records are numbered from 1; the first stands behind the version byte.
@@ -232,50 +287,71 @@ fn versioned(input: &[u8]) -> bool
     input[0] == 1
 }
 
-// All that is printed of an absent or different version byte.
-fn version_line() -> [u8; 8]
-    ensures { λ r. ⌜ r ≡ text "version\n" ⌝ }
+// All that is printed of an absent or different version byte, at the front of the lines; and how many bytes.
+fn say_version(lines: &mut [u8]) -> usize
+    requires { ⌜ 8 ≤ length (now lines) ⌝ }
+    ensures { λ r. ⌜ (r ≡ 8) × (take 8 (now (lines .exit)) ≡ versionLine) ⌝ }
 {
-    [b'v', b'e', b'r', b's', b'i', b'o', b'n', b'\n']
+    lines[0] = b'v';
+    lines[1] = b'e';
+    lines[2] = b'r';
+    lines[3] = b's';
+    lines[4] = b'i';
+    lines[5] = b'o';
+    lines[6] = b'n';
+    lines[7] = b'\n';
+    8
+}
+
+// Does a run go on that stands so?
+fn going(stand: Stand) -> bool
+    ensures { λ r. ⌜ (r ≡ true → stand ≡ Stand.Going) × (r ≡ false → stand ≡ Stand.Going → ⊥) ⌝ }
+{
+    match stand {
+        Stand::Going => true,
+        Stand::Ended => false,
+        Stand::Failed => false,
+        Stand::Used => false,
+    }
 }
 
 // A proved loop has to end, and nothing says that an input does: turns are counted down from a number that no run uses up.
-fn turns(from: i32, onto: i32, h: Held, input: &mut [u8], lines: &mut [u8], out: &mut [u8])
+fn turns(from: i32, onto: i32, h: Held, input: &mut [u8], lines: &mut [u8], out: &mut [u8]) -> Over
     requires { ⌜ (65537 ≤ length (now input)) × (length (now out) ≡ frameMost) × (lastMost ≤ length (now lines)) ⌝ }
     requires { ⌜ (h .at ≤ h .to) × (h .to ≤ length (now input)) ⌝ }
+    ensures { λ r. ⌜ Ran from onto h (now (input .entry)) (now (input .exit)) (now (lines .exit)) r ⌝ }
 {
     let mut held = h;
     let mut left = u64::MAX;
     while left > 0 {
         let t = go_on(from, onto, held, input, lines, out);
         let h = t.held;
-        if t.ended {
-            finish(onto, h, lines);
-            return;
-        }
-        if !t.going {
-            return;
+        let stand = t.stand;
+        if !going(stand) {
+            return finish(onto, h, stand, lines);
         }
         held = h;
         left -= 1;
     }
+    finish(onto, held, Stand::Going, lines)
 }
 
 // Reads a first piece, and goes on where it starts with the version byte.
-fn serve(from: i32, onto: i32, input: &mut [u8], lines: &mut [u8], out: &mut [u8])
-    requires { ⌜ (65537 ≤ length (now input)) × (length (now out) ≡ frameMost) × (lastMost ≤ length (now lines)) ⌝ }
+fn serve(from: i32, onto: i32, input: &mut [u8], lines: &mut [u8], out: &mut [u8]) -> Over
+    requires { ⌜ (65537 ≤ length (now input)) × (length (now out) ≡ frameMost) × (8 ≤ length (now lines)) ⌝ }
+    ensures { λ r. ⌜ Served from onto (now (input .exit)) (now (lines .exit)) r ⌝ }
 {
     let p = fill(from, input, 0);
-    if p.got < 0 {
-        return;
+    if failed(p.got) {
+        return Over::Broken;
     }
     let to = p.to;
     if !versioned(&input[..to]) {
-        let line = version_line();
-        hand_over(onto, &line);
-        return;
+        let used = say_version(lines);
+        let said = flush(onto, lines, used);
+        return Over::Version(said);
     }
-    turns(from, onto, start(to), input, lines, out);
+    turns(from, onto, start(to), input, lines, out)
 }
 
 // Bytes of the input buffer (a record and its length bytes fit, 65537, and a read brings a large piece), and of the lines.
@@ -283,11 +359,13 @@ const INPUT: usize = 262144;
 
 const LINES: usize = 65536;
 
-// Runs the event file that a descriptor gives, and writes the lines onto another. No contract can speak of the bytes that
-// go through a descriptor: specs/Turns.antt says what is shown of the turns.
-pub fn run(from: i32, onto: i32) {
+// Runs the event file that a descriptor gives, and writes the lines onto another. No contract can say that the bytes go
+// through the descriptors: specs/Turns.antt says what is shown of the turns.
+pub fn run(from: i32, onto: i32) -> Over
+    ensures { λ r. ⌜ Runs from onto r ⌝ }
+{
     let mut input = [0u8; INPUT];
     let mut lines = [0u8; LINES];
     let mut out = [0u8; Stream::FRAME_MOST];
-    serve(from, onto, &mut input, &mut lines, &mut out);
+    serve(from, onto, &mut input, &mut lines, &mut out)
 }

@@ -1,8 +1,13 @@
 -- `event_turns::fill` meets its contract: what is left keeps its place. Assumes nothing.
-use Prim.Native.Nat.{_-_}
+use mathlib.Core.Path.{_≡_, ap, _∙_}
+use Prim.Native.Nat.{ℕ, _+_, _-_}
+use mir.Syntax.{w64}
+use mir.Val.{toZ, ofZ}
+use mir.Facts.{toZ-ofZ}
+use Rattle.event_turns.proofs.Answers.{clamp-bytes}
 use native.Mathlib.Omega.{arith}
 use lib.ListN.{length}
-use borrow.Rule.Slice.PartMut.{take-put}
+use borrow.Rule.Slice.PartMut.{midOf, putMid, same-len-mid, mid-len, take-put}
 use borrow.Author.Needs.{needs}
 use Rattle.event_turns.proofs.fill.Statement.{statement}
 use Rattle.event_turns.proofs.fill.Tie as tie
@@ -18,6 +23,9 @@ part-read-end c = search needs
 
 read-requires : tie.Need-read-requires
 read-requires c κs = search needs
+
+failed-requires : tie.Need-failed-requires
+failed-requires c κs = search needs
 
 slice-aggregate-write-all : tie.Need-slice-aggregate-write-all
 slice-aggregate-write-all c = search needs
@@ -45,8 +53,20 @@ same-length c = search needs
 
 returns : tie.Need-returns
 returns c =
-    let a = c .before .before .before .before .before .before .before .before .before .args in
-    (search needs, search needs, take-put (a .left) (length (a .input .now) - a .left) (a .input .now) (c .before .before .before .before .before .before .read .last .1 .0) (omega arith))
+    let r = c .before .before .before .before .before .before .before .read in
+    let a = c .before .before .before .before .before .before .before .before .before .before in
+    let at = a .args .left in
+    let old = a .args .input .now in
+    let now = putMid at (length old - at) old (r .last .1 .0) in
+    let l : length now ≡ length old = same-len-mid at (length old - at) old (r .last .1 .0) (r .kept .1 .0) in
+    let m : length (midOf at (length old - at) old) ≡ length old - at = mid-len at (length old) old (omega arith) in
+    let n : length (midOf at (length now - at) now) ≡ length now - at = mid-len at (length now) now (omega arith) in
+    record {
+      whence = toZ-ofZ (a .fits .from);
+      to = ap (λ (n : ℕ). at + n) (c .count .ensures .1 ∙ clamp-bytes (toZ w64 (ofZ w64 (r .result))) (length (midOf at (length old - at) old)) _ (rw (toZ-ofZ {w = w64} {z = r .result} (record { sfits = r .ok })) (r .ensures)) (omega arith));
+      room = search needs;
+      kept = take-put at (length old - at) old (r .last .1 .0) (omega arith);
+    }
 
 pub fill-spec : {M : Type 1} → statement M
 fill-spec =
@@ -56,6 +76,7 @@ fill-spec =
     part-read-start
     part-read-end
     read-requires
+    failed-requires
     slice-aggregate-write-all
     write-all-requires
     sub-count

@@ -1,5 +1,7 @@
--- `event_turns::run` is safe: the buffers are long enough. Assumes nothing.
+-- `event_turns::run` meets its contract: the buffers are long enough. Assumes nothing.
+use mir.Facts.{toZ-ofZ}
 use borrow.Author.Needs.{needs}
+use Rattle.event_turns.proofs.Running.{served-as}
 use Rattle.event_turns.proofs.run.Statement.{statement}
 use Rattle.event_turns.proofs.run.Tie as tie
 
@@ -16,7 +18,10 @@ serve-requires : tie.Need-serve-requires
 serve-requires c κs = (search needs, search needs, search needs)
 
 returns : tie.Need-returns
-returns c = search needs
+returns c =
+    let s = c .before .before .before .serve in
+    let a = c .before .before .before .before .before .before .before in
+    record { now = s .last .1 .1 .0; lines = s .last .1 .1 .1 .0; served = served-as (toZ-ofZ (a .fits .from)) (toZ-ofZ (a .fits .onto)) (s .ensures) }
 
 pub run-spec : {M : Type 1} → statement M
 run-spec =

@@ -1,5 +1,5 @@
 -- `event_turns::versioned` meets its contract: it looks at the first byte. Assumes nothing.
-use Rattle.event_turns.proofs.Turning.{no-byte, first-byte}
+use Rattle.event_turns.proofs.Running.{no-byte, first-byte}
 use borrow.Author.Needs.{needs}
 use Rattle.event_turns.proofs.versioned.Statement.{statement}
 use Rattle.event_turns.proofs.versioned.Tie as tie

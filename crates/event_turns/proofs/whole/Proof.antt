@@ -1,10 +1,11 @@
 -- `event_turns::whole` meets its contract: the reader says so. Assumes nothing.
-use mathlib.Core.Path.{_≡_, sym, _∙_}
+use mathlib.Core.Path.{_≡_, sym, ap, _∙_}
 use Prim.Native.Nat.{ℕ}
 use native.Mathlib.Omega.{arith}
 use lib.ListN.{length-take}
 use lib.Seq.{length-take-le}
 use borrow.Author.Needs.{needs}
+use Rattle.event_turns.specs.Turns.{isWhole}
 use Rattle.event_turns.proofs.whole.Statement.{statement}
 use Rattle.event_turns.proofs.whole.Tie as tie
 
@@ -21,10 +22,15 @@ enum-told-2 : tie.Need-enum-told-2
 enum-told-2 c = search needs
 
 returns : tie.Need-returns
-returns c = λ _. let n = c .before .before in let e = n .next .ensures in let m = c .enum-told2 .given .1 in let a = n .before .before .before in (sym m ∙ e .0, omega (arith, e .1 m, length-take-le (a .args .to) (a .args .input .now) (a .pre)))
+returns c =
+    let n = c .before .before in
+    let e = n .next .ensures in
+    let m = c .enum-told2 .given .1 in
+    let a = n .before .before .before in
+    (ap isWhole (sym m ∙ e .0), λ _. omega (arith, e .1 m, length-take-le (a .args .to) (a .args .input .now) (a .pre)))
 
 returns-2 : tie.Need-returns-2
-returns-2 c = λ e. absurd (let z : _≡_ {A = ℕ} 0 1 = cc in omega arith)
+returns-2 c = (ap isWhole (sym (c .enum-told .given .1) ∙ c .before .before .next .ensures .0), λ e. absurd (let z : _≡_ {A = ℕ} 0 1 = cc in omega arith))
 
 pub whole-spec : {M : Type 1} → statement M
 whole-spec =
