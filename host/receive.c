@@ -190,7 +190,7 @@ int main(int count, char **words)
     struct sigaction action = {.sa_handler = on_signal};
     sigset_t held, outside;
     sigemptyset(&held);
-    // The signals come in during ppoll alone, so none is missed between the test of the flag and the wait.
+    // The signals come in at ppoll alone, so none is missed between the test of the flag and the wait.
     for (size_t i = 0; i < 3; i++) {
         int signal = (int[]){SIGINT, SIGTERM, SIGUSR1}[i];
         sigaddset(&held, signal);
@@ -216,12 +216,18 @@ int main(int count, char **words)
         struct timespec limit = {pause / SECOND, pause % SECOND};
         struct pollfd wait[NETWORKS];
         for (int i = 0; i < NETWORKS; i++) wait[i] = (struct pollfd){.fd = ports[i].socket, .events = POLLIN};
-        if (ppoll(wait, NETWORKS, &limit, &outside) < 0 && errno != EINTR) fail("ppoll");
+        int ready = ppoll(wait, NETWORKS, &limit, &outside);
+        if (ready < 0 && errno != EINTR) fail("ppoll");
+        // Where a frame waits already ppoll lets no signal in, and in a flood one always does.
+        if (ready > 0) {
+            sigprocmask(SIG_SETMASK, &outside, NULL);
+            sigprocmask(SIG_BLOCK, &held, NULL);
+        }
 
         unsigned frames = turn();
         report_silence(&report, order.time);
         // Whoever reads standard output has each frame before the next wait.
-        if (fflush(stdout) != 0) fail("standard output");
+        if (fflush(stdout) != 0 || ferror(stdout)) fail("standard output");
 
         now = clock_now();
         if (frames != 0) last = now;
