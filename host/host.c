@@ -63,17 +63,24 @@ void read_address(const char *text, uint8_t dest[ADDRESS])
 
 struct settings read_settings(const char *text)
 {
+    enum { DEST, VLAN, RULE, WINDOW, TIME, PARTS };
     struct settings s;
-    char dest[32], vlan[16], rule[16], window[16], time[16], behind;
-    if (sscanf(text, "%31[^,],%15[^,],%15[^,],%15[^,],%15[^,]%c", dest, vlan, rule, window, time, &behind) != 5)
-        refuse("'%s' is not DEST,VLAN,RULE,L,R", text);
-    read_address(dest, s.dest);
-    s.vlan = (uint16_t)read_number("VLAN id", vlan, 0, UINT16_MAX);
-    if (strcmp(rule, "vector") == 0) s.rule = NIPPITSUN_RULE_VECTOR;
-    else if (strcmp(rule, "match") == 0) s.rule = NIPPITSUN_RULE_MATCH;
-    else s.rule = (uint8_t)read_number("rule", rule, 0, UINT8_MAX);
-    s.window = (uint16_t)read_number("window L", window, 0, UINT16_MAX);
-    s.time = (uint16_t)read_number("reset time R", time, 0, UINT16_MAX);
+    char *parts[PARTS], *copy = strdup(text), *rest = copy;
+    if (copy == NULL) fail("memory");
+    size_t found = 0;
+    for (char *part; (part = strsep(&rest, ",")) != NULL; found++) {
+        if (*part == 0 || found == PARTS) refuse("'%s' is not DEST,VLAN,RULE,L,R", text);
+        parts[found] = part;
+    }
+    if (found != PARTS) refuse("'%s' is not DEST,VLAN,RULE,L,R", text);
+    read_address(parts[DEST], s.dest);
+    s.vlan = (uint16_t)read_number("VLAN id", parts[VLAN], 0, UINT16_MAX);
+    if (strcmp(parts[RULE], "vector") == 0) s.rule = NIPPITSUN_RULE_VECTOR;
+    else if (strcmp(parts[RULE], "match") == 0) s.rule = NIPPITSUN_RULE_MATCH;
+    else s.rule = (uint8_t)read_number("rule", parts[RULE], 0, UINT8_MAX);
+    s.window = (uint16_t)read_number("window L", parts[WINDOW], 0, UINT16_MAX);
+    s.time = (uint16_t)read_number("reset time R", parts[TIME], 0, UINT16_MAX);
+    free(copy);
     return s;
 }
 
@@ -112,5 +119,6 @@ int open_sender(const char *interface)
 _Noreturn void say_usage(const char *usage, int asked)
 {
     fputs(usage, asked ? stdout : stderr);
+    if (fflush(stdout) != 0) fail("standard output");
     exit(asked ? 0 : 2);
 }

@@ -38,7 +38,7 @@ const char *refusal_words(unsigned number);
 // A packet socket that sends on one interface and is given no frame, or refuse. It needs the right CAP_NET_RAW.
 int open_sender(const char *interface);
 
-// Prints the usage and ends the program with status 0 if it was asked for (on standard output), 2 if not.
+// Prints the usage, or whatever else was asked for, and ends the program with status 0 if it was asked for (on standard output), 2 if not.
 _Noreturn void say_usage(const char *usage, int asked);
 
 #endif

@@ -41,11 +41,15 @@ static const char *set_up(struct port *p, int s, const struct port_settings *set
     if (setsockopt(s, SOL_PACKET, PACKET_AUXDATA, &on, sizeof on) != 0) return "PACKET_AUXDATA";
     if (ask_for_stamps(s) != 0) return "SO_TIMESTAMPING";
     // The kernel doubles this, for its own records of a frame. Without the right to pass the machine's limit
-    // (CAP_NET_ADMIN) the limit itself is taken.
+    // (CAP_NET_ADMIN) the limit itself is taken, which may be enough.
     if (setsockopt(s, SOL_SOCKET, SO_RCVBUFFORCE, &settings->room, sizeof settings->room) != 0) {
+        int given = 0;
+        socklen_t size = sizeof given;
         setsockopt(s, SOL_SOCKET, SO_RCVBUF, &settings->room, sizeof settings->room);
-        if (!p->poor) fprintf(stderr, "warning: %s has no more room for waiting frames than net.core.rmem_max allows\n", p->interface);
-        p->poor = 1;
+        getsockopt(s, SOL_SOCKET, SO_RCVBUF, &given, &size);
+        int poor = given / 2 < settings->room;
+        if (poor && !p->poor) fprintf(stderr, "warning: %s has no more room for waiting frames than net.core.rmem_max allows\n", p->interface);
+        p->poor |= poor;
     }
     struct sockaddr_ll where = {.sll_family = AF_PACKET, .sll_protocol = htons(ETH_P_ALL)};
     where.sll_ifindex = (int)if_nametoindex(p->interface);
@@ -149,13 +153,25 @@ void port_count_drops(struct port *p)
     if (p->socket >= 0 && getsockopt(p->socket, SOL_PACKET, PACKET_STATISTICS, &kernel, &size) == 0) p->dropped += kernel.tp_drops;
 }
 
-int port_close_dead(struct port *p)
+// The number of the interface that the port is bound to, below 0 if it was removed; 0 if there is no socket.
+static int bound_to(const struct port *p)
 {
     struct sockaddr_ll bound;
     socklen_t size = sizeof bound;
+    return p->socket < 0 || getsockname(p->socket, (struct sockaddr *)&bound, &size) != 0 ? 0 : bound.sll_ifindex;
+}
+
+int port_has(const struct port *p, const char *interface)
+{
+    int number = bound_to(p);
+    return number > 0 && (unsigned)number == if_nametoindex(interface);
+}
+
+int port_close_dead(struct port *p)
+{
     p->down = 0;
     // A socket whose interface went down only is still bound, and goes on when that comes up.
-    if (p->socket < 0 || getsockname(p->socket, (struct sockaddr *)&bound, &size) != 0 || bound.sll_ifindex >= 0) return 0;
+    if (bound_to(p) >= 0) return 0;
     port_count_drops(p);
     close(p->socket);
     p->socket = -1;

@@ -53,6 +53,9 @@ int port_read(struct port *p);
 // Adds up what the kernel dropped since this was asked for last: asking clears its own count.
 void port_count_drops(struct port *p);
 
+// Is the port open on the interface that has this name now?
+int port_has(const struct port *p, const char *interface);
+
 // Closes a port whose interface was removed: its socket is bound to nothing, and stays so when there is such an interface
 // again. Answers 1 if it was so.
 int port_close_dead(struct port *p);

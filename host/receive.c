@@ -9,10 +9,10 @@
 #include "report.h"
 
 #include <errno.h>
-#include <getopt.h>
 #include <net/if.h>
 #include <poll.h>
 #include <signal.h>
+#include <stdarg.h>
 #include <stdio.h>
 #include <string.h>
 #include <sys/mman.h>
@@ -125,7 +125,8 @@ static void look_after(int network, const struct port_settings *settings, int ea
     int look = (p->down || each_second) && order.line[network].empty && !waits(p);
     int gone = look && port_close_dead(p);
     if (gone) fprintf(stderr, "gone: network %d, %s: the interface is not there; trying each second\n", network, p->interface);
-    if ((gone || each_second) && p->socket < 0 && port_open(p, settings) == NULL) {
+    // The other network's interface may have this name by now.
+    if ((gone || each_second) && p->socket < 0 && !port_has(&ports[1 - network], p->interface) && port_open(p, settings) == NULL) {
         p->reopened++;
         fprintf(stderr, "again: network %d, %s: the interface is there and open\n", network, p->interface);
     }
@@ -139,58 +140,111 @@ static void open_stream(const char *text)
     if (s.time == 1) fprintf(stderr, "warning: open %s: R = 1 is never safe: a tick may fall between two copies\n", text);
 }
 
-int main(int count, char **words)
+// An option: its letter in the switch, and whether a value goes with it.
+struct option {
+    const char *name;
+    char letter;
+    int has_value;
+};
+
+// Whole names alone: getopt_long would take the beginning of one too, and receive-rust does not.
+static const struct option *find_option(const char *word, size_t length)
 {
     static const struct option options[] = {
-        {"open", required_argument, NULL, 'o'},  {"tick", required_argument, NULL, 't'},  {"room", required_argument, NULL, 'r'},
-        {"all", no_argument, NULL, 'a'},         {"alarm", required_argument, NULL, 'm'}, {"stats", required_argument, NULL, 's'},
-        {"quiet", required_argument, NULL, 'q'}, {"give", required_argument, NULL, 'g'},  {"version", no_argument, NULL, 'v'},
-        {"help", no_argument, NULL, 'h'},        {NULL, 0, NULL, 0},
+        {"--open", 'o', 1},  {"--tick", 't', 1},  {"--room", 'r', 1}, {"--all", 'a', 0},     {"--alarm", 'm', 1},
+        {"--stats", 's', 1}, {"--quiet", 'q', 1}, {"--give", 'g', 1}, {"--version", 'v', 0}, {"--help", 'h', 0},
     };
+    for (size_t i = 0; i < sizeof options / sizeof options[0]; i++)
+        if (strlen(options[i].name) == length && strncmp(options[i].name, word, length) == 0) return &options[i];
+    return NULL;
+}
+
+static _Noreturn void misused(const char *format, ...)
+{
+    va_list more;
+    va_start(more, format);
+    fprintf(stderr, "receive: ");
+    vfprintf(stderr, format, more);
+    fprintf(stderr, "\n");
+    va_end(more);
+    say_usage(usage, 0);
+}
+
+// A page that has to be fetched back from the disk is a stall. Without the right to lock so much the program goes on. Only what
+// is there now is locked, which is all that the turns use: a limit that is just enough for it must not make later requests
+// fail.
+static void lock_memory(void)
+{
+    static char up[1 << 16];
+    setvbuf(stdout, up, _IOFBF, sizeof up);
+    // A locked stack that grows counts against the limit too, so it has grown before.
+    volatile char stack[1 << 16];
+    for (size_t i = 0; i < sizeof stack; i += 1024) stack[i] = 0;
+    if (mlockall(MCL_CURRENT) != 0) fprintf(stderr, "warning: memory is not locked: %s\n", strerror(errno));
+}
+
+int main(int count, char **words)
+{
+    // A reader of standard output that has gone is a failed write, which is said.
+    signal(SIGPIPE, SIG_IGN);
     static struct sock_filter program[FILTER_MOST];
     struct port_settings settings = {.filter = {.filter = program}, .room = 1024 << 10};
     int64_t period = 100 * MILLISECOND, quiet = 0;
-    int streams = 0, all = 0;
-    for (int o; (o = getopt_long(count, words, "", options, NULL)) != -1;) {
-        switch (o) {
+    int streams = 0, all = 0, interfaces = 0, only_interfaces = 0;
+    for (int i = 1; i < count; i++) {
+        const char *word = words[i];
+        if (only_interfaces || word[0] != '-' || word[1] == 0) {
+            if (interfaces < NETWORKS) ports[interfaces].interface = word;
+            interfaces++;
+            continue;
+        }
+        // The value stands behind '=', or is the next word.
+        size_t length = strcspn(word, "=");
+        const char *value = word[length] == '=' ? word + length + 1 : NULL;
+        if (length == 2 && word[1] == '-') {
+            only_interfaces = 1;
+            continue;
+        }
+        const struct option *option = find_option(word, length);
+        if (option == NULL) misused("unrecognized option '%.*s'", (int)length, word);
+        if (value != NULL && !option->has_value) misused("option '%s' doesn't allow an argument", option->name);
+        if (value == NULL && option->has_value) {
+            if (++i == count) misused("option '%s' requires an argument", option->name);
+            value = words[i];
+        }
+        switch (option->letter) {
         case 'o':
-            open_stream(optarg);
+            open_stream(value);
             streams++;
             break;
-        case 't': period = (int64_t)read_number("tick", optarg, 1, 3600000) * MILLISECOND; break;
-        case 'r': settings.room = (int)read_number("room", optarg, 1, 1 << 20) << 10; break;
+        case 't': period = (int64_t)read_number("tick", value, 1, 3600000) * MILLISECOND; break;
+        case 'r': settings.room = (int)read_number("room", value, 1, 1 << 20) << 10; break;
         case 'a': all = 1; break;
-        case 'm': report.alarm = (int64_t)read_number("alarm", optarg, 0, 3600000) * MILLISECOND; break;
-        case 's': report.file = optarg; break;
-        case 'q': quiet = (int64_t)read_number("quiet", optarg, 1, 3600000) * MILLISECOND; break;
+        case 'm': report.alarm = (int64_t)read_number("alarm", value, 0, 3600000) * MILLISECOND; break;
+        case 's': report.file = value; break;
+        case 'q': quiet = (int64_t)read_number("quiet", value, 1, 3600000) * MILLISECOND; break;
         case 'g':
-            if (strcmp(optarg, "lines") == 0) give = LINES;
-            else if (strcmp(optarg, "raw") == 0) give = RAW;
-            else if (strcmp(optarg, "nothing") == 0) give = NOT_AT_ALL;
+            if (strcmp(value, "lines") == 0) give = LINES;
+            else if (strcmp(value, "raw") == 0) give = RAW;
+            else if (strcmp(value, "nothing") == 0) give = NOT_AT_ALL;
             else refuse("--give is lines, raw or nothing");
             break;
-        case 'v': puts("nippitsun " NIPPITSUN_VERSION); return 0;
-        default: say_usage(usage, o == 'h');
+        case 'v': say_usage("nippitsun " NIPPITSUN_VERSION "\n", 1);
+        case 'h': say_usage(usage, 1);
         }
     }
-    if (count - optind != NETWORKS) say_usage(usage, 0);
+    if (interfaces != NETWORKS) say_usage(usage, 0);
     if (streams == 0) refuse("no stream: --open names one");
     if (!all) settings.filter.len = filter_write(program, table);
-    for (int i = 0; i < NETWORKS; i++) {
-        ports[i].interface = words[optind + i];
+    for (int i = 0; i < NETWORKS; i++)
         if (if_nametoindex(ports[i].interface) == 0) refuse("there is no interface '%s'", ports[i].interface);
-    }
     // One wire for both would make each frame its own twin. By number: an interface may have two names.
     if (if_nametoindex(ports[0].interface) == if_nametoindex(ports[1].interface)) refuse("both networks are on interface '%s'", ports[0].interface);
 
-    // A page that has to be fetched back from the disk is a stall. Without the right to lock so much the program goes on.
-    if (mlockall(MCL_CURRENT | MCL_FUTURE) != 0) fprintf(stderr, "warning: memory is not locked: %s\n", strerror(errno));
-    // A reader of standard output that has gone is a failed write, which is said.
-    signal(SIGPIPE, SIG_IGN);
     struct sigaction action = {.sa_handler = on_signal};
     sigset_t held, outside;
     sigemptyset(&held);
-    // The signals come in during ppoll alone, so none is missed between the test of the flag and the wait.
+    // The signals come in at ppoll alone, so none is missed between the test of the flag and the wait.
     for (size_t i = 0; i < 3; i++) {
         int signal = (int[]){SIGINT, SIGTERM, SIGUSR1}[i];
         sigaddset(&held, signal);
@@ -203,6 +257,7 @@ int main(int count, char **words)
         const char *failed = port_open(&ports[i], &settings);
         if (failed != NULL) fail(failed);
     }
+    lock_memory();
     fprintf(stderr, "listening on %s and %s\n", ports[0].interface, ports[1].interface);
 
     int64_t last = clock_now(), second = last + SECOND, end = 0;
@@ -216,12 +271,18 @@ int main(int count, char **words)
         struct timespec limit = {pause / SECOND, pause % SECOND};
         struct pollfd wait[NETWORKS];
         for (int i = 0; i < NETWORKS; i++) wait[i] = (struct pollfd){.fd = ports[i].socket, .events = POLLIN};
-        if (ppoll(wait, NETWORKS, &limit, &outside) < 0 && errno != EINTR) fail("ppoll");
+        int ready = ppoll(wait, NETWORKS, &limit, &outside);
+        if (ready < 0 && errno != EINTR) fail("ppoll");
+        // Where a frame waits already ppoll lets no signal in, and in a flood one always does.
+        if (ready > 0) {
+            sigprocmask(SIG_SETMASK, &outside, NULL);
+            sigprocmask(SIG_BLOCK, &held, NULL);
+        }
 
         unsigned frames = turn();
         report_silence(&report, order.time);
         // Whoever reads standard output has each frame before the next wait.
-        if (fflush(stdout) != 0) fail("standard output");
+        if (fflush(stdout) != 0 || ferror(stdout)) fail("standard output");
 
         now = clock_now();
         if (frames != 0) last = now;
@@ -236,8 +297,9 @@ int main(int count, char **words)
             report_say(&report);
         }
         if (asked_to_end && end == 0) end = now + LAST_TURNS;
-        if (end != 0 && ((frames == 0 && !waits(&ports[0]) && !waits(&ports[1])) || now >= end)) break;
-        if (quiet != 0 && now - last >= quiet) break;
+        int waiting = waits(&ports[0]) || waits(&ports[1]);
+        if (end != 0 && ((frames == 0 && !waiting) || now >= end)) break;
+        if (quiet != 0 && now - last >= quiet && !waiting) break;
     }
     report_write(&report);
     report_say(&report);

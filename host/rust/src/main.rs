@@ -181,8 +181,9 @@ impl Host {
                 last = now;
             }
             let each_second = now >= second;
-            for port in &mut self.ports {
-                port.look(&self.setup, each_second)?;
+            if let [one, other] = &mut self.ports[..] {
+                one.look(other, &self.setup, each_second)?;
+                other.look(one, &self.setup, each_second)?;
             }
             if each_second {
                 second = now + SECOND;
@@ -194,8 +195,10 @@ impl Host {
                     Signal::End => end = end.or(Some(now + LAST_TURNS)),
                 }
             }
-            let all_taken = taken == 0 && !self.order.has_frames();
-            if end.map_or(false, |end| all_taken || now >= end) || now - last >= quiet {
+            let waiting = self.order.has_frames();
+            let all_taken = taken == 0 && !waiting;
+            let ended = end.map_or(false, |end| all_taken || now >= end);
+            if ended || (now - last >= quiet && !waiting) {
                 return Ok(());
             }
         }
@@ -237,14 +240,16 @@ fn receive(options: Options) -> Result<(), Trouble> {
         filter: (!options.all).then(|| filter::program(&keys(&options.receiver))),
         room: options.room_kb << 10,
     };
-    // A page that has to be fetched back from the disk is a stall. Without the right to lock so much the program goes on.
-    if let Err(e) = socket::lock_memory() {
-        say(&format!("warning: memory is not locked: {}", words(&e)));
-    }
     let mut signals = Signals::hold().map_err(failed("signals"))?;
     let clock = Clock::new();
     let opened = clock.now();
     let ports = port::open_all(&options.interfaces, &setup)?;
+    let out = Box::new([0; Stream::FRAME_MOST]);
+    let up = BufWriter::with_capacity(1 << 16, io::stdout());
+    // A page that has to be fetched back from the disk is a stall. Without the right to lock so much the program goes on.
+    if let Err(e) = socket::lock_memory() {
+        say(&format!("warning: memory is not locked: {}", words(&e)));
+    }
     let [first, second] = &options.interfaces;
     say(&format!("listening on {first} and {second}"));
     let alarm = (options.alarm_ms != 0).then(|| options.alarm_ms * 1_000_000);
@@ -258,8 +263,8 @@ fn receive(options: Options) -> Result<(), Trouble> {
         ports,
         refused: [0; Refusal::ALL.len() + 1],
         damaged: 0,
-        out: Box::new([0; Stream::FRAME_MOST]),
-        up: BufWriter::with_capacity(1 << 16, io::stdout()),
+        out,
+        up,
         stats_failed: false,
     };
     host.run(&mut signals)?;

@@ -24,7 +24,7 @@ impl Setup {
     /// A socket that is not bound yet, and whether it has all the room.
     fn socket(&self) -> Result<(Socket, bool), socket::Failure> {
         let socket = Socket::new(self.filter.as_deref())?;
-        let has_room = socket.make_room(self.room).is_ok();
+        let has_room = socket.make_room(self.room);
         Ok((socket, has_room))
     }
 }
@@ -148,8 +148,13 @@ impl Port {
         (!seen.outgoing).then(|| frame::put_back(room, seen.length, seen.vlan))
     }
 
+    /// The number of the interface that the socket is bound to.
+    fn bound_to(&self) -> Result<Option<i32>, Trouble> {
+        self.socket.interface().map_err(failed("getsockname"))
+    }
+
     fn look_if_gone(&mut self) -> Result<(), Trouble> {
-        if !self.gone && self.socket.is_dead().map_err(failed("getsockname"))? {
+        if !self.gone && self.bound_to()?.is_none() {
             self.gone = true;
             let (network, interface) = (self.network, &self.interface);
             say(&format!(
@@ -160,8 +165,8 @@ impl Port {
     }
 
     /// Behind each turn: an interface that is gone is looked for at once, and then each second. What its dead socket holds is
-    /// read first.
-    pub fn look(&mut self, setup: &Setup, each_second: bool) -> Result<(), Trouble> {
+    /// read first. It is not opened where the other network has it: that one's interface may have this name by now.
+    pub fn look(&mut self, other: &Port, setup: &Setup, each_second: bool) -> Result<(), Trouble> {
         if each_second {
             self.look_if_gone()?;
         }
@@ -170,7 +175,10 @@ impl Port {
             return Ok(());
         }
         // Whatever is missing now, it is tried again.
-        let opened = socket::interface_number(&self.interface).and_then(|number| {
+        let others = other.bound_to()?;
+        let number =
+            socket::interface_number(&self.interface).filter(|number| Some(*number) != others);
+        let opened = number.and_then(|number| {
             let (socket, _) = setup.socket().ok()?;
             socket.bind(number).ok().map(|()| socket)
         });

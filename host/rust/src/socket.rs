@@ -50,7 +50,6 @@ const SIGINT: u32 = 2;
 const SIGUSR1: u32 = 10;
 const SIGTERM: u32 = 15;
 const MCL_CURRENT: c_int = 1;
-const MCL_FUTURE: c_int = 2;
 const SFD_CLOEXEC: c_int = 0o2000000;
 
 /// `struct sockaddr_ll`: an interface, or where a frame came from.
@@ -139,7 +138,7 @@ struct Pause {
 
 /// `struct tpacket_stats`.
 #[repr(C)]
-#[derive(Default)]
+#[derive(Clone, Copy, Default)]
 struct Statistics {
     frames: c_uint,
     dropped: c_uint,
@@ -195,10 +194,17 @@ fn checked(answer: c_int) -> io::Result<c_int> {
     Ok(answer)
 }
 
-/// All memory of the program, what it has and what it will ask for, stays where it is.
+/// All memory that the program has now stays where it is. Not what it will ask for: a limit that is just enough for what it
+/// has must not make later requests fail.
 pub fn lock_memory() -> io::Result<()> {
+    // A locked stack that grows counts against the limit too, so it has grown before.
+    let mut stack = [0_u8; 1 << 16];
+    for part in stack.chunks_mut(1024) {
+        // SAFETY: a byte of the array.
+        unsafe { ptr::write_volatile(&mut part[0], 1) };
+    }
     // SAFETY: a number.
-    checked(unsafe { mlockall(MCL_CURRENT | MCL_FUTURE) })?;
+    checked(unsafe { mlockall(MCL_CURRENT) })?;
     Ok(())
 }
 
@@ -279,13 +285,25 @@ impl Socket {
         Ok(())
     }
 
-    /// Asks for room for frames that wait. Whoever has no right to pass the machine's limit (CAP_NET_ADMIN) has an error, and
-    /// the limit itself.
-    pub fn make_room(&self, bytes: i32) -> io::Result<()> {
-        self.set(SOL_SOCKET, SO_RCVBUFFORCE, &bytes).or_else(|e| {
+    fn get<T: Copy>(&self, level: c_int, name: c_int, mut value: T) -> io::Result<T> {
+        let mut length = size_of::<T>() as c_uint;
+        let at = ptr::addr_of_mut!(value).cast();
+        // SAFETY: the kernel writes at most so many bytes; they belong to this call until it ends. The values that are asked
+        // for hold integers only.
+        checked(unsafe { getsockopt(self.file.as_raw_fd(), level, name, at, &mut length) })?;
+        Ok(value)
+    }
+
+    /// Asks for room for frames that wait, and answers whether all of it was given. Whoever has no right to pass the machine's
+    /// limit (CAP_NET_ADMIN) has the limit itself, which may be enough.
+    pub fn make_room(&self, bytes: i32) -> bool {
+        let limited = || {
             self.set(SOL_SOCKET, SO_RCVBUF, &bytes)?;
-            Err(e)
-        })
+            // The kernel doubles the number, for its own records of a frame.
+            Ok(self.get(SOL_SOCKET, SO_RCVBUF, 0_i32)? / 2 >= bytes)
+        };
+        let forced = self.set(SOL_SOCKET, SO_RCVBUFFORCE, &bytes);
+        forced.is_ok() || limited().unwrap_or_else(|_: io::Error| false)
     }
 
     /// From here on the socket takes the frames of this interface.
@@ -308,13 +326,14 @@ impl Socket {
         self.set(SOL_PACKET, PACKET_ADD_MEMBERSHIP, &all)
     }
 
-    /// Was the socket's interface removed? Then it has no frame for it any more, even if one of this name is made again.
-    pub fn is_dead(&self) -> io::Result<bool> {
+    /// The number of the socket's interface. None: it was removed. Then the socket has no frame any more, even if one of this
+    /// name is made again.
+    pub fn interface(&self) -> io::Result<Option<i32>> {
         let mut address = Address::default();
         let mut length = size_of::<Address>() as c_uint;
         // SAFETY: the kernel writes at most so many bytes; they belong to this call until it ends, and hold integers only.
         checked(unsafe { getsockname(self.file.as_raw_fd(), &mut address, &mut length) })?;
-        Ok(address.interface <= 0)
+        Ok((address.interface > 0).then_some(address.interface))
     }
 
     /// Reads frames that wait, as many as there are rooms at most, and at most a batch. That there are fewer does not say
@@ -379,13 +398,8 @@ impl Socket {
 
     /// Frames that the kernel dropped for want of room since it was last asked.
     pub fn dropped(&self) -> io::Result<u32> {
-        let mut statistics = Statistics::default();
-        let mut length = size_of::<Statistics>() as c_uint;
-        let at = ptr::addr_of_mut!(statistics).cast();
-        let socket = self.file.as_raw_fd();
-        // SAFETY: the kernel writes at most so many bytes; they belong to this call until it ends, and hold integers only.
-        checked(unsafe { getsockopt(socket, SOL_PACKET, PACKET_STATISTICS, at, &mut length) })?;
-        Ok(statistics.dropped)
+        let none = Statistics::default();
+        Ok(self.get(SOL_PACKET, PACKET_STATISTICS, none)?.dropped)
     }
 }
 
