@@ -108,8 +108,9 @@ typedef struct nippitsun_counts {
     uint64_t discarded; /* duplicates */
     uint64_t rogue;     /* outside the window */
     uint64_t disorder;  /* handed up out of order */
-    uint64_t lost;      /* places that left the window empty: numbers that never came, and behind each start (an open or a
-                           reset) the L - 1 places before the first number; 0 with the match rule */
+    uint64_t lost;      /* places that left the window empty: numbers that had not come by then, and behind each start (an
+                           open or a reset) those of the L - 1 places before the first number that no late one filled;
+                           0 with the match rule */
     uint64_t resets;    /* times the stream became fresh, by ticks or by reset */
 } nippitsun_counts;
 

@@ -32,8 +32,8 @@ pub struct Counts {
     pub rogue: u64,
     /// Frames handed up out of order.
     pub disorder: u64,
-    /// Places that left the window empty: numbers that never came, and behind each start (an open or a reset) the L - 1 places
-    /// before the first number. 0 with the match rule.
+    /// Places that left the window empty: numbers that had not come by then, and behind each start (an open or a reset) those of
+    /// the L - 1 places before the first number that no late one filled. 0 with the match rule.
     pub lost: u64,
     /// How often the stream became fresh, by ticks or by a reset.
     pub resets: u64,

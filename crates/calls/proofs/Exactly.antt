@@ -15,7 +15,7 @@ use Rattle.refusal.proofs.Checks.{first-exactly}
 use Rattle.record.specs.declared.Stream.{Stream}
 use Rattle.record.specs.Sizes.{frameMost}
 use Rattle.record.specs.Words.{yes}
-use Rattle.frame.specs.Frame.{Tag, typeAt, isTagged, headShort, tagShort, headerOf, numberOf, destOf, vlanOf, untagged, readOf}
+use Rattle.frame.specs.Frame.{Tag, typeAt, isTagged, headShort, tagShort, headerOf, numberIn, destOf, vlanOf, untagged, readOf}
 use Rattle.frame.specs.Refusals.{tooLong, short, noTag}
 use Rattle.stream.specs.Record.{settled, damaged}
 use Rattle.stream.specs.Decisions.{verdict, expires}
@@ -58,7 +58,7 @@ not-and false b = refl
 
 pub read-first : (f : List ℕ)
     → readOf f
-    ≡ cond (tooLong frameMost f) (refused LONG) (cond (short f) (refused SHORT) (cond (noTag f) (refused UNTAGGED) (answers (record { header = headerOf f; number = numberOf f }))))
+    ≡ cond (tooLong frameMost f) (refused LONG) (cond (short f) (refused SHORT) (cond (noTag f) (refused UNTAGGED) (answers (record { header = headerOf f; number = numberIn f }))))
 unfolding readOf tagShort
 read-first f = ap (cond (ltb frameMost (length f)) (refused LONG)) (go (headShort f) (isTagged f) (ltb (length f) (typeAt f + 8)) _)
   where
@@ -90,7 +90,7 @@ slotFor t f = search (hasKey (destOf f) (vlanOf f)) t
 
 arrival-says : (t : Table) (network : ℕ) (f out : List ℕ)
     → answer t (act t (arriving network f out))
-    ≡ firstOf (checksOf t (arriving network f out)) (arrived (slotFor t f) (numberOf f) (verdictWith (length (untagged f)) (verdict (at t (slotFor t f)) (numberOf f))))
+    ≡ firstOf (checksOf t (arriving network f out)) (arrived (slotFor t f) (numberIn f) (verdictWith (length (untagged f)) (verdict (at t (slotFor t f)) (numberIn f))))
 unfolding act checked arrival arrivalAt answer checksOf firstOf headerOf
 arrival-says t network f out = simp (answer-cond, read-first, arrival-cond, no-network, no-stream)
 

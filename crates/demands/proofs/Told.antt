@@ -12,7 +12,7 @@ use Rattle.refusal.specs.Numbers.{TABLE, NETWORK, LONG, SHORT, UNTAGGED, UNKNOW
 use Rattle.refusal.proofs.Checks.{passed}
 use Rattle.record.specs.Words.{if_then_else_}
 use Rattle.record.specs.Sizes.{slotsMost, frameMost}
-use Rattle.frame.specs.Frame.{Tag, numberOf, headShort, isTagged, tagShort, headerOf, readOf}
+use Rattle.frame.specs.Frame.{Tag, numberIn, headShort, isTagged, tagShort, headerOf, readOf}
 use Rattle.stream.specs.Record.{lawful}
 use Rattle.stream.specs.Decisions.{verdict}
 use Rattle.calls.specs.Table.{Table, at, search, hasKey}
@@ -49,20 +49,20 @@ answered-arrival t (resets j) i n v e = absurd (let z : _≡_ {A = ℕ} 0 1 = cc
 answered-arrival t ticks i n v e = absurd (let z : _≡_ {A = ℕ} 0 1 = cc in omega arith)
 
 -- A frame that is read has its number in the tag.
-read-number : (f : List ℕ) (g : Tag) → answers g ≡ readOf f → g .number ≡ numberOf f
+read-number : (f : List ℕ) (g : Tag) → answers g ≡ readOf f → g .number ≡ numberIn f
 unfolding readOf
 read-number f g e =
     let a = passed (ltb frameMost (length f)) LONG e in
     let b = passed (headShort f) SHORT (a .1) in
     let c = passed (not (isTagged f)) UNTAGGED (b .1) in
     let d = passed (tagShort f) SHORT (c .1) in
-    let z : g ≡ record { header = headerOf f; number = numberOf f } = cc (d .1) in
+    let z : g ≡ record { header = headerOf f; number = numberIn f } = cc (d .1) in
     ap (λ (t : Tag). t .number) z
 
 -- An arrival that is not refused is of the number in the tag, on the network that it came by.
 abbrev Of : (network : ℕ) (f : List ℕ) → Act → Type 0
 Of network f (refuse n) = Unit {0}
-Of network f (arrive i n w bare) = (n ≡ numberOf f) × (w ≡ network)
+Of network f (arrive i n w bare) = (n ≡ numberIn f) × (w ≡ network)
 Of network f (opens i s) = Unit {0}
 Of network f (closes i) = Unit {0}
 Of network f (resets i) = Unit {0}
@@ -79,7 +79,7 @@ module _ (t : Table) (network : ℕ) (f out : List ℕ) where
   no : (n : ℕ) → Fits network f (refuse n)
   no n = record { fact = tt }
 
-  arrival-fits : (r : Said Tag) → ((g : Tag) → answers g ≡ r → g .number ≡ numberOf f) → Fits network f (arrival t network f out r)
+  arrival-fits : (r : Said Tag) → ((g : Tag) → answers g ≡ r → g .number ≡ numberIn f) → Fits network f (arrival t network f out r)
   unfolding arrival arrivalAt
   arrival-fits (refused n) h = no n
   arrival-fits (answers g) h =

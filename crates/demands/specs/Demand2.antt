@@ -6,7 +6,7 @@ use mathlib.Core.Path.{_≡_}
 use mathlib.Core.List.{List}
 use lib.ListN.{set}
 use Rattle.refusal.specs.Checks.Said.{answers}
-use Rattle.frame.specs.Frame.{numberOf}
+use Rattle.frame.specs.Frame.{numberIn}
 use Rattle.stream.specs.Decisions.{verdict, decided}
 use Rattle.calls.specs.Table.{Table, at}
 use Rattle.calls.specs.Calls.{arriving, Verdict, arrived}
@@ -24,7 +24,7 @@ Demand2Tags tagger = MeetsTags tagger
 -- What that says of an arrival that is not refused: the number is the one in the tag, the verdict is what the recovery
 -- gives on the stream's record, and so is the record with its counters; every other record stays.
 pub record Recovered (receive : Receiver) (t : Table) (network : ℕ) (frame out : List ℕ) (i n : ℕ) (v : Verdict) : Type 0 where
-  pub number : n ≡ numberOf frame
+  pub number : n ≡ numberIn frame
   pub verdict : told v ≡ verdict (at t i) n
   pub records : receive t (arriving network frame out) .table ≡ set t i (decided (at t i) n network)
 

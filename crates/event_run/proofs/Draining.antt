@@ -14,7 +14,7 @@ use Rattle.event_file.specs.declared.reader.Read.the-variants.{More, Body}
 use Rattle.event_file.specs.declared.line.Told.{Told}
 use Rattle.event_file.proofs.Writing.{writes-put}
 use Rattle.event_run.specs.declared.Place.{Place}
-use Rattle.event_run.specs.Run.{nextOf, Handled, Noted, Work, lineFor, answered, goesOn, drainedIn, drainedOf}
+use Rattle.event_run.specs.Run.{nextOf, Handled, Noted, Work, lineFor, workAfter, goesOn, drainedIn, drainedOf}
 use Rattle.event_run.specs.Laws.{EnoughRecords, DrainsCoincide}
 use Rattle.event_run.proofs.Nexts.{Found, found, none-behind}
 
@@ -25,10 +25,10 @@ module _ (input : List ℕ) where
   next w = nextOf (w .place) input (length (w .lines))
 
   abbrev pub one : Work → ℕ → ℕ → Work
-  one w i j = answered w (asked (w .out) (take (j - i) (drop i input))) j
+  one w i j = workAfter w (asked (w .out) (take (j - i) (drop i input))) j
 
   one-at : (w : Work) (i j : ℕ) → one w i j .place .at ≡ j
-  unfolding answered
+  unfolding workAfter
   one-at w i j = refl
 
   abbrev pub left : Work → ℕ
@@ -80,7 +80,7 @@ drains-coincide t p input old out u v r s new lines left output a b =
 pub one-more : (t u : Table) (p r : Place) (input old new out left : List ℕ) (i j : ℕ) (told : Told)
     → Found p input (length old) i j → Handled t (take (j - i) (drop i input)) out u told left → Noted p j told old new r
     → _≡_ {A = Work} (record { table = u; place = r; lines = new; out = left }) (one input (record { table = t; place = p; lines = old; out = out }) i j)
-unfolding answered
+unfolding workAfter
 one-more t u p r input old new out left i j told f h n =
     let w : Work = record { table = t; place = p; lines = old; out = out } in
     let line : List ℕ = lineFor w (asked out (take (j - i) (drop i input))) in

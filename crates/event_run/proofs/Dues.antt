@@ -13,7 +13,7 @@ use Rattle.event_file.specs.declared.reader.Read.the-variants.{More, Body}
 use Rattle.event_file.proofs.Framing.{one-record}
 use Rattle.event_file.proofs.Writing.{front-of}
 use Rattle.event_file.proofs.Outputs.{any-output, output-length}
-use Rattle.event_run.specs.Run.{due, Work, lineFor, answered, goesOn, drainedIn, drainedOf, Kept, Drained}
+use Rattle.event_run.specs.Run.{due, Work, lineFor, workAfter, goesOn, drainedIn, drainedOf, Kept, Drained}
 use Rattle.event_run.specs.Laws.{DrainsKeep}
 use Rattle.event_run.proofs.Nexts.{Found, found}
 use Rattle.event_run.proofs.Draining.{next, one, left, less, none-left}
@@ -34,19 +34,19 @@ module _ (input : List ℕ) where
 
     -- the line buffer does not get shorter, and keeps its length only where the line had room
     longer : length (w .lines) ≤ length (one input w i j .lines)
-    unfolding answered written
+    unfolding workAfter written
     longer = simp (length-append, length-take, length-drop) (omega arith)
 
     had-room : length (one input w i j .lines) ≡ length (w .lines) → w .place .used + lineMost ≤ length (w .lines) → w .place .used + length line ≤ length (w .lines)
-    unfolding answered written
+    unfolding workAfter written
     had-room e h = let k = simp (length-append, length-take, length-drop) at e in omega arith
 
     out-length : length (one input w i j .out) ≡ length (w .out)
-    unfolding answered
+    unfolding workAfter
     out-length = output-length (w .table) b (w .out)
 
     one-keeps : length (w .out) ≡ frameMost → Found (w .place) input (length (w .lines)) i j → length (one input w i j .lines) ≡ length (w .lines) → Keeps w (one input w i j)
-    unfolding answered due linesFrom
+    unfolding workAfter due linesFrom
     one-keeps h f l =
         let x : Put line (w .place .used) (w .lines) (one input w i j .lines) (w .place .used + length line) = record { room = had-room l (f .room); same = refl; place = refl } in
         let alike = any-output (w .table) b (w .out) h in

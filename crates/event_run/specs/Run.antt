@@ -55,8 +55,8 @@ pub record Work : Type 0 where
 abbrev pub lineFor : Work → Asked → List ℕ
 lineFor w a = lineOf (w .place .number) (entryFor (w .table) a)
 
-unfoldable pub answered : Work → Asked → (end : ℕ) → Work
-answered w a end =
+unfoldable pub workAfter : Work → Asked → (end : ℕ) → Work
+workAfter w a end =
     record {
       table = tableAfter (w .table) a;
       place = record { number = w .place .number + 1; at = end; used = w .place .used + length (lineFor w a) };
@@ -67,7 +67,7 @@ answered w a end =
 -- If a record was read it is answered, and then the rest is; if not, all stays.
 unfoldable pub goesOn : (input : List ℕ) (rest : Work → Work) → Work → Read → Work
 goesOn input rest w More = w
-goesOn input rest w (Body i j) = rest (answered w (asked (w .out) (take (j - i) (drop i input))) j)
+goesOn input rest w (Body i j) = rest (workAfter w (asked (w .out) (take (j - i) (drop i input))) j)
 
 -- The first `most` records that can be answered. A record takes two bytes or more, so there are no more records than bytes.
 unfoldable pub drainedIn : (most : ℕ) (input : List ℕ) → Work → Work

@@ -13,7 +13,7 @@ use Rattle.record.specs.Sizes.{frameMost}
 use Rattle.calls.specs.Table.{Table}
 use Rattle.event_file.specs.Records.{recordsOf, readAt}
 use Rattle.event_file.specs.Lines.{lastLine}
-use Rattle.event_file.specs.Buffers.{Writes, lastMost}
+use Rattle.event_file.specs.Buffers.{Writes, lineMost, lastMost}
 use Rattle.event_file.specs.Files.{linesFrom}
 use Rattle.event_file.specs.declared.reader.Read.the-variants.{More}
 use Rattle.event_file.proofs.Framing.{last-record}
@@ -81,7 +81,7 @@ none-behind to l = let n : length (take to l) ≤ to - 0 = omega (arith, length-
 
 -- ---- a turn
 
-module _ (from onto : ℤ) (h : Held) (u : Table) (r : Place) (input old new : List ℕ) (k : Kept (h .table) (placeOf h) (take (h .to) input) old u r new) (s : Sent) (so : (s .onto ≡ onto) × (s .wrote ≡ r .used)) (a : r .at ≤ h .to) (x : nextOf r (take (h .to) input) (length new) ≡ More) where
+module _ (from onto : ℤ) (h : Held) (u : Table) (r : Place) (input old new : List ℕ) (k : Kept (h .table) (placeOf h) (take (h .to) input) old u r new) (s : Sent) (so : (s .onto ≡ onto) × (s .wrote ≡ r .used)) (a : r .at ≤ h .to) (x : nextOf r (take (h .to) input) (length new) ≡ More) (fits : lineMost ≤ length new) where
   -- what is due after the records were answered
   due-held : (rest : List ℕ) → take (s .wrote) new ++ linesFrom u (r .number) (recordsOf (drop (r .at) (take (h .to) input) ++ rest)) ≡ dueFrom h input rest
   unfolding due dueFrom
@@ -94,6 +94,7 @@ module _ (from onto : ℤ) (h : Held) (u : Table) (r : Place) (input old new : L
       record {
         same = λ later. rw (none-behind (h .to) input) (due-held later);
         last = λ z. absurd (n z);
+        room = fits;
         none = rw (at-left, so .1) x;
         stand = rw at-left e;
         unread = λ _. refl;
@@ -126,6 +127,7 @@ module _ (from onto : ℤ) (h : Held) (u : Table) (r : Place) (input old new : L
         record {
           same = λ later. same later;
           last = λ z. last (none-read got (sym st ∙ z));
+          room = fits;
           none = rw (at-left, so .1) x;
           stand = rw (at-left, o, ← w) st;
           unread = λ z. absurd (let y : _≡_ {A = Bool} true false = rw (at-left, o, ← w) at z in let x : _≡_ {A = ℕ} 0 1 = cc in omega arith);

@@ -14,6 +14,7 @@ use Rattle.record.specs.Words.{if_then_else_}
 use Rattle.event_file.specs.Text.{text}
 use Rattle.event_file.specs.Records.{recordsOf, readAt}
 use Rattle.event_file.specs.Lines.{lastLine}
+use Rattle.event_file.specs.Buffers.{lineMost}
 use Rattle.event_file.specs.Files.{freeTable, linesFrom, linesOf}
 use Rattle.event_file.specs.declared.reader.Read.{Read}
 use Rattle.event_file.specs.declared.reader.Read.the-variants.{Body, More}
@@ -26,7 +27,7 @@ use Rattle.event_turns.specs.declared.Stand.{Stand}
 use Rattle.event_turns.specs.declared.Stand.the-variants.{Going, Ended, Failed, Used}
 use Rattle.event_turns.specs.declared.Turn.{Turn}
 use Rattle.event_turns.specs.declared.Over.{Over}
-use Rattle.event_turns.specs.declared.Over.the-variants.{Printed, Version, Broken, LastNumber, LastTurn}
+use Rattle.event_turns.specs.declared.Over.the-variants.{Printed, Version, Stopped, LastNumber, LastTurn}
 
 -- These bytes, at the front of the lines, were handed over to be written onto this descriptor.
 pub record Handed (onto : ℤ) (bytes lines : List ℕ) (s : Sent) : Type 0 where
@@ -80,7 +81,7 @@ isWhole More = false
 abbrev pub leavesWhole : Held → (old : List ℕ) → Turn → Bool
 leavesWhole h old r = isWhole (readAt (take (h .to) old) (leftAt h r))
 
--- a record that is left whole is answered by the next turn, if it has a number
+-- a record that is left whole is answered by the next turn, if there is a number for the one after it
 abbrev pub afterWhole : (number : ℕ) → Stand
 afterWhole number = if ltb number lastNumber then Going else Used
 
@@ -95,11 +96,12 @@ abbrev pub standOf : (out whole : Bool) (number : ℕ) (got : ℤ) → Stand
 standOf out whole number got = if out then (if whole then afterWhole number else afterRead got) else Failed
 
 -- What a turn handed over to be written, and all that is printed from then on, is what was due before it with the piece
--- that it read; whatever comes later. Where the input has ended, only the last line is due. No record is left that it could
--- have answered.
+-- that it read; whatever comes later. Where the input has ended, only the last line is due. There was room for a line, and
+-- no record is left that the turn could have answered: so a run that goes on has handed over a line or read a byte.
 pub record Turned (from onto : ℤ) (h : Held) (old now lines : List ℕ) (r : Turn) : Type 0 where
   pub same : (later : List ℕ) → take (r .sent .wrote) lines ++ dueFrom (r .held) now later ≡ dueFrom h old (pieceOf r now ++ later)
   pub last : r .stand ≡ Ended → dueFrom (r .held) now [] ≡ lastLine (leftOf (r .held))
+  pub room : lineMost ≤ length lines
   pub none : nextOf (record { number = r .held .number; at = leftAt h r; used = r .sent .wrote }) (take (h .to) old) (length lines) ≡ More
   pub stand : r .stand ≡ standOf (r .sent .out) (leavesWhole h old r) (r .held .number) (r .got)
   pub unread : (r .sent .out && not (leavesWhole h old r)) ≡ false → r .got ≡ pos 0
@@ -123,7 +125,7 @@ pub record Gone (from onto : ℤ) (h : Held) (old : List ℕ) (turns : ℕ) (s :
 -- What a run comes to that stops as it stands: at the end of the input, and only there, the last line is handed over.
 unfoldable pub Stops : (onto : ℤ) (left : ℕ) (lines : List ℕ) → Stand → Over → Type 0
 Stops onto left lines Ended o = (last : Sent) × ((o ≡ Printed last) × Handed onto (lastLine left) lines last)
-Stops onto left lines Failed o = o ≡ Broken
+Stops onto left lines Failed o = o ≡ Stopped
 Stops onto left lines Used o = o ≡ LastNumber
 Stops onto left lines Going o = o ≡ LastTurn
 
@@ -151,7 +153,7 @@ versionLine = text "version\n"
 
 -- A whole run: a first piece is read. If that starts with the version byte, the run goes by turns.
 pub data Served (from onto : ℤ) : (now lines : List ℕ) → Over → Type 0 where
-  failed : {old now lines : List ℕ} {p : Piece} → Filled from 0 old now p → nonNeg (p .got) ≡ false → Served from onto now lines Broken
+  failed : {old now lines : List ℕ} {p : Piece} → Filled from 0 old now p → nonNeg (p .got) ≡ false → Served from onto now lines Stopped
   version : {old now lines : List ℕ} {p : Piece} {last : Sent} → Filled from 0 old now p → nonNeg (p .got) ≡ true
       → startsOne (take (p .to) now) ≡ false → Handed onto versionLine lines last → Served from onto now lines (Version last)
   goes : {old first now lines : List ℕ} {p : Piece} {o : Over} → Filled from 0 old first p → startsOne (take (p .to) first) ≡ true

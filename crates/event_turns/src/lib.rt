@@ -13,7 +13,7 @@ ghost use lib.Signed.{nonNeg};
 ghost use lib.ListN.{length, take, drop};
 ghost use Rattle.record.specs.Sizes.{frameMost};
 ghost use Rattle.event_file.specs.Records.{readAt};
-ghost use Rattle.event_file.specs.Buffers.{lastMost};
+ghost use Rattle.event_file.specs.Buffers.{lineMost, lastMost};
 ghost use Rattle.event_run.specs.Run.{Drained};
 ghost use Rattle.event_turns.specs.Turns.{Filled, placeOf, leftOf, stays, isWhole, afterWhole, afterRead, Turned, Stops, Ran, startsOne, startOf, versionLine, Served, Runs};
 
@@ -179,7 +179,7 @@ fn after_read(got: isize) -> Stand
 
 // One turn: answers what can be answered and writes the lines; then, if no whole record is left, reads a piece more.
 fn go_on(from: i32, onto: i32, h: Held, input: &mut [u8], lines: &mut [u8], out: &mut [u8]) -> Turn
-    requires { ⌜ (65537 ≤ length (now input)) × (length (now out) ≡ frameMost) ⌝ }
+    requires { ⌜ (65537 ≤ length (now input)) × (length (now out) ≡ frameMost) × (lineMost ≤ length (now lines)) ⌝ }
     requires { ⌜ (h .at ≤ h .to) × (h .to ≤ length (now input)) ⌝ }
     ensures { λ r. ⌜ Turned from onto h (now (input .entry)) (now (input .exit)) (now (lines .exit)) r ⌝ }
     ensures { λ r. ⌜ (r .held .at ≤ r .held .to) × (r .held .to ≤ length (now (input .exit))) ⌝ }
@@ -237,7 +237,7 @@ fn stay(held: Held, sent: Sent, from: i32, stand: Stand) -> Turn
 pub enum Over {
     Printed(Sent),
     Version(Sent),
-    Broken,
+    Stopped,
     LastNumber,
     LastTurn,
 }
@@ -254,7 +254,7 @@ fn finish(onto: i32, h: Held, stand: Stand, lines: &mut [u8]) -> Over
             return Over::Printed(last);
         }
         Stand::Failed => {
-            return Over::Broken;
+            return Over::Stopped;
         }
         Stand::Used => {
             return Over::LastNumber;
@@ -317,7 +317,7 @@ fn going(stand: Stand) -> bool
 
 // A proved loop has to end, and nothing says that an input does: turns are counted down from a number that no run uses up.
 fn turns(from: i32, onto: i32, h: Held, input: &mut [u8], lines: &mut [u8], out: &mut [u8]) -> Over
-    requires { ⌜ (65537 ≤ length (now input)) × (length (now out) ≡ frameMost) × (lastMost ≤ length (now lines)) ⌝ }
+    requires { ⌜ (65537 ≤ length (now input)) × (length (now out) ≡ frameMost) × (lineMost ≤ length (now lines)) ⌝ }
     requires { ⌜ (h .at ≤ h .to) × (h .to ≤ length (now input)) ⌝ }
     ensures { λ r. ⌜ Ran from onto h (now (input .entry)) (now (input .exit)) (now (lines .exit)) r ⌝ }
 {
@@ -338,12 +338,12 @@ fn turns(from: i32, onto: i32, h: Held, input: &mut [u8], lines: &mut [u8], out:
 
 // Reads a first piece, and goes on where it starts with the version byte.
 fn serve(from: i32, onto: i32, input: &mut [u8], lines: &mut [u8], out: &mut [u8]) -> Over
-    requires { ⌜ (65537 ≤ length (now input)) × (length (now out) ≡ frameMost) × (8 ≤ length (now lines)) ⌝ }
+    requires { ⌜ (65537 ≤ length (now input)) × (length (now out) ≡ frameMost) × (lineMost ≤ length (now lines)) ⌝ }
     ensures { λ r. ⌜ Served from onto (now (input .exit)) (now (lines .exit)) r ⌝ }
 {
     let p = fill(from, input, 0);
     if failed(p.got) {
-        return Over::Broken;
+        return Over::Stopped;
     }
     let to = p.to;
     if !versioned(&input[..to]) {
@@ -354,7 +354,8 @@ fn serve(from: i32, onto: i32, input: &mut [u8], lines: &mut [u8], out: &mut [u8
     turns(from, onto, start(to), input, lines, out)
 }
 
-// Bytes of the input buffer (a record and its length bytes fit, 65537, and a read brings a large piece), and of the lines.
+// Bytes of the input buffer (a record and its length bytes fit, 65537, and a read brings a large piece), and of the lines (a
+// line fits, 71).
 const INPUT: usize = 262144;
 
 const LINES: usize = 65536;

@@ -13,7 +13,7 @@ use Rattle.refusal.specs.Numbers.{LONG, SHORT, UNTAGGED}
 use Rattle.refusal.proofs.Checks.{passed, same-value}
 use Rattle.record.specs.Sizes.{frameMost}
 use Rattle.frame.specs.Bytes.{word}
-use Rattle.frame.specs.Frame.{Tag, typeAt, hasVlan, isTagged, headShort, tagShort, headerOf, headOf, destOf, vlanOf, numberOf, readOf}
+use Rattle.frame.specs.Frame.{Tag, typeAt, hasVlan, isTagged, headShort, tagShort, headerOf, headOf, destOf, vlanOf, numberIn, readOf}
 use Rattle.frame.specs.TagCalls.{saidHead, saidRead}
 use Rattle.frame.specs.declared.Header.{Header}
 use Rattle.frame.specs.declared.Head.{Head}
@@ -144,7 +144,7 @@ pub record TagIs (f : List ℕ) (h : Header) (n : ℕ) : Type 0 where
   pub room : typeAt f + 8 ≤ length f
   pub tagged : isTagged f ≡ true
   pub at : h .at ≡ typeAt f
-  pub number : n ≡ numberOf f
+  pub number : n ≡ numberIn f
   pub same : h ≡ headerOf f
 
 pub tag-of : (f : List ℕ) (t : Tag) → readOf f ≡ answers t → TagIs f (t .header) (t .number)
@@ -164,6 +164,6 @@ tag-is f h n p q = tag-of f (record { header = h; number = n }) (sym p ∙ ap sa
 
 -- and the other way
 pub read-is : (f : List ℕ) → length f ≤ frameMost → typeAt f + 8 ≤ length f → isTagged f ≡ true
-    → readOf f ≡ answers (record { header = headerOf f; number = numberOf f })
+    → readOf f ≡ answers (record { header = headerOf f; number = numberIn f })
 unfolding readOf tagShort
 read-is f few room t = simp (le-ltb _ _ few, head-whole f (omega arith), t, le-ltb _ _ room)

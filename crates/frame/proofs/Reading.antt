@@ -13,7 +13,7 @@ use borrow.Author.Tests.{lt-ltb, eq-eqb, ltb-true, eqb-true}
 use Rattle.frame.specs.Bytes.{word}
 use Rattle.refusal.specs.Checks.{Said}
 use Rattle.refusal.specs.Checks.Said.{refused, answers}
-use Rattle.frame.specs.Frame.{Tag, typeAt, hasVlan, vlanOf, isTagged, headShort, tagShort, headerOf, numberOf, readOf, cutAt, untagged}
+use Rattle.frame.specs.Frame.{Tag, typeAt, hasVlan, vlanOf, isTagged, headShort, tagShort, headerOf, numberIn, readOf, cutAt, untagged}
 use Rattle.frame.specs.TagCalls.{takeTag, takeFrom}
 use Rattle.frame.specs.Refusals.{short}
 use Rattle.frame.specs.Laws.{Stands, ShortWords, ReservedIgnored}
@@ -115,7 +115,7 @@ module _ (f g : List ℕ) (l : length f ≡ length g)
       let h = type-least f in
       rw (before 0 (omega arith), before 2 (omega arith), before 4 (omega arith), same-id, same-tag, same-type)
 
-  same-number : numberOf f ≡ numberOf g
+  same-number : numberIn f ≡ numberIn g
   same-number = behind (typeAt f + 4) (omega arith) ∙ ap (λ (o : ℕ). word g (o + 4)) same-type
 
   same-read : readOf f ≡ readOf g

@@ -12,7 +12,7 @@ use Rattle.refusal.specs.Numbers.{LONG, SHORT, UNTAGGED, ROOM, TAGGED}
 use Rattle.refusal.proofs.Checks.{first-exactly}
 use Rattle.record.specs.Sizes.{frameMost, untaggedMost}
 use Rattle.frame.specs.Bytes.{overlay}
-use Rattle.frame.specs.Frame.{Tag, typeAt, isTagged, headShort, tagShort, headerOf, numberOf, readOf, untagged, tagged, writeOf}
+use Rattle.frame.specs.Frame.{Tag, typeAt, isTagged, headShort, tagShort, headerOf, numberIn, readOf, untagged, tagged, writeOf}
 use Rattle.frame.specs.TagCalls.{Bare, takeFrom, takeTag, writeInto, writeTag}
 use Rattle.frame.specs.Refusals.{takeChecks, writeChecks, TakeRefusedExactly, WriteRefusedExactly}
 use Rattle.frame.proofs.Heads.{head-room}
@@ -20,14 +20,14 @@ use Rattle.frame.proofs.Writes.{tag-length, picks-said}
 
 -- the calls say what the first check of their lists says
 abbrev bare : List ℕ → Bare
-bare f = record { number = numberOf f; length = length f - 6 }
+bare f = record { number = numberIn f; length = length f - 6 }
 
 pub take-first : (f out : List ℕ) → takeTag f out .said ≡ firstOf (takeChecks f out) (bare f)
 unfolding takeTag takeFrom readOf takeChecks firstOf tagShort
 take-first f out = go (ltb frameMost (length f)) (headShort f) (isTagged f) (ltb (length f) (typeAt f + 8))
   where
     tag : Said Tag
-    tag = answers (record { header = headerOf f; number = numberOf f })
+    tag = answers (record { header = headerOf f; number = numberIn f })
 
     go : (long short tagged cut : Bool)
         → takeFrom f out (cond long (refused LONG) (cond short (refused SHORT) (cond (not tagged) (refused UNTAGGED) (cond (tagged && cut) (refused SHORT) tag)))) .said

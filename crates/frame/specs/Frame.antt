@@ -38,8 +38,8 @@ abbrev pub reservedOf : List ℕ → ℕ
 reservedOf f = word f (typeAt f + 2)
 
 -- the number as two bytes, high byte first.
-abbrev pub numberOf : List ℕ → ℕ
-numberOf f = word f (typeAt f + 4)
+abbrev pub numberIn : List ℕ → ℕ
+numberIn f = word f (typeAt f + 4)
 
 -- The frame's former type field follows.
 abbrev pub formerOf : List ℕ → ℕ
@@ -78,7 +78,7 @@ readOf f =
     else if headShort f then refused SHORT
     else if not (isTagged f) then refused UNTAGGED
     else if tagShort f then refused SHORT
-    else answers (record { header = headerOf f; number = numberOf f })
+    else answers (record { header = headerOf f; number = numberIn f })
 
 -- Taking the tag out removes exactly these six bytes.
 unfoldable pub cutAt : (f : List ℕ) (o : ℕ) → List ℕ

@@ -39,7 +39,7 @@ returns c =
     let a = c .before .before .before .before .before .before .before .before .before .before .before .before .before .before .before .before .before in
     let o : f .result .out ≡ false = not-true _ (c .before .if1 .taken) in
     rw (c .stay .ensures)
-    (stay-turned _ _ _ _ _ _ _ _ (d .ensures .0 .kept (a .pre .0 .1)) (f .result) (f .ensures .0 ∙ toZ-ofZ (a .fits .onto), f .ensures .1) (d .ensures .1 .0) (d .ensures .0 .none) _ (toZ-ofZ (a .fits .from)) _ (rw o refl) failed-no-end, (d .ensures .1 .0, a .pre .1 .1))
+    (stay-turned _ _ _ _ _ _ _ _ (d .ensures .0 .kept (a .pre .0 .1)) (f .result) (f .ensures .0 ∙ toZ-ofZ (a .fits .onto), f .ensures .1) (d .ensures .1 .0) (d .ensures .0 .none) (omega (arith, d .kept .1 .1 .0, a .pre .0 .2)) _ (toZ-ofZ (a .fits .from)) _ (rw o refl) failed-no-end, (d .ensures .1 .0, a .pre .1 .1))
 
 whole-requires : tie.Need-whole-requires
 whole-requires c κs = search needs
@@ -67,7 +67,7 @@ returns-2 c =
     let o : f .result .out ≡ true = not-false _ (c .before .before .before .before .before .if1 .left) in
     let w = sym (c .before .before .before .whole .ensures .0) ∙ c .before .before .if2 .taken in
     rw (c .stay2 .ensures)
-    (stay-turned _ _ _ _ _ _ _ _ (d .ensures .0 .kept (a .pre .0 .1)) (f .result) (f .ensures .0 ∙ toZ-ofZ (a .fits .onto), f .ensures .1) (d .ensures .1 .0) (d .ensures .0 .none) _ (toZ-ofZ (a .fits .from)) _ (rw (o, w) (c .before .after-whole .ensures)) (λ e. whole-goes (d .result .place .number) (sym (c .before .after-whole .ensures) ∙ e)), (d .ensures .1 .0, a .pre .1 .1))
+    (stay-turned _ _ _ _ _ _ _ _ (d .ensures .0 .kept (a .pre .0 .1)) (f .result) (f .ensures .0 ∙ toZ-ofZ (a .fits .onto), f .ensures .1) (d .ensures .1 .0) (d .ensures .0 .none) (omega (arith, d .kept .1 .1 .0, a .pre .0 .2)) _ (toZ-ofZ (a .fits .from)) _ (rw (o, w) (c .before .after-whole .ensures)) (λ e. whole-goes (d .result .place .number) (sym (c .before .after-whole .ensures) ∙ e)), (d .ensures .1 .0, a .pre .1 .1))
 
 shift-requires : tie.Need-shift-requires
 shift-requires c κs = search needs
@@ -99,7 +99,7 @@ returns-3 c =
     let d = c .before .before .before .before .before .before .before .before .before .before .before .before .before .before .before .before .before .before .before .before .before .before .before .drain-to in
     let a = c .before .before .before .before .before .before .before .before .before .before .before .before .before .before .before .before .before .before .before .before .before .before .before .before .before .before .before .before .before .before in
     let t = c .before .before .struct-told .given in (
-      read-turned _ _ _ _ _ _ _ _ (d .ensures .0 .kept (a .pre .0 .1)) (u .result) (u .ensures .0 ∙ toZ-ofZ (a .fits .onto), u .ensures .1) (d .ensures .1 .0) (d .ensures .0 .none) (f .last .1 .0) (s .result) (s .ensures .0) (a .pre .1 .1) (f .ensures .kept ∙ s .ensures .1) _ _ _
+      read-turned _ _ _ _ _ _ _ _ (d .ensures .0 .kept (a .pre .0 .1)) (u .result) (u .ensures .0 ∙ toZ-ofZ (a .fits .onto), u .ensures .1) (d .ensures .1 .0) (d .ensures .0 .none) (omega (arith, d .kept .1 .1 .0, a .pre .0 .2)) (f .last .1 .0) (s .result) (s .ensures .0) (a .pre .1 .1) (f .ensures .kept ∙ s .ensures .1) _ _ _
           (toZ-ofZ (record { sfits = t .0 .1 }) ∙ (f .ensures .whence ∙ toZ-ofZ (a .fits .from))) (f .ensures .to ∙ ap (λ (z : ℤ). s .result + bytesIn z) (sym (toZ-ofZ {w = w64} {z = f .result .got} (record { sfits = t .1 .1 .0 .1 })))) (not-false _ (c .before .before .before .before .before .before .before .before .before .before .before .before .before .before .if1 .left)) (sym (c .before .before .before .before .before .before .before .before .before .before .before .if2 .left) ∙ w .ensures .0) _ (c .before .after-read .ensures),
       (omega arith, f .ensures .room),
     )
