@@ -10,17 +10,22 @@ def crates():
     return sorted(p for p in (ROOT / "crates").iterdir() if p.is_dir())
 
 
+def public_in(sources):
+    """Function, file, and the text from its `pub fn` to its body, for each of a crate. `sources` has the text of each file of
+    its src/, by the file's name."""
+    library = sources.get("lib.rt", "")
+    open_modules = set(re.findall(r"^pub mod (\w+)", library, re.M))
+    taken = set(re.findall(r"^pub use (\w+)::(\w+);", library, re.M))
+    for file, text in sorted(sources.items()) if library else ():
+        module = pathlib.PurePath(file).stem
+        for found in re.finditer(r'^ *pub (?:extern "C" )?fn (\w+)(.*?)(?:^ *\{|\{$)', text, re.M | re.S):
+            function = found.group(1)
+            if file == "lib.rt" or module in open_modules or (module, function) in taken:
+                yield function, file, found.group(2)
+
+
 def public_functions():
     """Crate, function, file, and the text from its `pub fn` to its body, for each."""
     for crate in crates():
-        library = crate / "src/lib.rt"
-        if not library.exists():
-            continue
-        text = library.read_text()
-        open_modules = set(re.findall(r"^pub mod (\w+)", text, re.M))
-        taken = set(re.findall(r"^pub use (\w+)::(\w+);", text, re.M))
-        for path in sorted(crate.glob("src/*.rt")):
-            for found in re.finditer(r'^ *pub (?:extern "C" )?fn (\w+)(.*?)(?:^ *\{|\{$)', path.read_text(), re.M | re.S):
-                function = found.group(1)
-                if path == library or path.stem in open_modules or (path.stem, function) in taken:
-                    yield crate.name, function, path.relative_to(ROOT), found.group(2)
+        for function, file, head in public_in({path.name: path.read_text() for path in crate.glob("src/*.rt")}):
+            yield crate.name, function, (crate / "src" / file).relative_to(ROOT), head
