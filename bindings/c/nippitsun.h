@@ -1,9 +1,8 @@
 /* Nippitsun for C and C++: a receiver for frames that arrive on two networks, and the redundancy tag in and out.
  *
- * The calls are the exported functions of the crate `port`, proved to do what document 01 says, with the orders of document
- * 02 that CHANGELOG.md names. This header is written by hand: bindings/c/test.c holds it to the compiled code, and
- * bindings/check to the sources. C11 or C++11, x86-64; link with libport.a, which is called libnippitsun.a once it is
- * installed (docs/LINKING.md).
+ * The calls are the exported functions of the crate `port`, proved to do what document 01 says, with order 1 of document 02.
+ * This header is written by hand: bindings/c/test.c holds it to the compiled code, and bindings/check to the sources. C11 or
+ * C++11, x86-64; link with libport.a, which is called libnippitsun.a once it is installed (docs/LINKING.md).
  *
  * What the caller owes. The proof takes it for granted, and no call can test it:
  *
@@ -25,9 +24,9 @@
 #include <stddef.h>
 #include <stdint.h>
 
-#define NIPPITSUN_VERSION "0.1.0"
+#define NIPPITSUN_VERSION "0.2.0"
 #define NIPPITSUN_VERSION_MAJOR 0
-#define NIPPITSUN_VERSION_MINOR 1
+#define NIPPITSUN_VERSION_MINOR 2
 #define NIPPITSUN_VERSION_PATCH 0
 
 #ifdef __cplusplus
@@ -67,8 +66,8 @@ enum nippitsun_verdict {
     NIPPITSUN_VERDICT_ROGUE = 3
 };
 
-/* Why a call was refused (document 01, "Calls and the order of checks", and the orders of document 02). Where several hold, a
- * call answers the first in its own order, which stands beside its declaration. */
+/* Why a call was refused (document 01, "Calls and the order of checks"; 14 is of order 1). Where several hold, a call answers
+ * the first in its own order, which stands beside its declaration. */
 enum nippitsun_refusal {
     NIPPITSUN_REFUSED_NOT = 0,
     NIPPITSUN_REFUSED_TABLE = 1,    /* the table has more than 64 slots */

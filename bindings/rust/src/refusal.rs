@@ -4,8 +4,7 @@ use std::fmt;
 
 macro_rules! refusals {
     ($($(#[doc = $what:literal])+ $name:ident = $number:literal, $says:literal;)+) => {
-        /// Why a call was refused (document 01, "Calls and the order of checks", and the orders of document 02). A refused call
-        /// changes nothing.
+        /// Why a call was refused (document 01, "Calls and the order of checks"; 14 is of order 1). A refused call changes nothing.
         #[derive(Clone, Copy, Debug, PartialEq, Eq, Hash, PartialOrd, Ord)]
         #[repr(u8)]
         pub enum Refusal {
@@ -24,7 +23,7 @@ macro_rules! refusals {
                 }
             }
 
-            /// When this refusal is given, in the words of documents 01 and 02.
+            /// When this refusal is given, in the words of the documents.
             pub const fn words(self) -> &'static str {
                 match self {
                     $(Refusal::$name => $says,)+
@@ -66,7 +65,7 @@ refusals! {
 }
 
 impl Refusal {
-    /// The number that document 01 or an order of document 02 gives this refusal.
+    /// The number that the documents give this refusal.
     pub const fn number(self) -> u8 {
         self as u8
     }
