@@ -1,6 +1,6 @@
 //! Reading a frame's header, and putting the redundancy tag in and taking it
 //! out. Document 01: "The frame" and the last two calls of "Calls and the order
-//! of checks".
+//! of checks". Document 02: order 1.
 
 use crate::wrong::{rule, vlan_behind_tag};
 use crate::{Refusal, Stream};
@@ -12,6 +12,8 @@ pub const TAG_MARK: [u8; 2] = [0xF1, 0xC1];
 /// Marks a VLAN tag.
 pub const VLAN_MARK: [u8; 2] = [0x81, 0x00];
 
+/// The first source byte.
+const SOURCE: usize = 6;
 /// Where the two addresses end.
 const AFTER_ADDRESSES: usize = 12;
 /// Where the VLAN tag ends, if there is one.
@@ -111,6 +113,17 @@ pub(crate) fn read_tagged(frame: &[u8]) -> Result<Tagged, Refusal> {
     })
 }
 
+/// Refusal 14 of an arrival and of the tag writer. The frame is not short.
+pub(crate) fn check_source(frame: &[u8]) -> Result<(), Refusal> {
+    let first = frame[rule!(SOURCE, GroupOfDestination: 0)];
+    // The lowest bit marks a group; the others say nothing about it.
+    if first & rule!(0x01, GroupHighBit: 0x80, GroupAnyBit: 0xFF) != 0 {
+        Err(Refusal::GroupSource)
+    } else {
+        Ok(())
+    }
+}
+
 /// Refusal 8 of an arrival and of taking a tag out.
 pub(crate) fn check_room(frame: &[u8], output: &[u8]) -> Result<(), Refusal> {
     if output.len() < frame.len() - TAG_LENGTH {
@@ -131,21 +144,26 @@ pub(crate) fn write_without_tag(frame: &[u8], tagged: Tagged, output: &mut [u8])
 }
 
 /// Puts a tag with this number into the frame and writes the result to the
-/// start of the output. Answers the length written. Refusals 3, 4, 13, 8 in
-/// this order.
+/// start of the output. Answers the length written. Refusals 3, 4, 13, 14, 8
+/// in this order.
 pub fn write_tag(frame: &[u8], number: u16, output: &mut [u8]) -> Result<usize, Refusal> {
     if frame.len() > Stream::MAX_UNTAGGED {
         return Err(Refusal::FrameTooLong);
     }
     let header = header(frame)?;
     let length = frame.len() + TAG_LENGTH;
-    let room = output.len() >= length;
-    if carries_tag(frame, header) && rule!(true, RoomBeforeTagged: room) {
+    let room = if output.len() < length {
+        Err(Refusal::OutputTooSmall)
+    } else {
+        Ok(())
+    };
+    let source = check_source(frame);
+    rule!(Ok(()), RoomBeforeTagged: room, GroupBeforeTagged: source)?;
+    if carries_tag(frame, header) {
         return Err(Refusal::AlreadyTagged);
     }
-    if !room {
-        return Err(Refusal::OutputTooSmall);
-    }
+    rule!(source, WriterTakesGroup: Ok(()), RoomBeforeGroup: room.and(source))?;
+    room?;
     let place = header.type_place;
     let number = number.to_be_bytes();
     output[..place].copy_from_slice(&frame[..place]);
@@ -158,9 +176,11 @@ pub fn write_tag(frame: &[u8], number: u16, output: &mut [u8]) -> Result<usize, 
 }
 
 /// Takes the tag out of the frame and writes the rest to the start of the
-/// output. Refusals 3, 4, 5, 8 in this order.
+/// output. Refusals 3, 4, 5, 8 in this order. A group source is not
+/// refused here.
 pub fn take_tag(frame: &[u8], output: &mut [u8]) -> Result<Taken, Refusal> {
     let tagged = read_tagged(frame)?;
+    rule!(Ok(()), TakeRefusesGroup: check_source(frame))?;
     check_room(frame, output)?;
     let length = write_without_tag(frame, tagged, output);
     Ok(Taken {

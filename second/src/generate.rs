@@ -4,7 +4,8 @@
 //! of its own beside the file, so that it knows which streams are open and
 //! where their windows stand. Without that, numbers would almost never fall at
 //! the edge of a window. `Traffic` is two networks between senders and the
-//! receiver, with skew, loss, duplicates, silence and restarts.
+//! receiver, with skew, loss, duplicates, silence, restarts and reflected
+//! frames.
 
 use std::collections::VecDeque;
 use std::io;
@@ -189,9 +190,7 @@ impl Walk {
         };
         let mut body = vec![kind::ARRIVAL, network];
         body.extend(key.0);
-        let mut source = [2, 0, 0, 0, 0, 0];
-        source[5] = random.byte();
-        body.extend(source);
+        body.extend(source(random));
         // A tag with VLAN id 0 has the same key as no tag.
         if key.1 != 0 || random.chance(1, 4) {
             body.extend(VLAN_MARK);
@@ -368,7 +367,15 @@ impl Traffic {
         self.under_way.sort_by_key(|frame| frame.0);
         let due = self.under_way.partition_point(|frame| frame.0 <= self.time);
         for (_, network, key, number) in self.under_way.drain(..due) {
-            self.ready.push_back(tagged(network, key, number));
+            let body = tagged(network, key, number);
+            // A faulty tap reflects a frame before the frame itself comes. The
+            // body's byte 8 is the first of the source.
+            if self.random.chance(1, 50) {
+                let mut reflected = body.clone();
+                reflected[8] |= 1;
+                self.ready.push_back(reflected);
+            }
+            self.ready.push_back(body);
         }
         self.incident();
     }
@@ -429,6 +436,16 @@ impl Sender {
         let rule = random.pick(&[Stream::VECTOR, Stream::VECTOR, Stream::MATCH]);
         open_body(self.key, rule, self.window, self.reset_time)
     }
+}
+
+/// A source. One in 16 is a group; random bytes would make it every second one.
+fn source(random: &mut Random) -> [u8; 6] {
+    let mut source = [2, 0, 0, 0, 0, random.byte()];
+    if random.chance(1, 4) {
+        random.fill(&mut source);
+    }
+    source[0] = source[0] & 0xFE | u8::from(random.chance(1, 16));
+    source
 }
 
 /// The body of an open.

@@ -2,9 +2,9 @@
 //! redundancy tag.
 //!
 //! This is a second implementation. It was written from document 01 ("Exact
-//! rules and what to build") alone, so that its answers can be compared with
-//! those of the first one. Section names in the comments are those of
-//! document 01.
+//! rules and what to build") and order 1 of document 02 alone, so that its
+//! answers can be compared with those of the first one. Section names in the
+//! comments are those of document 01.
 
 #![forbid(unsafe_code)]
 
@@ -21,7 +21,7 @@ pub use stream::Stream;
 pub use table::{arrival, close, open, reset, tick, Arrival, Settings, Ticked, Verdict};
 
 /// Why a call was refused. The values are the numbers of the table in
-/// "Calls and the order of checks".
+/// "Calls and the order of checks", and that of order 1.
 #[derive(Clone, Copy, Debug, PartialEq, Eq, Hash, PartialOrd, Ord)]
 #[repr(u8)]
 pub enum Refusal {
@@ -52,10 +52,12 @@ pub enum Refusal {
     NoSuchSlot = 12,
     /// The frame already carries F1C1.
     AlreadyTagged = 13,
+    /// Group source address.
+    GroupSource = 14,
 }
 
 impl Refusal {
-    /// The number that document 01 gives this refusal.
+    /// The number that the documents give this refusal.
     pub const fn number(self) -> u8 {
         self as u8
     }

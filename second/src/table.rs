@@ -1,5 +1,5 @@
 //! The calls on a table of streams. Document 01: "Calls and the order of
-//! checks".
+//! checks". Document 02: order 1.
 //!
 //! Each call makes all its checks before it changes anything, so a refusal
 //! leaves every byte as it was.
@@ -80,7 +80,7 @@ fn slot_in_use(table: &mut [Stream], slot: usize) -> Result<&mut Stream, Refusal
     }
 }
 
-/// A frame came in on a network. Refusals 1 to 8 in this order.
+/// A frame came in on a network. Refusals 1 to 5, 14, 6, 7, 8 in this order.
 ///
 /// The room in the output is checked before the number is marked, for every
 /// verdict. Otherwise a frame could be claimed and lost, and its twin would be
@@ -96,8 +96,12 @@ pub fn arrival(
     if network > 1 {
         return Err(Refusal::NoSuchNetwork);
     }
-    let tagged = frame::read_tagged(frame)?;
+    let tagged = frame::read_tagged(frame)
+        .map_err(|why| rule!(why, GroupBeforeNoTag: wrong::group_before_no_tag(frame, why)))?;
+    let source = frame::check_source(frame);
+    rule!(source, StreamBeforeGroup: Ok(()))?;
     let slot = find(table, tagged.destination, tagged.vlan).ok_or(Refusal::NoStream)?;
+    rule!(Ok(()), StreamBeforeGroup: source)?;
     let stream = table[slot];
     let room = frame::check_room(frame, output);
     rule!(Ok(()), RoomBeforeDamage: room)?;

@@ -1,7 +1,8 @@
 //! Wrong variants of this program, each with one slip. A comparison with
 //! another program is only worth something if it finds them, so it is tried
 //! against each. Document 01 names some under "Errors that look right"; the
-//! others are slips that its text makes easy.
+//! others are slips that its text, or that of order 1 of document 02, makes
+//! easy.
 //!
 //! No variant is set at first. In the code a slip stands behind the right rule:
 //! `rule!(right, Slip: wrong)`.
@@ -9,8 +10,8 @@
 #[cfg(feature = "wrong")]
 use std::cell::Cell;
 
-use crate::frame::{TAG_MARK, VLAN_MARK};
-use crate::Stream;
+use crate::frame::{check_source, TAG_MARK, VLAN_MARK};
+use crate::{Refusal, Stream};
 
 /// Where the slip can be seen.
 #[derive(Clone, Copy, Debug, PartialEq, Eq)]
@@ -18,8 +19,8 @@ pub enum Seen {
     /// In the lines of an event file.
     Files,
     /// Only where calls are compared: the slip is in a counter, an output byte,
-    /// the treatment of a damaged record or of a small output, or in the tag
-    /// writer. `events` shows none of these.
+    /// the treatment of a damaged record or of a small output, in the tag writer
+    /// or in taking a tag out. `events` shows none of these.
     CallsOnly,
 }
 
@@ -98,6 +99,15 @@ variants! {
     TickAgesDamage, CallsOnly, "a tick ages damaged records";
     DuplicateWrites, CallsOnly, "a duplicate is written to the output";
     ClearsRest, CallsOnly, "bytes behind the frame handed up are cleared";
+    GroupOfDestination, Files, "a group destination is refused in place of a group source";
+    GroupHighBit, Files, "the highest bit of the first source byte marks a group";
+    GroupAnyBit, Files, "any bit of the first source byte marks a group";
+    StreamBeforeGroup, Files, "refusal 6 comes before 14";
+    GroupBeforeNoTag, Files, "refusal 14 comes before 5";
+    WriterTakesGroup, CallsOnly, "the tag writer takes a group source";
+    GroupBeforeTagged, CallsOnly, "in the tag writer refusal 14 comes before 13";
+    RoomBeforeGroup, CallsOnly, "in the tag writer refusal 8 comes before 14";
+    TakeRefusesGroup, CallsOnly, "taking a tag out refuses a group source";
 }
 
 #[cfg(feature = "wrong")]
@@ -143,6 +153,14 @@ pub(crate) fn vlan_behind_tag(frame: &[u8]) -> u16 {
             u16::from_be_bytes([high, low]) & 0x0FFF
         }
         _ => 0,
+    }
+}
+
+/// What an arrival is refused with, if a group source comes before 5.
+pub(crate) fn group_before_no_tag(frame: &[u8], why: Refusal) -> Refusal {
+    match why {
+        Refusal::NoTag => check_source(frame).err().unwrap_or(why),
+        _ => why,
     }
 }
 

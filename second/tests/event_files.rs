@@ -221,6 +221,29 @@ fn refusals_of_close_reset_and_arrival() {
 }
 
 #[test]
+fn group_sources_of_arrivals() {
+    let group = |frame: &[u8]| from_source(3, frame);
+    let mut long = group(&tagged(7));
+    long.resize(2001, 0);
+    let bodies = [
+        open_body(1, 0, 1, 4, 3),
+        arrival_body(0, &group(&tagged(7))),
+        // Nothing was marked.
+        arrival_body(1, &tagged(7)),
+        arrival_body(1, &group(&tagged(7))),
+        // No stream has this key, and none is asked for.
+        arrival_body(0, &group(&tagged_to(DESTINATION, Some(1), 8))),
+        arrival_body(0, &group(&untagged_to(DESTINATION, None))),
+        arrival_body(0, &group(&tagged(8))[..19]),
+        arrival_body(0, &long),
+        arrival_body(2, &group(&tagged(8))),
+    ];
+    let expected = "1 O 0\n2 A no 14\n3 A up 0 7\n4 A no 14\n5 A no 14\n6 A no 5\n7 A no 4\n\
+        8 A no 3\n9 A no 2\nend\n";
+    assert_eq!(lines_of(&file_of(&bodies)), expected);
+}
+
+#[test]
 fn numbers_and_rogues_at_the_wrap() {
     let mut bodies = vec![open_body(1, 0, 1, 4, 65535)];
     for number in [65534, 65535, 65534, 1, 0, 5, 65533, 65534, 4] {

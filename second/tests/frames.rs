@@ -1,5 +1,5 @@
 //! "The frame": lengths at every edge, the tag put in and taken out, and the
-//! room in the output.
+//! room in the output. Order 1: group sources.
 
 mod common;
 
@@ -288,10 +288,111 @@ fn the_longest_frames() {
     assert_eq!(bare, plain);
 }
 
-/// A random frame of 10 to 59 bytes, with the marks at telling places.
+/// The refusals of an arrival for a fresh stream with this key, of taking a tag
+/// out and of writing a tag; `frame` has the tag and `plain` has none.
+fn refusals(key: ([u8; 6], u16), frame: &[u8], plain: &[u8]) -> [u8; 3] {
+    let mut table = [Stream {
+        destination: key.0,
+        vlan: key.1,
+        ..fresh(Stream::VECTOR, 4, 3)
+    }];
+    let mut output = [0; 100];
+    [
+        number_of(arrival(&mut table, 0, frame, &mut output)),
+        number_of(take_tag(frame, &mut output)),
+        number_of(write_tag(plain, 7, &mut output)),
+    ]
+}
+
+#[test]
+fn the_lowest_bit_of_the_first_source_byte_marks_a_group() {
+    // A group destination is an ordinary key.
+    for destination in [DESTINATION, [3, 0, 0, 0, 0, 1], [255; 6]] {
+        for (tci, vlan) in [(None, 0), (Some(0xF005), 5)] {
+            let full = tagged_to(destination, tci, 7);
+            let plain = untagged_to(destination, tci);
+            for first in 0..=255 {
+                let [full, plain] = [&full, &plain].map(|frame| from_source(first, frame));
+                // FE is no group, 01 and FF are.
+                let group = if first % 2 == 1 { 14 } else { 0 };
+                let met = refusals((destination, vlan), &full, &plain);
+                assert_eq!(met, [group, 0, group], "{first}");
+            }
+        }
+    }
+    // The other bytes of the source say nothing.
+    let mut frames = [tagged(7), untagged_to(DESTINATION, None)];
+    for frame in &mut frames {
+        frame[7..12].fill(0xFF);
+    }
+    let met = refusals((DESTINATION, 0), &frames[0], &frames[1]);
+    assert_eq!(met, [0, 0, 0]);
+}
+
+#[test]
+fn a_group_source_among_the_other_checks() {
+    let full = from_source(1, &tagged(7));
+    let plain = from_source(1, &untagged_to(DESTINATION, None));
+    let mut long = full.clone();
+    long.resize(2001, 0);
+    let mut long_plain = plain.clone();
+    long_plain.resize(1995, 0);
+    let no_room: &mut [u8] = &mut [];
+
+    let lawful = fresh(Stream::VECTOR, 4, 3);
+    let damaged = Stream { rule: 3, ..lawful };
+    // 14 before 6, 7 and 8.
+    for record in [Stream::FREE, damaged, lawful] {
+        let mut table = [record];
+        let mut arrive = |frame: &[u8]| number_of(arrival(&mut table, 0, frame, no_room));
+        assert_eq!(arrive(&long), 3);
+        assert_eq!(arrive(&full[..6]), 4);
+        assert_eq!(arrive(&full[..13]), 4);
+        assert_eq!(arrive(&full[..19]), 4);
+        assert_eq!(arrive(&plain), 5);
+        assert_eq!(arrive(&full), 14);
+        assert_eq!(table, [record]);
+    }
+
+    let mut write = |frame: &[u8]| number_of(write_tag(frame, 7, no_room));
+    assert_eq!(write(&long_plain), 3);
+    assert_eq!(write(&plain[..13]), 4);
+    assert_eq!(write(&full), 13);
+    assert_eq!(write(&plain), 14);
+
+    let mut take = |frame: &[u8]| number_of(take_tag(frame, no_room));
+    assert_eq!(take(&full[..19]), 4);
+    assert_eq!(take(&plain), 5);
+    assert_eq!(take(&full), 8);
+}
+
+#[test]
+fn a_group_source_changes_nothing() {
+    let mut table = [fresh(Stream::VECTOR, 4, 3)];
+    let mut output = [FILL; 60];
+    let group = from_source(3, &tagged(7));
+    assert_eq!(number_of(arrival(&mut table, 0, &group, &mut output)), 14);
+    let plain = from_source(3, &untagged_to(DESTINATION, None));
+    assert_eq!(number_of(write_tag(&plain, 7, &mut output)), 14);
+    assert_eq!(table, [fresh(Stream::VECTOR, 4, 3)]);
+    assert_eq!(output, [FILL; 60]);
+    // The frame itself is no duplicate of what was reflected.
+    assert_eq!(arrive(&mut table, 7), "up");
+    // The tag can be taken out, and not be put in again.
+    let mut bare = [FILL; 60];
+    let taken = take_tag(&group, &mut bare).unwrap();
+    assert_eq!((taken.number, taken.length), (7, plain.len()));
+    let bare = &bare[..taken.length];
+    assert_eq!(bare, plain);
+    assert_eq!(number_of(write_tag(bare, 7, &mut output)), 14);
+}
+
+/// A random frame of 10 to 59 bytes, with the marks at telling places. Its
+/// source is no group: the round trips are read for these frames.
 fn any_frame(random: &mut Random) -> Vec<u8> {
     let mut frame = vec![0; random.between(10, 59) as usize];
     random.fill(&mut frame);
+    frame[6] &= 0xFE;
     for place in [12, 14, 16, 18, 20, 22] {
         let mark = random.pick(&[[0xF1, 0xC1], [0x81, 0x00], [0, 0]]);
         if frame.len() >= place + 2 && random.chance(1, 2) {

@@ -59,8 +59,8 @@ fn every_kind_of_line_is_met() {
     let mut wanted: Vec<String> = (0..8).map(|slot| format!("O {slot}")).collect();
     for shape in [
         "O no 9", "O no 10", "O no 11", "C ok", "C no 12", "R ok", "R no 12", "A up", "A dup",
-        "A rogue", "A no 2", "A no 3", "A no 4", "A no 5", "A no 6", "T 0", "T 1", "T 2", "bad",
-        "version", "cut", "end",
+        "A rogue", "A no 2", "A no 3", "A no 4", "A no 5", "A no 6", "A no 14", "T 0", "T 1",
+        "T 2", "bad", "version", "cut", "end",
     ] {
         wanted.push(shape.to_string());
     }

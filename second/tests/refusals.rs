@@ -45,6 +45,10 @@ fn short_for_reading(frame: &[u8]) -> bool {
     short_for_writing(frame) || (has_mark(frame) && frame.len() < type_place(frame) + 8)
 }
 
+fn group_source(frame: &[u8]) -> bool {
+    frame.get(6).map_or(false, |first| first % 2 == 1)
+}
+
 fn slot_of(table: &[Stream], frame: &[u8]) -> Option<usize> {
     let destination = frame.get(..6)?;
     let vlan = if at(frame, 12, [0x81, 0x00]) {
@@ -99,6 +103,10 @@ fn any_frame(random: &mut Random) -> Vec<u8> {
     let mut frame = Vec::new();
     frame.extend(random.pick(&DESTINATIONS));
     frame.extend(SOURCE);
+    if random.chance(1, 5) {
+        // Half of these are groups.
+        frame[6] = random.pick(&[0x00, 0x80, 0xFE, 0x01, 0x03, 0xFF]);
+    }
     let vlan = random.pick(&VLANS);
     if vlan != 0 || random.chance(1, 4) {
         frame.extend([0x81, 0x00]);
@@ -176,6 +184,7 @@ fn arrivals() {
             (3, frame.len() > 2000),
             (4, short_for_reading(&frame)),
             (5, !has_mark(&frame)),
+            (14, group_source(&frame)),
             (6, slot.is_none()),
             (7, slot.map_or(false, |slot| is_damaged(&table[slot]))),
             (8, output.len() < need),
@@ -183,6 +192,9 @@ fn arrivals() {
         let answer = arrival(&mut table, network, &frame, &mut output);
         assert_eq!(number_of(answer), expected);
         seen.note("arrival", expected);
+        if group_source(&frame) {
+            seen.note("arrival of a group", expected);
+        }
         let a = match answer {
             Ok(a) => a,
             Err(_) => {
@@ -248,7 +260,8 @@ fn arrivals() {
             }
         }
     }
-    seen.all_met("arrival", &[0, 1, 2, 3, 4, 5, 6, 7, 8]);
+    seen.all_met("arrival", &[0, 1, 2, 3, 4, 5, 14, 6, 7, 8]);
+    seen.all_met("arrival of a group", &[1, 2, 3, 4, 5, 14]);
     seen.all_met("up", &[0]);
     seen.all_met("duplicate", &[0]);
     seen.all_met("rogue", &[0]);
@@ -405,12 +418,16 @@ fn tags() {
             (3, frame.len() > 1994),
             (4, short_for_writing(&frame)),
             (13, has_mark(&frame)),
+            (14, group_source(&frame)),
             (8, output.len() < need),
         ]);
         let number = random.word();
         let answer = write_tag(&frame, number, &mut output);
         assert_eq!(number_of(answer), expected);
         seen.note("write", expected);
+        if group_source(&frame) {
+            seen.note("write a group", expected);
+        }
         if answer.is_ok() {
             let place = type_place(&frame);
             let [high, low] = number.to_be_bytes();
@@ -435,6 +452,9 @@ fn tags() {
         let answer = take_tag(&frame, &mut output);
         assert_eq!(number_of(answer), expected);
         seen.note("take", expected);
+        if group_source(&frame) {
+            seen.note("take a group", expected);
+        }
         if let Ok(taken) = answer {
             let place = type_place(&frame);
             let bare = [&frame[..place], &frame[place + 6..]].concat();
@@ -446,6 +466,8 @@ fn tags() {
             assert_eq!(output, before);
         }
     }
-    seen.all_met("write", &[0, 3, 4, 8, 13]);
+    seen.all_met("write", &[0, 3, 4, 8, 13, 14]);
+    seen.all_met("write a group", &[3, 4, 13, 14]);
     seen.all_met("take", &[0, 3, 4, 5, 8]);
+    seen.all_met("take a group", &[0, 3, 4, 5, 8]);
 }

@@ -274,6 +274,8 @@ fn arrival_checks_in_order() {
     assert_eq!(number_of(arrival(table, 1, &tagged(1)[..19], no_room)), 4);
     assert_eq!(number_of(arrival(table, 1, &[7; 20], no_room)), 5);
     let stranger = tagged_to([9; 6], None, 1);
+    let group = from_source(7, &stranger);
+    assert_eq!(number_of(arrival(table, 1, &group, no_room)), 14);
     assert_eq!(number_of(arrival(table, 1, &stranger, no_room)), 6);
     assert_eq!(number_of(arrival(table, 1, &tagged(1), no_room)), 7);
     table[0].rule = 1;

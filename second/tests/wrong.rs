@@ -10,7 +10,7 @@ use std::process::Command;
 use common::*;
 use second::random::Random;
 use second::wrong::{self, Seen, Wrong, VARIANTS};
-use second::{arrival, close, open, reset, tick, write_tag, Stream};
+use second::{arrival, close, open, reset, take_tag, tick, write_tag, Stream};
 
 const DESTINATIONS: [[u8; 6]; 2] = [DESTINATION, [2, 0, 0, 0, 0, 2]];
 
@@ -30,21 +30,23 @@ fn calls(seed: u64) -> Vec<(String, Vec<Stream>, Vec<u8>)> {
         let destination = random.pick(&DESTINATIONS);
         let tci = random.pick(&[None, Some(5)]);
         let network = random.below(2) as u8;
-        let answer = match random.below(12) {
+        let source = random.pick(&[2, 2, 2, 3]);
+        let tagged = from_source(source, &tagged_to(destination, tci, number));
+        let answer = match random.below(13) {
             0 => format!("{:?}", open(&mut table, settings(1, 4, 2))),
             1 => format!("{:?}", close(&mut table, slot)),
             2 => format!("{:?}", reset(&mut table, slot)),
             3 => format!("{:?}", tick(&mut table)),
             4 => {
                 let frame = match random.below(2) {
-                    0 => tagged_to(destination, tci, number),
-                    _ => untagged_to(destination, tci),
+                    0 => tagged,
+                    _ => from_source(source, &untagged_to(destination, tci)),
                 };
                 format!("{:?}", write_tag(&frame, number, &mut output[..room]))
             }
+            5 => format!("{:?}", take_tag(&tagged, &mut output[..room])),
             _ => {
-                let frame = tagged_to(destination, tci, number);
-                let answer = arrival(&mut table, network, &frame, &mut output[..room]);
+                let answer = arrival(&mut table, network, &tagged, &mut output[..room]);
                 format!("{answer:?}")
             }
         };

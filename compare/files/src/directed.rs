@@ -23,6 +23,7 @@ pub fn files() -> Vec<(&'static str, Vec<u8>)> {
             slots(),
         ),
         ("every network", networks()),
+        ("every first byte of a source", sources()),
         ("every number on two networks", numbers()),
     ]
 }
@@ -276,6 +277,33 @@ fn networks() -> Vec<u8> {
         for length in [0, 13, 2000, 2001] {
             file.frame(network, &KEY.0, length);
         }
+    }
+    file.0
+}
+
+fn sources() -> Vec<u8> {
+    let mut file = File::new();
+    // A group destination is an ordinary key. No stream has the last one.
+    let destinations = [KEY.0, [3, 0, 0, 0, 0, 1], [3, 0, 0, 0, 0, 2]];
+    for destination in &destinations[..2] {
+        file.open((*destination, 0), Stream::VECTOR, 64, 65535);
+    }
+    for first in 0..=255 {
+        for destination in &destinations {
+            for rest in [
+                &[0xF1, 0xC1, 0, 0, 0, first, 8, 0][..],
+                &[0x81, 0, 0, 0, 0xF1, 0xC1, 0, 0, 0, first, 8, 0],
+                &[8, 0],
+                &[0x81, 0, 0, 0, 8, 0],
+            ] {
+                let bytes = [&destination[..], &[first], &SOURCE[1..], rest].concat();
+                // Whole, short, and filled up.
+                for length in [bytes.len(), bytes.len() - 1, 60] {
+                    file.frame(1, &bytes, length);
+                }
+            }
+        }
+        file.frame(1, &[&KEY.0[..], &[first]].concat(), 2001);
     }
     file.0
 }

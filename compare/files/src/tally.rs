@@ -2,8 +2,8 @@
 //! occurs says nothing about it, so one that can occur and was seen fewer than
 //! [`LEAST`] times is a failure.
 //!
-//! Of document 01's refusals `events` can print 2 to 6 and 9 to 12. The others
-//! can't occur, because
+//! Of the refusals `events` can print 2 to 6, 9 to 12 and 14. The others can't
+//! occur, because
 //!
 //! - 1 needs more than 64 slots, and the table has 8;
 //! - 7 needs a damaged record: open refuses settings outside the sizes, every
@@ -46,7 +46,7 @@ fn expected() -> Vec<String> {
     // The match rule has no rogue.
     all.extend(["up", "dup"].map(|verdict| format!("A {verdict} match")));
     all.extend(["vector", "match"].map(|rule| format!("A up {rule}, through the wrap")));
-    all.extend([2, 3, 4, 5, 6].map(|n| format!("A no {n}")));
+    all.extend([2, 3, 4, 5, 14, 6].map(|n| format!("A no {n}")));
     all.extend(["T 0 0", "T 1 0", "T 2.. 0", "bad"].map(String::from));
     all.extend(["version", "cut", "end"].map(String::from));
     all.extend(INPUTS.map(|input| format!("input: {input}")));
@@ -54,11 +54,14 @@ fn expected() -> Vec<String> {
     all
 }
 
-const INPUTS: [&str; 12] = [
+const INPUTS: [&str; 15] = [
     "a body of length 0",
     "a body of 32768 bytes or more",
     "a frame of 2000 bytes",
     "a frame of 2001 bytes",
+    "a group source and destination",
+    "a group source without F1C1",
+    "a group destination alone",
     "a VLAN tag with id 0",
     "a VLAN tag with id 4095",
     "a VLAN tag with high bits",
@@ -161,6 +164,13 @@ impl Tally {
             has(id >= 4096, "a VLAN tag with high bits");
             (mark, rest) = (&rest[2..4], &rest[4..]);
         }
+        let [to_group, from_group] = [frame[0], frame[6]].map(|first| first & 1 == 1);
+        has(to_group && from_group, "a group source and destination");
+        has(to_group && !from_group, "a group destination alone");
+        has(
+            from_group && mark != TAG_MARK,
+            "a group source without F1C1",
+        );
         if mark == TAG_MARK && rest.len() >= 6 {
             has(rest[..2] != [0, 0], "reserved bytes not zero");
             has(rest[4..6] == TAG_MARK, "F1C1 behind F1C1");

@@ -41,7 +41,9 @@ fn key(random: &mut Random) -> ([u8; 6], u16) {
         10 => 4095,
         _ => random.below(4) as u16,
     };
-    ([2, 0, 0, 0, 0, random.below(12) as u8], vlan)
+    // Three of the destinations are groups, which are keys like others.
+    let last = random.below(12) as u8;
+    ([2 + u8::from(last < 3), 0, 0, 0, 0, last], vlan)
 }
 
 fn counter(random: &mut Random) -> u64 {
@@ -242,6 +244,8 @@ fn frame(random: &mut Random, pool: &[u8], table: &[Stream], f: &mut [u8; 2100])
     }
     // Whole heads are written where there may be no room for them: f is long enough, and `length` cuts them.
     f[..6].copy_from_slice(&destination);
+    // The pool's bytes alone would make every second source a group.
+    f[6] = f[6] & 0xFE | u8::from(random.chance(1, 16));
     let mut at = 12;
     if vlan != 0 || random.chance(1, 6) {
         f[12..14].copy_from_slice(&[0x81, 0x00]);
@@ -348,13 +352,13 @@ const CALLS: [&str; 7] = [
 ];
 /// The refusals that each call can give.
 const REFUSALS: [&[u8]; 7] = [
-    &[1, 2, 3, 4, 5, 6, 7, 8],
+    &[1, 2, 3, 4, 5, 14, 6, 7, 8],
     &[1, 9, 10, 11],
     &[1, 12],
     &[1, 12, 7],
     &[1],
     &[3, 4, 5, 8],
-    &[3, 4, 13, 8],
+    &[3, 4, 13, 14, 8],
 ];
 const COUNTERS: [&str; 8] = [
     "arrivals on network 0",
@@ -367,10 +371,18 @@ const COUNTERS: [&str; 8] = [
     "resets",
 ];
 
+/// What must come up with group sources, beside refusal 14.
+const GROUPS: [&str; 4] = [
+    "an arrival without a tag",
+    "a tagged frame for the tag writer",
+    "a tag taken out",
+    "an arrival for a key that no slot has",
+];
+
 /// How often each thing came up.
 struct Seen {
     calls: [u64; 7],
-    refused: [[u64; 14]; 7],
+    refused: [[u64; 15]; 7],
     /// By rule, then handed up, duplicate, rogue.
     verdicts: [[u64; 3]; 2],
     /// By window, then d + 65, in vector streams without take-any.
@@ -383,7 +395,18 @@ struct Seen {
     ticked_reset: u64,
     ticked_damaged: u64,
     mended: u64,
+    groups: [u64; 4],
     slots: [u64; 66],
+}
+
+/// The call's frame, if it has one, comes from a group.
+fn from_group(call: &Call) -> bool {
+    match call {
+        Call::Arrival { frame, .. } | Call::TakeTag { frame } | Call::WriteTag { frame, .. } => {
+            frame.get(6).map_or(false, |first| first & 1 == 1)
+        }
+        _ => false,
+    }
 }
 
 fn place(call: &Call) -> usize {
@@ -402,7 +425,7 @@ impl Seen {
     fn new() -> Seen {
         Seen {
             calls: [0; 7],
-            refused: [[0; 14]; 7],
+            refused: [[0; 15]; 7],
             verdicts: [[0; 3]; 2],
             differences: [[0; 131]; 3],
             take_any: 0,
@@ -413,6 +436,7 @@ impl Seen {
             ticked_reset: 0,
             ticked_damaged: 0,
             mended: 0,
+            groups: [0; 4],
             slots: [0; 66],
         }
     }
@@ -424,7 +448,7 @@ impl Seen {
         match answer {
             Answer::Refused(n) => {
                 self.refused[kind][usize::from(n)] += 1;
-                if let (Call::Arrival { frame, .. }, 7) = (call, n) {
+                if let (Call::Arrival { frame, .. }, 7 | 14) = (call, n) {
                     let vlan = if frame[12..14] == [0x81, 0x00] {
                         u16::from_be_bytes([frame[14], frame[15]]) & 0x0FFF
                     } else {
@@ -433,7 +457,9 @@ impl Seen {
                     let dest = nippitsun::dest_of([
                         frame[0], frame[1], frame[2], frame[3], frame[4], frame[5],
                     ]);
-                    self.shared_key_damaged += u64::from(with_key(before, dest, vlan) > 1);
+                    let slots = with_key(before, dest, vlan);
+                    self.shared_key_damaged += u64::from(n == 7 && slots > 1);
+                    self.groups[3] += u64::from(n == 14 && slots == 0);
                 }
             }
             Answer::HandedUp { slot, number, .. } => {
@@ -455,6 +481,11 @@ impl Seen {
                 }
             }
             Answer::Opened(_) | Answer::Tag { .. } => {}
+        }
+        if from_group(call) {
+            self.groups[0] += u64::from((kind, answer) == (0, Answer::Refused(5)));
+            self.groups[1] += u64::from(answer == Answer::Refused(13));
+            self.groups[2] += u64::from(kind == 5 && matches!(answer, Answer::Tag { .. }));
         }
         // A counter that falls has wrapped, but where an open wrote zeros.
         if !matches!(call, Call::Open(_)) {
@@ -525,6 +556,9 @@ impl Seen {
         }
         for (n, name) in COUNTERS.iter().enumerate() {
             list.push((format!("{} wraps", name), self.wrapped[n]));
+        }
+        for (n, name) in GROUPS.iter().enumerate() {
+            list.push((format!("{}, from a group", name), self.groups[n]));
         }
         for slots in [0, 1, 63, 64, 65] {
             list.push((format!("calls on {} slots", slots), self.slots[slots]));

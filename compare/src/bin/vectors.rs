@@ -1,5 +1,5 @@
 //! A fixed list of calls that are run and not proved, with what each answers and changes: document 01, "Run but not proved",
-//! and the places where a slip is likely.
+//! and the places where a slip is likely, order 1 of document 02 among them.
 //!
 //!     vectors product    the list on the compiled product
 //!     vectors second     the list on the second program
@@ -18,6 +18,8 @@ use std::process::ExitCode;
 
 const DESTINATION: [u8; 6] = [2, 0, 0, 0, 0, 1];
 const SOURCE: [u8; 6] = [2, 0, 0, 0, 0, 2];
+/// A destination that is a group.
+const GROUP: [u8; 6] = [3, 0, 0, 0, 0, 1];
 
 /// What the output holds before each call. No frame of the list has this byte, so what is written can be seen.
 const BLANK: u8 = 0xEE;
@@ -59,6 +61,12 @@ fn frame(length: usize, tags: Tags) -> Vec<u8> {
     }
     f.extend_from_slice(&[0x08, 0x00]);
     filled(f, length)
+}
+
+/// The frame with another first byte of its source.
+fn from_source(first: u8, mut frame: Vec<u8>) -> Vec<u8> {
+    frame[6] = first;
+    frame
 }
 
 fn filled(mut head: Vec<u8>, length: usize) -> Vec<u8> {
@@ -376,6 +384,34 @@ impl<S: Side> List<S> {
         self.arrival("another destination", 0, &stranger);
     }
 
+    fn sources(&mut self) {
+        self.section("Frames of 20 bytes: the first byte of the source, on fresh streams with an ordinary destination (slot 0) and a group (slot 1)");
+        let streams = [
+            fresh(),
+            Stream {
+                dest: dest_of(GROUP),
+                ..fresh()
+            },
+        ];
+        for first in [0x00, 0x01, 0x02, 0x03, 0x80, 0xFE, 0xFF] {
+            for (kind, tags) in [("plain", PLAIN), ("F1C1", tagged(7))] {
+                let mut f = from_source(first, frame(20, tags));
+                let what = format!("source {:02x}.., {}", first, kind);
+                self.table(&streams);
+                self.arrival(&what, 0, &f);
+                let call = Call::TakeTag { frame: &f };
+                self.call(&format!("take a tag out, {}", what), call, 2000);
+                let call = Call::WriteTag {
+                    frame: &f,
+                    number: 258,
+                };
+                self.call(&format!("write a tag, {}", what), call, 2000);
+                f[..6].copy_from_slice(&GROUP);
+                self.arrival(&format!("{}, to the group", what), 1, &f);
+            }
+        }
+    }
+
     fn tables(&mut self) {
         let mut other = settings(1, 4, 3);
         other.destination[5] = 9;
@@ -545,8 +581,11 @@ impl<S: Side> List<S> {
         );
         let mut stranger = frame(20, tagged(7));
         stranger[5] = 9;
-        let (long, short) = (frame(2001, PLAIN), frame(19, tagged(7)));
+        let group = |frame| from_source(3, frame);
+        let (long, short) = (group(frame(2001, PLAIN)), group(frame(19, tagged(7))));
         let (plain, known) = (frame(20, PLAIN), frame(20, tagged(101)));
+        let (plain_group, known_group) = (group(plain.clone()), group(known.clone()));
+        let stranger_group = group(stranger.clone());
         self.one(Stream {
             rule: 3,
             ..running()
@@ -555,7 +594,8 @@ impl<S: Side> List<S> {
             ("network 2", 2, &long),
             ("2001 bytes", 1, &long),
             ("19 bytes", 1, &short),
-            ("no tag", 1, &plain),
+            ("no tag", 1, &plain_group),
+            ("group source", 1, &stranger_group),
             ("another destination", 1, &stranger),
             ("damaged", 1, &known),
         ] {
@@ -569,7 +609,9 @@ impl<S: Side> List<S> {
             ("2001 bytes", &long),
             ("19 bytes", &short),
             ("no tag", &plain),
+            ("no tag, group source", &plain_group),
             ("tagged", &known),
+            ("tagged, group source", &known_group),
         ] {
             self.call(
                 &format!("take a tag out, {}", what),
@@ -914,6 +956,7 @@ fn run<S: Side>() -> List<S> {
     };
     list.frames();
     list.other_frames();
+    list.sources();
     list.tables();
     list.windows();
     list.times();

@@ -1,4 +1,4 @@
--- Take a tag out gives 3, 4, 5 and 8 as an arrival gives them, and writes as handed up does. Assumes nothing.
+-- Take a tag out gives 3, 4, 5 and 8 as an arrival gives them, never 14, and writes as handed up does. Assumes nothing.
 use Prim.Native.Nat.{ℕ, _-_, _≤_, _<_}
 use mathlib.Core.Path.{_≡_, refl, sym, ap, _∙_}
 use mathlib.Core.Logic.{_↔_}
@@ -10,24 +10,26 @@ use lib.ListN.{length}
 use borrow.Author.Tests.{le-ltb, lt-leb}
 use Rattle.refusal.specs.Checks.{Said}
 use Rattle.refusal.specs.Checks.Said.{refused, answers}
-use Rattle.refusal.specs.Numbers.{UNKNOWN, DAMAGED, ROOM}
+use Rattle.refusal.specs.Numbers.{TABLE, NETWORK, UNKNOWN, DAMAGED, ROOM, GROUP}
 use Rattle.record.specs.Sizes.{slotsMost}
 use Rattle.frame.specs.Bytes.{overlay}
-use Rattle.frame.specs.Frame.{Tag, readOf, untagged, headerOf, destOf, vlanOf, typeAt}
+use Rattle.frame.specs.Frame.{Tag, groupSource, readOf, untagged, headerOf, destOf, vlanOf, typeAt}
 use Rattle.frame.specs.TagCalls.{Outcome, Bare, takeFrom, takeTag}
 use Rattle.frame.specs.declared.Header.{Header}
 use Rattle.frame.proofs.Heads.{tag-of}
+use Rattle.frame.proofs.Refusals.{take-never-group}
 use Rattle.stream.specs.Record.{lawful}
 use Rattle.stream.specs.Decisions.{up}
 use Rattle.calls.specs.Table.{Table, at, search, hasKey}
-use Rattle.calls.specs.Calls.{arriving, Act, refuse, arrive, opens, closes, resets, ticks, arrivalAt, arrival, checked, act, answer, Answer, writtenFor}
-use Rattle.calls.specs.Laws.{byFrame, TakeRefusesFrame, TakeRefusesAlike, TakeWritesAlike}
+use Rattle.calls.specs.Calls.{arriving, Act, refuse, arrive, opens, closes, resets, ticks, admitted, arrivalAt, arrival, checked, act, answer, Answer, writtenFor}
+use Rattle.calls.specs.Laws.{byFrame, TakeRefusesFrame, TakeRefusesAlike, TakeWritesAlike, GroupReachesNone, GroupRefused}
+use Rattle.calls.proofs.Admits.{admits, admits-all, admits-none}
 use Rattle.calls.proofs.Places.{some-place}
 use Rattle.calls.proofs.Arrivals.{bare-length}
 
 -- once 1 and 2 are passed
 past : (t : Table) (network : ℕ) (f out : List ℕ) → length t ≤ slotsMost → network ≤ 1
-    → act t (arriving network f out) ≡ arrival t network f out (readOf f)
+    → act t (arriving network f out) ≡ arrival t network f out (admitted f (readOf f))
 unfolding act checked
 past t network f out m n = simp (le-ltb _ _ m, le-ltb _ _ n)
 
@@ -70,12 +72,16 @@ alike : {A B : Type 0} {m n : ℕ} → (_≡_ {A = Said A} (refused m) (refused 
 alike {A} {B} {m} {n} = (λ e. let k : m ≡ n = cc in ap refused k, λ e. let k : m ≡ n = cc in ap refused k)
 
 pub take-refuses-frame : TakeRefusesFrame
-unfolding takeTag takeFrom arrival answer
+unfolding takeTag takeFrom admitted arrival answer
 take-refuses-frame t network f out n m k b = rw (past t network f out m k) (go (readOf f))
   where
-    go : (x : Said Tag) → (answer t (arrival t network f out x) ≡ refused n) ↔ (takeFrom f out x .said ≡ refused n)
+    not-by-arrival : (s : Bool) (g : Tag) → answer t (arrival t network f out (cond s (refused GROUP) (answers g))) ≡ refused n → ⊥
+    not-by-arrival true g e = not-by b GROUP refl e
+    not-by-arrival false g e = arrival-not b t _ _ network f out e
+
+    go : (x : Said Tag) → (answer t (arrival t network f out (admitted f x)) ≡ refused n) ↔ (takeFrom f out x .said ≡ refused n)
     go (refused j) = alike
-    go (answers g) = (λ e. absurd (arrival-not b t _ _ network f out e), λ e. absurd (take-not b f out g e))
+    go (answers g) = (λ e. absurd (not-by-arrival (groupSource f) g e), λ e. absurd (take-not b f out g e))
 
 -- ---- 8
 
@@ -96,7 +102,7 @@ slot-of t f g e = ap (λ (h : Header). search (hasKey (h .dest) (h .vlan)) t) (t
 
 pub take-refuses-alike : TakeRefusesAlike
 unfolding takeTag takeFrom arrival answer
-take-refuses-alike t network f out n m k w l = rw (past t network f out m k) (go (readOf f) refl)
+take-refuses-alike t network f out n m k s w l = rw (past t network f out m k, admits-all f (readOf f) s) (go (readOf f) refl)
   where
     small : (r : Bool) (x : Answer) (y : Bare) → (cond r (refused ROOM) (answers x) ≡ refused n) ↔ (cond r (refused ROOM) (answers y) ≡ refused n)
     small true x y = alike
@@ -105,9 +111,9 @@ take-refuses-alike t network f out n m k w l = rw (past t network f out m k) (go
     go : (x : Said Tag) → readOf f ≡ x → (answer t (arrival t network f out x) ≡ refused n) ↔ (takeFrom f out x .said ≡ refused n)
     go (refused j) e = alike
     go (answers g) e =
-        let s = slot-of t f g e in
+        let p = slot-of t f g e in
         let a = arrival-says t _ (g .number) network f out (some-place _ t w) l in
-        rw (s, a, take-says f out g) (small (ltb (length out) (length f - 6)) _ _)
+        rw (p, a, take-says f out g) (small (ltb (length out) (length f - 6)) _ _)
 
 -- ---- what is written
 abbrev Takes : (f out : List ℕ) → Act → Type 0
@@ -135,16 +141,32 @@ module _ (t : Table) (network : ℕ) (f out : List ℕ) where
   nothing : {n : ℕ} → Taken f out (refuse n)
   nothing = record { fact = tt }
 
-  read : (x : Said Tag) → readOf f ≡ x → Taken f out (arrival t network f out x)
+  read : (x : Said Tag) → admitted f (readOf f) ≡ x → Taken f out (arrival t network f out x)
   unfolding arrival arrivalAt
   read (refused n) e = nothing
   read (answers g) e =
       taken (leb (length t) _) (λ h. nothing) (λ h. taken (not (lawful _)) (λ l. nothing)
-      (λ l. taken (ltb (length out) (length f - 6)) (λ r. nothing) (λ r. record { fact = tag-out f out g e r })))
+      (λ l. taken (ltb (length out) (length f - 6)) (λ r. nothing) (λ r. record { fact = tag-out f out g (admits f (readOf f) e .1) r })))
 
   all : Taken f out (act t (arriving network f out))
   unfolding act checked
-  all = taken (ltb slotsMost (length t)) (λ e. nothing) (λ e. taken (ltb 1 network) (λ e. nothing) (λ e. read (readOf f) refl))
+  all = taken (ltb slotsMost (length t)) (λ e. nothing) (λ e. taken (ltb 1 network) (λ e. nothing) (λ e. read (admitted f (readOf f)) refl))
 
 pub take-writes-alike : TakeWritesAlike
 take-writes-alike t network f out i number bare e = let k = rw e at (all t network f out) in k .fact
+
+-- ---- a group source
+
+pub group-reaches-none : GroupReachesNone
+unfolding act checked admitted arrival answer
+group-reaches-none t network f out s = go (ltb slotsMost (length t)) (ltb 1 network) (readOf f)
+  where
+    go : (a b : Bool) (x : Said Tag) → (n : ℕ) × (answer t (cond a (refuse TABLE) (cond b (refuse NETWORK) (arrival t network f out (admitted f x)))) ≡ refused n)
+    go true b x = (TABLE, refl)
+    go false true x = (NETWORK, refl)
+    go false false (refused k) = (k, refl)
+    go false false (answers g) = (GROUP, rw s)
+
+pub group-refused : GroupRefused
+unfolding arrival answer
+group-refused t network f out g m k e s = (rw (past t network f out m k, e, admits-none f g s), take-never-group f out)

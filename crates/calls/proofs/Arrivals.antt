@@ -1,5 +1,5 @@
 -- The steps of an arrival together are the arrival: each of three laws ends a walk. Assumes nothing.
---     arrival-refused    refused by 1 to 5
+--     arrival-refused    refused by 1 to 5 or 14
 --     arrival-unknown    refused by 6
 --     arrival-decided    every other arrival, refused by 7 or 8, or not refused
 use Prim.Native.Nat.{ℕ, _-_, _+_, _≤_, _<_}
@@ -30,7 +30,7 @@ use Rattle.stream.specs.declared.Weighed.{Weighed}
 use Rattle.stream.specs.declared.Weighed.the-variants as weighs
 use Rattle.stream.proofs.Steps.{steps-decide}
 use Rattle.calls.specs.Table.{Table, blank, at, search, found, hasKey}
-use Rattle.calls.specs.Calls.{arriving, refuse, arrive, arrivalAt, arrival, checked, act, after, answer, arrived, verdictWith, output, writtenFor, Meets}
+use Rattle.calls.specs.Calls.{arriving, refuse, arrive, admitted, arrivalAt, arrival, checked, act, after, answer, arrived, verdictWith, output, writtenFor, Meets}
 use Rattle.calls.specs.Said.{saidArrival}
 use Rattle.calls.specs.Steps.{asked, saidAsked, hasRoom, judgedAs, judged, recordOf, finished, bytesOf}
 use Rattle.calls.specs.declared.Found.the-variants.{At, Nothing}
@@ -40,6 +40,7 @@ use Rattle.calls.specs.declared.Judged.{Judged}
 use Rattle.calls.specs.declared.Judged.the-variants as judges
 use Rattle.calls.specs.declared.Answer.{Answer}
 use Rattle.calls.proofs.Acts.{by-act}
+use Rattle.calls.proofs.Admits.{admits}
 use Rattle.calls.proofs.Places.{found-at, found-none, some-place, no-place}
 
 -- the frame without its tag
@@ -61,14 +62,14 @@ after-judged s network weighs.Duplicate = refl
 after-judged s network weighs.Rogue = refl
 
 module _ (t : Table) (network : ℕ) (f out : List ℕ) where
-  -- 1 to 5 are asked first, and what follows goes by what was read
+  -- 1 to 5 and 14 are asked first, and what follows goes by what was read
   pub act-asked : act t (arriving network f out) ≡ arrival t network f out (asked (length t) network f)
   unfolding act checked arrival asked
   act-asked = go (ltb slotsMost (length t)) (ltb 1 network)
     where
       go : (a b : Bool)
-          → cond a (refuse TABLE) (cond b (refuse NETWORK) (arrival t network f out (readOf f)))
-          ≡ arrival t network f out (cond a (refused TABLE) (cond b (refused NETWORK) (readOf f)))
+          → cond a (refuse TABLE) (cond b (refuse NETWORK) (arrival t network f out (admitted f (readOf f))))
+          ≡ arrival t network f out (cond a (refused TABLE) (cond b (refused NETWORK) (admitted f (readOf f))))
       go true b = refl
       go false true = refl
       go false false = refl
@@ -78,7 +79,7 @@ module _ (t : Table) (network : ℕ) (f out : List ℕ) where
   asked-tag g e =
       let a = passed (ltb slotsMost (length t)) TABLE (sym e) in
       let b = passed (ltb 1 network) NETWORK (a .1) in
-      tag-of f g (sym (b .1))
+      tag-of f g (admits f (readOf f) (sym (b .1)) .1)
 
   pub arrival-refused : (r : Answer) {q : Asked} {n : ℕ} → saidAsked q ≡ asked (length t) network f → q ≡ asks.Refused n → saidArrival r ≡ refused n
       → Meets t (arriving network f out) (record { said = saidArrival r; table = t; output = out })

@@ -20,7 +20,7 @@ use Rattle.frame.specs.Refusals.{tooLong, short, noTag}
 use Rattle.stream.specs.Record.{settled, damaged}
 use Rattle.stream.specs.Decisions.{verdict, expires}
 use Rattle.calls.specs.Table.{Table, at, search, someSlot, hasKey, isFree, count}
-use Rattle.calls.specs.Calls.{Call, arriving, opening, closing, resetting, ticking, Act, refuse, closes, arrivalAt, arrival, inUse, open-call, checked, act, answer, Answer, arrived, placed, done, swept, verdictWith}
+use Rattle.calls.specs.Calls.{Call, arriving, opening, closing, resetting, ticking, Act, refuse, closes, admitted, arrivalAt, arrival, inUse, open-call, checked, act, answer, Answer, arrived, placed, done, swept, verdictWith}
 use Rattle.calls.specs.Refusals.{some, manySlots, noNetwork, checksOf, RefusedExactly}
 use Rattle.calls.proofs.Search.{some-cons}
 
@@ -76,6 +76,11 @@ unfolding answer
 answer-cond t true n a = refl
 answer-cond t false n a = refl
 
+admitted-cond : (f : List ℕ) (b : Bool) (n : ℕ) (x : Said Tag) → admitted f (cond b (refused n) x) ≡ cond b (refused n) (admitted f x)
+unfolding admitted
+admitted-cond f true n x = refl
+admitted-cond f false n x = refl
+
 arrival-cond : (t : Table) (network : ℕ) (f out : List ℕ) (b : Bool) (n : ℕ) (x : Said Tag)
     → answer t (arrival t network f out (cond b (refused n) x)) ≡ cond b (refused n) (answer t (arrival t network f out x))
 unfolding answer arrival
@@ -91,8 +96,8 @@ slotFor t f = search (hasKey (destOf f) (vlanOf f)) t
 arrival-says : (t : Table) (network : ℕ) (f out : List ℕ)
     → answer t (act t (arriving network f out))
     ≡ firstOf (checksOf t (arriving network f out)) (arrived (slotFor t f) (numberIn f) (verdictWith (length (untagged f)) (verdict (at t (slotFor t f)) (numberIn f))))
-unfolding act checked arrival arrivalAt answer checksOf firstOf headerOf
-arrival-says t network f out = simp (answer-cond, read-first, arrival-cond, no-network, no-stream)
+unfolding act checked admitted arrival arrivalAt answer checksOf firstOf headerOf
+arrival-says t network f out = simp (answer-cond, read-first, admitted-cond, arrival-cond, no-network, no-stream)
 
 module _ (t : Table) where
   open-says : (dest : List ℕ) (vlan rule window time : ℕ)

@@ -5,6 +5,7 @@ pub mod Lowest
 pub mod Visits
 -- The steps together are the calls: what ends a walk.
 pub mod Acts
+pub mod Admits
 pub mod Arrivals
 pub mod Slots
 -- Of the calls: their refusals, what they keep, no damage, taking a tag out alike, the two halves, the worked example.

@@ -13,7 +13,7 @@ use Rattle.refusal.specs.Checks.{Said}
 use Rattle.refusal.specs.Checks.Said.{refused, answers}
 use Rattle.record.specs.declared.Stream.{Stream}
 use Rattle.record.specs.Words.{yes}
-use Rattle.frame.specs.Frame.{Tag, readOf, destOf}
+use Rattle.frame.specs.Frame.{Tag, destOf}
 use Rattle.stream.specs.Record.{settled, lawful, damaged, closed}
 use Rattle.stream.specs.Decisions.{expires, ticked}
 use Rattle.stream.proofs.Keeps.{reset-lawful, opened-lawful, ticked-lawful, decided-lawful}
@@ -61,7 +61,7 @@ module _ (t : Table) where
 
   checked-known : (c : Call) → Known t (checked t c)
   unfolding checked open-call
-  checked-known (arriving network f out) = known (ltb 1 network) (λ e. nothing) (λ e. arrival-known network f out (readOf f))
+  checked-known (arriving network f out) = known (ltb 1 network) (λ e. nothing) (λ e. arrival-known network f out _)
   checked-known (opening dest vlan rule window time) =
       known (not (settled _)) (λ e. nothing) (λ e. known (someSlot _ t) (λ k. nothing) (λ k. known (not (someSlot isFree t)) (λ f. nothing)
       (λ f. record { fact = (some-place isFree t (not-false _ f), opened-lawful (destOf dest) vlan rule window time (not-false _ e), lowest-found isFree t (not-false _ f) .1) })))

@@ -8,12 +8,12 @@ use native.Mathlib.Omega.{arith}
 use lib.Dec.{ltb}
 use borrow.Author.Tests.{lt-ltb, le-ltb, eq-eqb, ne-eqb}
 use Rattle.refusal.specs.Checks.Said.{refused, answers}
-use Rattle.refusal.specs.Numbers.{TABLE, NETWORK, DAMAGED, ROOM, TAKEN, FULL, SLOT}
+use Rattle.refusal.specs.Numbers.{TABLE, NETWORK, DAMAGED, ROOM, TAKEN, FULL, SLOT, GROUP}
 use Rattle.record.specs.declared.Stream.{Stream}
 use Rattle.record.specs.Words.{yes}
 use Rattle.record.specs.Sizes.{slotsMost}
 use Rattle.frame.specs.TagCalls.{saidRead, refusalOf}
-use Rattle.frame.specs.Frame.{readOf}
+use Rattle.frame.specs.Frame.{groupSource, readOf}
 use Rattle.frame.specs.declared.Header.{Header}
 use Rattle.frame.specs.declared.TagRead.{TagRead}
 use Rattle.frame.specs.declared.TagRead.the-variants as read
@@ -23,6 +23,7 @@ use Rattle.stream.specs.declared.Weighed.{Weighed}
 use Rattle.stream.specs.declared.Weighed.the-variants.{Damaged}
 use Rattle.stream.specs.Steps.{weighed, said}
 use Rattle.stream.proofs.Steps.{steps-tell-verdict}
+use Rattle.calls.specs.Calls.{admitted}
 use Rattle.calls.specs.declared.Found.the-variants.{At, Nothing}
 use Rattle.calls.specs.declared.Survey.{Survey}
 use Rattle.calls.specs.declared.Judged.{Judged}
@@ -30,6 +31,7 @@ use Rattle.calls.specs.declared.Judged.the-variants as judges
 use Rattle.calls.specs.declared.Opened.the-variants as opened
 use Rattle.calls.specs.declared.Done.the-variants as done
 use Rattle.calls.specs.Steps.{asked, judgedAs, judged, notPlaced, placingOf, unchanged, closeChange, resetChange}
+use Rattle.calls.proofs.Admits.{admits-all, admits-none}
 
 -- ---- ask
 
@@ -43,16 +45,23 @@ module _ (slots network : ℕ) (f : List ℕ) where
   ask-network m n = simp (le-ltb _ _ m, lt-ltb _ _ n)
 
   module _ (few : slots ≤ slotsMost) (net : network ≤ 1) where
-    reads : asked slots network f ≡ readOf f
+    reads : asked slots network f ≡ admitted f (readOf f)
     unfolding asked
     reads = simp (le-ltb _ _ few, le-ltb _ _ net)
 
     pub ask-refused : {r : TagRead} {n m : ℕ} → saidRead r ≡ readOf f → r ≡ read.Refused m → n ≡ refusalOf r → refused n ≡ asked slots network f
-    ask-refused p q e = rw (e ∙ ap refusalOf q) (ap saidRead (sym q) ∙ p ∙ sym reads)
+    unfolding admitted
+    ask-refused p q e = rw (e ∙ ap refusalOf q) (ap (admitted f) (ap saidRead (sym q) ∙ p) ∙ sym reads)
 
-    pub ask-tagged : {r : TagRead} {h : Header} {number : ℕ} → saidRead r ≡ readOf f → r ≡ read.Tagged h number
-        → answers (record { header = h; number = number }) ≡ asked slots network f
-    ask-tagged p q = ap saidRead (sym q) ∙ p ∙ sym reads
+    module _ {r : TagRead} {h : Header} {number : ℕ} (p : saidRead r ≡ readOf f) (q : r ≡ read.Tagged h number) {b : Bool} (e : b ≡ groupSource f) where
+      of-tag : asked slots network f ≡ admitted f (answers (record { header = h; number = number }))
+      of-tag = reads ∙ ap (admitted f) (sym p ∙ ap saidRead q)
+
+      pub ask-group : b ≡ true → refused GROUP ≡ asked slots network f
+      ask-group s = sym (of-tag ∙ admits-none f _ (sym e ∙ s))
+
+      pub ask-tagged : b ≡ false → answers (record { header = h; number = number }) ≡ asked slots network f
+      ask-tagged s = sym (of-tag ∙ admits-all f _ (sym e ∙ s))
 
 -- ---- judge
 

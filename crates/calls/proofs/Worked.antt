@@ -1,20 +1,20 @@
--- The worked example and the premises of the laws, by computation. Assumes nothing.
+-- The worked example, the premises of the laws and the cases of order 1, by computation. Assumes nothing.
 use Prim.Native.Nat.{ℕ, zero, suc}
 use mathlib.Core.Path.{_≡_, refl}
 use lib.ListN.{getD, replicate}
 use Rattle.record.specs.Words.{yes}
-use Rattle.frame.specs.Frame.{hasVlan, vlanOf, typeAt, isTagged, headShort, tagShort, headerOf, readOf, cutAt}
+use Rattle.frame.specs.Frame.{groupSource, hasVlan, vlanOf, typeAt, isTagged, headShort, tagShort, headerOf, readOf, cutAt}
 use Rattle.stream.specs.History.{bitOf, bit, within, isEmpty}
 use Rattle.stream.specs.Record.{isFresh, settled, shaped, lawful, damaged}
 use Rattle.stream.specs.Decisions.{signed, difference, vectorCase, caseOf, stateAfter, outOfOrder, losses, tally, countsAfter, verdict, decided, reset, expires, ticked}
 use Rattle.calls.specs.Table.{blank, search, someSlot, hasKey, isFree, count}
-use Rattle.calls.specs.Calls.{arrivalAt, arrival, inUse, open-call, checked, act, after, answer}
+use Rattle.calls.specs.Calls.{admitted, arrivalAt, arrival, inUse, open-call, checked, act, after, answer}
 use Rattle.calls.specs.Laws.{forSlot}
-use Rattle.calls.specs.Example.{answersOf, WorkedExample, FreeMet, FilledMet}
+use Rattle.calls.specs.Example.{answersOf, WorkedExample, FreeMet, FilledMet, GroupCases}
 use Rattle.calls.proofs.Sound.{blank-sound}
 
 pub worked-example : WorkedExample
-unfolding answersOf act checked open-call arrival arrivalAt answer after search someSlot hasKey isFree count yes hasVlan vlanOf typeAt isTagged headShort tagShort headerOf readOf cutAt bitOf bit within isEmpty isFresh settled shaped lawful damaged signed difference vectorCase caseOf stateAfter outOfOrder losses tally countsAfter verdict decided reset expires ticked
+unfolding answersOf act checked open-call admitted arrival arrivalAt answer after search someSlot hasKey isFree count yes groupSource hasVlan vlanOf typeAt isTagged headShort tagShort headerOf readOf cutAt bitOf bit within isEmpty isFresh settled shaped lawful damaged signed difference vectorCase caseOf stateAfter outOfOrder losses tally countsAfter verdict decided reset expires ticked
 worked-example = refl
 
 still-blank : (n j : ℕ) → getD (replicate n blank) j blank ≡ blank
@@ -27,5 +27,9 @@ unfolding act checked open-call search someSlot hasKey isFree yes hasVlan vlanOf
 free-met = (λ j. rw (still-blank 8 j) blank-sound, refl, refl, refl, refl)
 
 pub filled-met : FilledMet
-unfolding act checked open-call arrival arrivalAt inUse answer after search someSlot hasKey isFree yes hasVlan vlanOf typeAt isTagged headShort tagShort headerOf readOf cutAt isEmpty isFresh settled shaped lawful
+unfolding act checked open-call admitted arrival arrivalAt inUse answer after search someSlot hasKey isFree yes groupSource hasVlan vlanOf typeAt isTagged headShort tagShort headerOf readOf cutAt isEmpty isFresh settled shaped lawful
 filled-met = (refl, refl, refl, refl, refl, refl)
+
+pub group-cases : GroupCases
+unfolding answersOf act checked open-call admitted arrival arrivalAt answer after search someSlot hasKey isFree yes groupSource hasVlan vlanOf typeAt isTagged headShort tagShort headerOf readOf cutAt isEmpty isFresh settled shaped lawful caseOf verdict
+group-cases = (refl, refl, refl, refl, refl, refl)

@@ -1,5 +1,5 @@
--- Document 01, "Calls and the order of checks": what each call on a table comes to, for every table and every input.
--- Assumes nothing.
+-- Document 01, "Calls and the order of checks", and document 02, order 1: what each call on a table comes to, for every
+-- table and every input. Assumes nothing.
 use Prim.Native.Nat.{ℕ, _-_}
 use mathlib.Core.Path.{_≡_}
 use mathlib.Core.Bool.{Bool, _&&_, not}
@@ -8,12 +8,12 @@ use lib.Dec.{ltb, leb}
 use lib.ListN.{length, set}
 use Rattle.refusal.specs.Checks.{Said}
 use Rattle.refusal.specs.Checks.Said.{refused, answers}
-use Rattle.refusal.specs.Numbers.{TABLE, NETWORK, UNKNOWN, DAMAGED, ROOM, SETTING, TAKEN, FULL, SLOT}
+use Rattle.refusal.specs.Numbers.{TABLE, NETWORK, UNKNOWN, DAMAGED, ROOM, SETTING, TAKEN, FULL, SLOT, GROUP}
 use Rattle.record.specs.declared.Stream.{Stream}
 use Rattle.record.specs.Words.{if_then_else_, yes}
 use Rattle.record.specs.Sizes.{slotsMost}
 use Rattle.frame.specs.Bytes.{overlay}
-use Rattle.frame.specs.Frame.{Tag, destOf, readOf, untagged}
+use Rattle.frame.specs.Frame.{Tag, destOf, groupSource, readOf, untagged}
 use Rattle.stream.specs.Record.{settled, lawful, damaged, opened, closed}
 use Rattle.stream.specs.Decisions.{verdict, decided, reset, expires, ticked}
 use Rattle.stream.specs.Decisions as decisions
@@ -38,9 +38,13 @@ pub data Act : Type 0 where
 
 -- ---- the checks, in their order
 
--- Arrival: 1 to 8 in this order; 1 stands in `act`, 2 in `checked`, 3 to 5 in `readOf`, and the rest here. The lowest
--- slot with the key is taken. 8 is given when the output holds fewer than length - 6 bytes, for every arrival that gets
--- this far, even a duplicate.
+-- Arrival: 1 to 8 in this order, and 14 after 5 and before 6; 1 stands in `act`, 2 in `checked`, 3 to 5 in `readOf`, and
+-- the rest here. A frame with a group source reaches no stream. The lowest slot with the key is taken. 8 is given when the
+-- output holds fewer than length - 6 bytes, for every arrival that gets this far, even a duplicate.
+unfoldable pub admitted : (frame : List ℕ) → Said Tag → Said Tag
+admitted f (refused n) = refused n
+admitted f (answers g) = if groupSource f then refused GROUP else answers g
+
 unfoldable pub arrivalAt : (t : Table) (slot number network : ℕ) (frame out : List ℕ) → Act
 arrivalAt t i number network f out =
     if leb (length t) i then refuse UNKNOWN
@@ -67,7 +71,7 @@ open-call t s =
 
 -- Each call, once 1 is passed.
 unfoldable pub checked : Table → Call → Act
-checked t (arriving network f out) = if ltb 1 network then refuse NETWORK else arrival t network f out (readOf f)
+checked t (arriving network f out) = if ltb 1 network then refuse NETWORK else arrival t network f out (admitted f (readOf f))
 checked t (opening dest vlan rule window time) = open-call t (opened (destOf dest) vlan rule window time)
 -- Close: 1, 12. A damaged record can be closed.
 checked t (closing i) = if inUse t i then closes i else refuse SLOT

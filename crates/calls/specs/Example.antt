@@ -1,13 +1,13 @@
 -- Document 01, "Event file and the program `events`": its worked example, as calls on a table of eight slots. It also shows
--- that the premises of the laws can be met. Assumes nothing.
+-- that the premises of the laws can be met, those of order 1 of document 02 among them. Assumes nothing.
 use Prim.Native.Nat.{ℕ}
 use mathlib.Core.Path.{_≡_}
 use mathlib.Core.Bool.{true, false}
 use mathlib.Core.List.{List, [], _∷_}
-use lib.ListN.{replicate}
+use lib.ListN.{replicate, set}
 use Rattle.refusal.specs.Checks.{Said}
 use Rattle.refusal.specs.Checks.Said.{refused, answers}
-use Rattle.refusal.specs.Numbers.{SHORT, ROOM}
+use Rattle.refusal.specs.Numbers.{SHORT, UNTAGGED, ROOM, GROUP}
 use Rattle.record.specs.Sizes.{vectorRule}
 use Rattle.frame.specs.Frame.{destOf, vlanOf, untagged}
 use Rattle.stream.specs.Record.{lawful, damaged, opened}
@@ -83,3 +83,21 @@ FilledMet =
     × (act filled (resetting 0) ≡ resets 0)
     × (answer filled (act filled (arriving 0 dest buffer)) ≡ refused SHORT)
     × (answer filled (act filled (arriving 0 frame [])) ≡ refused ROOM)
+
+-- Order 1: the frame with another first byte of its source, or of its destination.
+abbrev pub sentBy : (first : ℕ) → List ℕ
+sentBy b = set frame 6 b
+
+abbrev pub sentTo : (first : ℕ) → List ℕ
+sentTo b = set frame 0 b
+
+-- A source that begins with 01 or FF is a group's, and one with FE is not. 14 comes after 5, and before 6, for no stream is
+-- open in `eight`, and 8. A group destination is a key like any other.
+abbrev pub GroupCases : Type 0
+GroupCases =
+    (answer filled (act filled (arriving 0 (sentBy 0x01) buffer)) ≡ refused GROUP)
+    × (answer filled (act filled (arriving 0 (sentBy 0xFF) buffer)) ≡ refused GROUP)
+    × (act filled (arriving 0 (sentBy 0xFE) buffer) ≡ arrive 0 7 0 (untagged (sentBy 0xFE)))
+    × (answer filled (act filled (arriving 0 (untagged (sentBy 0x01)) buffer)) ≡ refused UNTAGGED)
+    × (answer eight (act eight (arriving 0 (sentBy 0x01) [])) ≡ refused GROUP)
+    × (answersOf eight (opening (set dest 0 0x01) 0 vectorRule 4 3 ∷ arriving 0 (sentTo 0x01) buffer ∷ []) ≡ answers (placed 0) ∷ answers (arrived 0 7 (handedUp 14)) ∷ [])

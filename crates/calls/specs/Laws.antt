@@ -1,5 +1,5 @@
--- Document 01, "Calls and the order of checks" and "What the contracts have to say": what holds of the calls.
--- Assumes nothing.
+-- Document 01, "Calls and the order of checks" and "What the contracts have to say", and document 02, order 1: what holds of
+-- the calls. Assumes nothing.
 use Prim.Native.Nat.{ℕ, _≤_, _<_}
 use mathlib.Core.Path.{_≡_}
 use mathlib.Core.Logic.{_↔_}
@@ -8,12 +8,12 @@ use mathlib.Core.List.{List}
 use lib.Dec.{eqb}
 use lib.ListN.{length}
 use Rattle.refusal.specs.Checks.Said.{refused, answers}
-use Rattle.refusal.specs.Numbers.{LONG, SHORT, UNTAGGED}
+use Rattle.refusal.specs.Numbers.{LONG, SHORT, UNTAGGED, GROUP}
 use Rattle.record.specs.declared.Stream.{Stream}
 use Rattle.record.specs.Sizes.{slotsMost}
 use Rattle.record.specs.Words.{yes}
 use Rattle.frame.specs.Bytes.{overlay}
-use Rattle.frame.specs.Frame.{destOf, vlanOf, writeOf}
+use Rattle.frame.specs.Frame.{Tag, destOf, groupSource, vlanOf, readOf, writeOf}
 use Rattle.frame.specs.TagCalls.{takeTag}
 use Rattle.stream.specs.Record.{lawful, damaged}
 use Rattle.stream.specs.Decisions.{up}
@@ -96,10 +96,10 @@ TakeRefusesFrame =
     (t : Table) (network : ℕ) (f out : List ℕ) (n : ℕ) → length t ≤ slotsMost → network ≤ 1 → byFrame n ≡ true
     → (answer t (act t (arriving network f out)) ≡ refused n) ↔ (takeTag f out .said ≡ refused n)
 
--- where 6 and 7 are passed too, both refuse with the same number, 8 among them, or neither does;
+-- where 14, 6 and 7 are passed too, both refuse with the same number, 8 among them, or neither does;
 abbrev pub TakeRefusesAlike : Type 0
 TakeRefusesAlike =
-    (t : Table) (network : ℕ) (f out : List ℕ) (n : ℕ) → length t ≤ slotsMost → network ≤ 1
+    (t : Table) (network : ℕ) (f out : List ℕ) (n : ℕ) → length t ≤ slotsMost → network ≤ 1 → groupSource f ≡ false
     → someSlot (hasKey (destOf f) (vlanOf f)) t ≡ true → lawful (at t (search (hasKey (destOf f) (vlanOf f)) t)) ≡ true
     → (answer t (act t (arriving network f out)) ≡ refused n) ↔ (takeTag f out .said ≡ refused n)
 
@@ -109,6 +109,18 @@ TakeWritesAlike =
     (t : Table) (network : ℕ) (f out : List ℕ) (i number : ℕ) (bare : List ℕ)
     → act t (arriving network f out) ≡ arrive i number network bare
     → takeTag f out ≡ record { said = answers (record { number = number; length = length bare }); bytes = writtenFor up bare out }
+
+-- Order 1: "Such a frame now reaches no stream." Every arrival of a frame with a group source is refused,
+abbrev pub GroupReachesNone : Type 0
+GroupReachesNone =
+    (t : Table) (network : ℕ) (f out : List ℕ) → groupSource f ≡ true
+    → (n : ℕ) × (answer t (act t (arriving network f out)) ≡ refused n)
+
+-- and once 1 to 5 are passed, with 14, which taking the tag out never gives: so `TakeRefusesAlike` needs its premise.
+abbrev pub GroupRefused : Type 0
+GroupRefused =
+    (t : Table) (network : ℕ) (f out : List ℕ) (g : Tag) → length t ≤ slotsMost → network ≤ 1 → readOf f ≡ answers g → groupSource f ≡ true
+    → (answer t (act t (arriving network f out)) ≡ refused GROUP) × (takeTag f out .said ≡ refused GROUP → ⊥)
 
 -- The two halves fit: a frame that went through the writer, and then through an arrival of a stream that takes any number,
 -- is handed up as it was before.

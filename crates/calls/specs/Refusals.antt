@@ -1,5 +1,6 @@
--- Document 01, "Calls and the order of checks": the condition of each refusal number of the table calls, in the words of
--- the paper's table, and each call's list of numbers in its order. They do not mention `act`. Assumes nothing.
+-- Document 01, "Calls and the order of checks", and document 02, order 1: the condition of each refusal number of the table
+-- calls, in the words of the table, and each call's list of numbers in its order. They do not mention `act`. Assumes
+-- nothing.
 use Prim.Native.Nat.{ℕ, _-_}
 use mathlib.Core.Path.{_≡_}
 use mathlib.Core.Logic.{_↔_}
@@ -9,10 +10,10 @@ use lib.Dec.{eqb, ltb, leb}
 use lib.ListN.{length}
 use Rattle.refusal.specs.Checks.{Check, First}
 use Rattle.refusal.specs.Checks.Said.{refused}
-use Rattle.refusal.specs.Numbers.{TABLE, NETWORK, LONG, SHORT, UNTAGGED, UNKNOWN, DAMAGED, ROOM, SETTING, TAKEN, FULL, SLOT}
+use Rattle.refusal.specs.Numbers.{TABLE, NETWORK, LONG, SHORT, UNTAGGED, UNKNOWN, DAMAGED, ROOM, SETTING, TAKEN, FULL, SLOT, GROUP}
 use Rattle.record.specs.Sizes.{slotsMost, frameMost}
 use Rattle.record.specs.declared.Stream.{Stream}
-use Rattle.frame.specs.Frame.{destOf, vlanOf}
+use Rattle.frame.specs.Frame.{destOf, groupSource, vlanOf}
 use Rattle.frame.specs.Refusals.{tooLong, short, noTag, tooSmall}
 use Rattle.stream.specs.Record.{settled, lawful, opened}
 use Rattle.calls.specs.Table.{Table, at, search, hasKey, isFree}
@@ -67,6 +68,7 @@ checksOf t (arriving network f out) =
     ∷ record { number = LONG; holds = tooLong frameMost f }
     ∷ record { number = SHORT; holds = short f }
     ∷ record { number = UNTAGGED; holds = noTag f }
+    ∷ record { number = GROUP; holds = groupSource f }
     ∷ record { number = UNKNOWN; holds = noStream (destOf f) (vlanOf f) t }
     ∷ record { number = DAMAGED; holds = damagedAt (destOf f) (vlanOf f) t }
     ∷ record { number = ROOM; holds = tooSmall (length f - 6) out }

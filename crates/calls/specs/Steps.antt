@@ -18,7 +18,7 @@ use Rattle.stream.specs.Decisions.{reset}
 use Rattle.stream.specs.Steps.{weighed, recordAfter}
 use Rattle.stream.specs.declared.Weighed.{Weighed}
 use Rattle.stream.specs.declared.Weighed.the-variants as weighs
-use Rattle.calls.specs.Calls.{Answer, arrived, handedUp, duplicate, rogue}
+use Rattle.calls.specs.Calls.{admitted, Answer, arrived, handedUp, duplicate, rogue}
 use Rattle.calls.specs.declared.Found.{Found}
 use Rattle.calls.specs.declared.Found.the-variants as found
 use Rattle.calls.specs.declared.Survey.{Survey}
@@ -33,12 +33,12 @@ use Rattle.calls.specs.declared.Change.{Change}
 
 -- ---- an arrival
 
--- 1 to 5, from the number of slots, the network and the frame.
+-- 1 to 5 and 14, from the number of slots, the network and the frame.
 unfoldable pub asked : (slots network : ℕ) (frame : List ℕ) → Said Tag
 asked slots network f =
     if ltb slotsMost slots then refused TABLE
     else if ltb 1 network then refused NETWORK
-    else readOf f
+    else admitted f (readOf f)
 
 abbrev pub saidAsked : Asked → Said Tag
 saidAsked (asks.Refused n) = refused n

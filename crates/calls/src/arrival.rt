@@ -1,5 +1,5 @@
 // An arrival: what it asks of the table, what it is to its record, and how it ends (document 01, "Calls and the order of
-// checks").
+// checks", and document 02, order 1).
 use super::Answer;
 use super::Asked;
 use super::Judged;
@@ -15,7 +15,7 @@ ghost use Rattle.refusal.specs.Numbers.{UNKNOWN};
 ghost use Rattle.calls.specs.Said.{saidArrival};
 ghost use Rattle.calls.specs.Steps.{saidAsked, asked, refusalIn, hasRoom, judgedAs, judged, recordOf, finished, bytesOf};
 
-// Arrival: 1 and 2, then 3, 4 and 5 as the frame's reader gives them.
+// Arrival: 1 and 2, then 3, 4 and 5 as the frame's reader gives them, then 14.
 pub fn ask(slots: usize, network: u8, frame: &[u8]) -> Asked
     ensures { λ r. ⌜ saidAsked r ≡ asked slots network (now (frame .entry)) ⌝ }
 {
@@ -29,6 +29,9 @@ pub fn ask(slots: usize, network: u8, frame: &[u8]) -> Asked
     let TagRead::Tagged(h, number) = got else {
         return Asked::Refused(frame::refusal_of(got));
     };
+    if frame::group_source(frame) {
+        return Asked::Refused(refusal::GROUP);
+    }
     Asked::For(h, number)
 }
 

@@ -59,7 +59,7 @@ pub enum Swept {
     Counted(u64, u64),
 }
 
-// What an arrival asks of the table, by its frame's header and number; or 1 to 5.
+// What an arrival asks of the table, by its frame's header and number; or 1 to 5 and 14.
 pub enum Asked {
     Refused(u8),
     For(Header, u16),

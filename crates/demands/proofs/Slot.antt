@@ -13,7 +13,7 @@ use Rattle.refusal.specs.Numbers.{TABLE, NETWORK, UNKNOWN, DAMAGED, ROOM, SETTI
 use Rattle.record.specs.declared.Stream.{Stream}
 use Rattle.record.specs.Words.{if_then_else_, yes}
 use Rattle.record.specs.Sizes.{slotsMost}
-use Rattle.frame.specs.Frame.{Tag, destOf, readOf, untagged}
+use Rattle.frame.specs.Frame.{Tag, destOf, untagged}
 use Rattle.stream.specs.Record.{settled, lawful, opened}
 use Rattle.stream.specs.Decisions.{Verdict, up, duplicate, rogue, verdict, decided}
 use Rattle.stream.proofs.Logic.{not-iff}
@@ -115,7 +115,7 @@ module _ (i : ℕ) (t : Table) (within : i < length t) where
   checked-sound : (c : Call) → Sound c (checked t c)
   unfolding checked
   checked-sound (arriving network f out) =
-      branch (ltb 1 network) (λ e. refuses NETWORK) (λ e. arrival-sound network f out (readOf f))
+      branch (ltb 1 network) (λ e. refuses NETWORK) (λ e. arrival-sound network f out _)
   checked-sound (opening dest vlan rule window time) =
       open-sound dest vlan rule window time (opened (destOf dest) vlan rule window time)
   checked-sound (closing j) = branch (inUse t j) (λ e. shuts j) (λ e. refuses SLOT)

@@ -8,15 +8,16 @@ use lib.Dec.{leb, ltb}
 use lib.ListN.{length}
 use Rattle.refusal.specs.Checks.{Said}
 use Rattle.refusal.specs.Checks.Said.{refused, answers}
-use Rattle.refusal.specs.Numbers.{TABLE, NETWORK, LONG, SHORT, UNTAGGED, UNKNOWN, DAMAGED, ROOM}
-use Rattle.refusal.proofs.Checks.{passed}
+use Rattle.refusal.specs.Numbers.{TABLE, NETWORK, UNKNOWN, DAMAGED, ROOM}
 use Rattle.record.specs.Words.{if_then_else_}
-use Rattle.record.specs.Sizes.{slotsMost, frameMost}
-use Rattle.frame.specs.Frame.{Tag, numberIn, headShort, isTagged, tagShort, headerOf, readOf}
+use Rattle.record.specs.Sizes.{slotsMost}
+use Rattle.frame.specs.Frame.{Tag, numberIn, readOf}
+use Rattle.frame.proofs.Heads.{tag-of}
 use Rattle.stream.specs.Record.{lawful}
 use Rattle.stream.specs.Decisions.{verdict}
 use Rattle.calls.specs.Table.{Table, at, search, hasKey}
-use Rattle.calls.specs.Calls.{arriving, Act, refuse, arrive, opens, closes, resets, ticks, arrivalAt, arrival, checked, act, after, answer, Verdict, arrived, verdictWith}
+use Rattle.calls.specs.Calls.{arriving, Act, refuse, arrive, opens, closes, resets, ticks, admitted, arrivalAt, arrival, checked, act, after, answer, Verdict, arrived, verdictWith}
+use Rattle.calls.proofs.Admits.{admits}
 use Rattle.demands.specs.Receiver.{Receiver, MeetsContract, theReceiver}
 use Rattle.demands.specs.Seen.{told}
 use Rattle.demands.specs.Demand2.{ArrivalsRecovered}
@@ -48,17 +49,6 @@ answered-arrival t (closes j) i n v e = absurd (let z : _≡_ {A = ℕ} 0 1 = cc
 answered-arrival t (resets j) i n v e = absurd (let z : _≡_ {A = ℕ} 0 1 = cc in omega arith)
 answered-arrival t ticks i n v e = absurd (let z : _≡_ {A = ℕ} 0 1 = cc in omega arith)
 
--- A frame that is read has its number in the tag.
-read-number : (f : List ℕ) (g : Tag) → answers g ≡ readOf f → g .number ≡ numberIn f
-unfolding readOf
-read-number f g e =
-    let a = passed (ltb frameMost (length f)) LONG e in
-    let b = passed (headShort f) SHORT (a .1) in
-    let c = passed (not (isTagged f)) UNTAGGED (b .1) in
-    let d = passed (tagShort f) SHORT (c .1) in
-    let z : g ≡ record { header = headerOf f; number = numberIn f } = cc (d .1) in
-    ap (λ (t : Tag). t .number) z
-
 -- An arrival that is not refused is of the number in the tag, on the network that it came by.
 abbrev Of : (network : ℕ) (f : List ℕ) → Act → Type 0
 Of network f (refuse n) = Unit {0}
@@ -79,7 +69,7 @@ module _ (t : Table) (network : ℕ) (f out : List ℕ) where
   no : (n : ℕ) → Fits network f (refuse n)
   no n = record { fact = tt }
 
-  arrival-fits : (r : Said Tag) → ((g : Tag) → answers g ≡ r → g .number ≡ numberIn f) → Fits network f (arrival t network f out r)
+  arrival-fits : (r : Said Tag) → ((g : Tag) → r ≡ answers g → g .number ≡ numberIn f) → Fits network f (arrival t network f out r)
   unfolding arrival arrivalAt
   arrival-fits (refused n) h = no n
   arrival-fits (answers g) h =
@@ -92,7 +82,7 @@ module _ (t : Table) (network : ℕ) (f out : List ℕ) where
   unfolding act checked
   act-fits =
       branch (ltb slotsMost (length t)) (no TABLE)
-      (branch (ltb 1 network) (no NETWORK) (arrival-fits (readOf f) (read-number f)))
+      (branch (ltb 1 network) (no NETWORK) (arrival-fits (admitted f (readOf f)) (λ g e. tag-of f g (admits f (readOf f) e .1) .number)))
 
 recovered : ArrivalsRecovered theReceiver
 unfolding theReceiver after

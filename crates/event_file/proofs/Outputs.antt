@@ -20,7 +20,8 @@ use Rattle.frame.proofs.Heads.{tag-of}
 use Rattle.stream.specs.Record.{settled, lawful}
 use Rattle.stream.specs.Decisions.{Verdict, up, duplicate, rogue, verdict}
 use Rattle.calls.specs.Table.{Table, at, someSlot, isFree}
-use Rattle.calls.specs.Calls.{Call, arriving, opening, closing, resetting, ticking, Act, refuse, arrivalAt, arrival, inUse, open-call, checked, act, after, answer, writtenFor, output as outputAfter}
+use Rattle.calls.specs.Calls.{Call, arriving, opening, closing, resetting, ticking, Act, refuse, admitted, arrivalAt, arrival, inUse, open-call, checked, act, after, answer, writtenFor, output as outputAfter}
+use Rattle.calls.proofs.Admits.{admits}
 use Rattle.calls.proofs.Arrivals.{bare-length}
 use Rattle.event_file.specs.Records.{eventOf, askedBy, asked}
 use Rattle.event_file.specs.Lines.{told}
@@ -39,7 +40,7 @@ module _ (t : Table) (network : ℕ) (f out other : List ℕ) (e : length out �
   pub act-alike : act t (arriving network f out) ≡ act t (arriving network f other)
   unfolding act checked
   act-alike =
-      ap (λ (a : Act). if ltb slotsMost (length t) then refuse TABLE else if ltb 1 network then refuse NETWORK else a) (alike (readOf f))
+      ap (λ (a : Act). if ltb slotsMost (length t) then refuse TABLE else if ltb 1 network then refuse NETWORK else a) (alike _)
 
 module _ (t : Table) (b out : List ℕ) (h : length out ≡ frameMost) where
   by-event : (e : Event) → (entryFor t (askedBy out b e) ≡ entryFor t (askedBy output b e)) × (tableAfter t (askedBy out b e) ≡ tableAfter t (askedBy output b e))
@@ -111,17 +112,17 @@ module _ (t : Table) (network : ℕ) (f out : List ℕ) where
   written bare h duplicate = refl
   written bare h rogue = refl
 
-  read : (x : Said Tag) → readOf f ≡ x → Leaves t out P refl (arrival t network f out x)
+  read : (x : Said Tag) → admitted f (readOf f) ≡ x → Leaves t out P refl (arrival t network f out x)
   unfolding arrival arrivalAt outputAfter
   read (refused n) e = none
   read (answers g) e =
       either t out P refl (leb (length t) _) (λ _. none) (λ _. either t out P refl (not (lawful _)) (λ _. none) (λ _. either t out P refl (ltb (length out) (length f - 6)) (λ _. none) (λ r.
-      let bare : length (untagged f) ≡ length f - 6 = bare-length f (typeAt f) (omega (arith, tag-of f g e .room)) in
+      let bare : length (untagged f) ≡ length f - 6 = bare-length f (typeAt f) (omega (arith, tag-of f g (admits f (readOf f) e .1) .room)) in
       record { fact = written (untagged f) (omega (arith, ltb-false (length out) (length f - 6) r)) (verdict (at t _) (g .number)) })))
 
   arrival-length : length (outputAfter t out (act t (arriving network f out))) ≡ length out
   unfolding checked
-  arrival-length = act-leaves t out P refl (arriving network f out) (either t out P refl (ltb 1 network) (λ _. none) (λ _. read (readOf f) refl)) .fact
+  arrival-length = act-leaves t out P refl (arriving network f out) (either t out P refl (ltb 1 network) (λ _. none) (λ _. read _ refl)) .fact
 
 pub output-length : OutputLength
 unfolding asked askedBy outAfter

@@ -1,4 +1,5 @@
--- Putting a tag in and taking it out gives the frame and the number back. Assumes nothing.
+-- Putting a tag in and taking it out gives the frame and the number back, and no frame with a group source gets one.
+-- Assumes nothing.
 use mathlib.Core.Path.{_≡_, refl, sym, ap, _∙_}
 use Prim.Native.Nat.{ℕ, _+_, _-_, _*_, _/_, _%_, _≤_, _<_}
 use native.Mathlib.Omega.{arith}
@@ -12,13 +13,13 @@ use Rattle.refusal.specs.Checks.{Said}
 use Rattle.refusal.specs.Checks.Said.{refused, answers}
 use Rattle.refusal.specs.Numbers.{ROOM}
 use Rattle.frame.specs.Bytes.{word, overlay}
-use Rattle.frame.specs.Frame.{typeAt, hasVlan, isTagged, headerOf, destOf, vlanOf, tagBytes, cutAt, tagAt, untagged, tagged, writeOf}
+use Rattle.frame.specs.Frame.{typeAt, groupSource, hasVlan, isTagged, headerOf, destOf, vlanOf, tagBytes, cutAt, tagAt, untagged, tagged, writeOf}
 use Rattle.frame.specs.TagCalls.{Outcome, writeInto, writeTag, takeFrom, takeTag}
-use Rattle.frame.specs.RoundTrips.{PutThenTake, WriteThenTake}
+use Rattle.frame.specs.RoundTrips.{PutThenTake, NoGroupWritten, WriteThenTake}
 use Rattle.frame.proofs.Bytes.{overlay-front}
 use Rattle.frame.proofs.Heads.{type-vlan, type-plain, type-least, read-is}
 use Rattle.frame.proofs.Writes.{tag-length, wrote-is}
-use Rattle.frame.proofs.Words.{word-front, word-at, word-take, Place, plain, vlan, place}
+use Rattle.frame.proofs.Words.{word-front, word-at, word-take, same-source, Place, plain, vlan, place}
 
 -- ---- put, then take
 
@@ -98,6 +99,14 @@ put-then-take f n g small e =
           ∙ rw (same-dest f n (m .room), same-vlan f n (m .room), is-tagged f n (m .room), p, the-number f n (m .room) small),
       untag-tag f n (m .room),
     )
+
+pub no-group-written : NoGroupWritten
+unfolding tagAt
+no-group-written f n g e =
+    let m = wrote-is f n e in
+    let o : ℕ = typeAt f in
+    let b : groupSource (tagged f n) ≡ groupSource f = ap groupSource (append-assoc (take o f) (tagBytes n) (drop o f)) ∙ same-source o f _ (type-least f .0) (omega (arith, m .room)) in
+    (m .remains, ap groupSource (m .same) ∙ b ∙ m .remains)
 
 -- ---- the two calls
 

@@ -1,22 +1,22 @@
 -- Taking a tag out and putting the same number in, as document 01 has it. Assumes nothing.
-use mathlib.Core.Path.{_≡_, sym, ap, _∙_}
+use mathlib.Core.Path.{_≡_, refl, sym, ap, _∙_}
 use Prim.Native.Nat.{ℕ, _+_, _-_, _/_, _%_, _≤_, _<_}
 use native.Mathlib.Omega.{arith}
 use mathlib.Core.Bool.{true, false}
-use mathlib.Core.List.{List, _++_, append-assoc}
+use mathlib.Core.List.{List, [], _∷_, _++_, append-assoc}
 use lib.ListN.{length, getD, take, drop, length-append, length-drop, take-append-drop}
 use lib.Seq.{getD-drop, length-take-le, take-at, drop-at, drop-drop}
 use lib.Dec.{eqb}
 use borrow.Author.Tests.{eq-eqb, ne-eqb, eqb-true, eqb-false}
 use Rattle.refusal.specs.Checks.Said.{refused, answers}
-use Rattle.refusal.specs.Numbers.{SHORT, TAGGED}
+use Rattle.refusal.specs.Numbers.{SHORT, TAGGED, GROUP}
 use Rattle.record.specs.Sizes.{untaggedMost}
 use Rattle.frame.specs.Bytes.{word, Bytes}
-use Rattle.frame.specs.Frame.{Tag, typeAt, hasVlan, isTagged, readOf, tagBytes, cutAt, tagAt, untagged, reservedOf, formerOf, writeOf}
-use Rattle.frame.specs.RoundTrips.{TakeThenPut, FormerTag, FormerVlan, FormerVlanTag, FormerVlanShort}
-use Rattle.frame.proofs.Heads.{type-vlan, type-plain, head-cut, TagIs, tag-of}
-use Rattle.frame.proofs.Writes.{write-short, write-tagged, write-whole, wrote-is}
-use Rattle.frame.proofs.Words.{word-front, word-at, word-take, word-drop, Place, plain, vlan, place, six}
+use Rattle.frame.specs.Frame.{Tag, typeAt, groupSource, hasVlan, vlanOf, isTagged, headShort, tagShort, headerOf, readOf, tagBytes, cutAt, tagAt, untagged, reservedOf, formerOf, writeOf}
+use Rattle.frame.specs.RoundTrips.{TakeThenPut, FormerTag, FormerVlan, FormerVlanNeeds, FormerVlanTag, FormerVlanShort}
+use Rattle.frame.proofs.Heads.{type-least, type-vlan, type-plain, head-cut, TagIs, tag-of}
+use Rattle.frame.proofs.Writes.{write-short, write-tagged, write-group, write-whole, wrote-is}
+use Rattle.frame.proofs.Words.{word-front, word-at, word-take, word-drop, same-source, Place, plain, vlan, place, six}
 use Rattle.frame.proofs.PutThenTake.{front, inside}
 
 -- the words of a frame whose tag was taken out
@@ -63,6 +63,11 @@ module _ (f : List ℕ) (t : Tag) (read : readOf f ≡ answers t) where
   former-at : word (untagged f) (typeAt f) ≡ formerOf f
   former-at = cut-behind f (typeAt f) room (typeAt f) 0 (omega arith) ∙ ap (word f) (omega arith)
 
+  -- and the source is the same
+  source : groupSource (untagged f) ≡ groupSource f
+  unfolding cutAt
+  source = same-source (typeAt f) f _ (type-least f .0) (omega (arith, room))
+
   -- the type field stays where it was, unless 8100 comes to stand at 12
   kept : (hasVlan f ≡ false → formerOf f ≡ 0x8100 → ⊥) → typeAt (untagged f) ≡ typeAt f
   kept h = go (place f)
@@ -104,10 +109,10 @@ module _ (f : List ℕ) (t : Tag) (read : readOf f ≡ answers t) where
     put-later-carries : word f 22 ≡ 0xF1C1 → writeOf (untagged f) (t .number) ≡ refused TAGGED
     put-later-carries h = let m = moved v e in write-tagged (untagged f) _ few (omega (arith, cut-length f (typeAt f) room)) (later ∙ eq-eqb _ _ h)
 
-    put-later : (word f 22 ≡ 0xF1C1 → ⊥) → writeOf (untagged f) (t .number) ≡ answers (tagAt (untagged f) 16 (t .number))
-    put-later h =
+    put-later : groupSource f ≡ false → (word f 22 ≡ 0xF1C1 → ⊥) → writeOf (untagged f) (t .number) ≡ answers (tagAt (untagged f) 16 (t .number))
+    put-later g h =
         let m = moved v e in
-        write-whole (untagged f) _ few (omega (arith, cut-length f (typeAt f) room)) (later ∙ ne-eqb _ _ h) ∙ ap (λ (o : ℕ). answers (tagAt (untagged f) o (t .number))) (m .1)
+        write-whole (untagged f) _ few (omega (arith, cut-length f (typeAt f) room)) (later ∙ ne-eqb _ _ h) (source ∙ g) ∙ ap (λ (o : ℕ). answers (tagAt (untagged f) o (t .number))) (m .1)
 
   -- the tag's six bytes, where its reserved bytes are zero
   tag-bytes : Bytes f → reservedOf f ≡ 0 → take 6 (drop (typeAt f) f) ≡ tagBytes (t .number)
@@ -130,16 +135,16 @@ module _ (f : List ℕ) (t : Tag) (read : readOf f ≡ answers t) where
       six l (simp length-drop (omega (arith, room))) ∙ rw (e0, e1, e2, e3, e4, e5)
 
   -- with zero reserved bytes, and a former type that is neither F1C1 nor, with no VLAN tag, 8100, it is the same frame
-  put-same : Bytes f → reservedOf f ≡ 0 → (formerOf f ≡ 0xF1C1 → ⊥) → (hasVlan f ≡ false → formerOf f ≡ 0x8100 → ⊥) → writeOf (untagged f) (t .number) ≡ answers f
-  put-same b z u x =
+  put-same : Bytes f → groupSource f ≡ false → reservedOf f ≡ 0 → (formerOf f ≡ 0xF1C1 → ⊥) → (hasVlan f ≡ false → formerOf f ≡ 0x8100 → ⊥) → writeOf (untagged f) (t .number) ≡ answers f
+  put-same b g z u x =
       let k = kept x in
-      write-whole (untagged f) _ few (rw k long) (tag-then k ∙ ne-eqb _ _ u)
+      write-whole (untagged f) _ few (rw k long) (tag-then k ∙ ne-eqb _ _ u) (source ∙ g)
       ∙ ap (λ (o : ℕ). answers (tagAt (untagged f) o (t .number))) k
       ∙ ap answers (tag-cut f (typeAt f) room (t .number) (tag-bytes b z))
 
   -- and only then
   put-same-only : writeOf (untagged f) (t .number) ≡ answers f
-      → (reservedOf f ≡ 0) × (formerOf f ≡ 0xF1C1 → ⊥) × (hasVlan f ≡ false → formerOf f ≡ 0x8100 → ⊥)
+      → (groupSource f ≡ false) × (reservedOf f ≡ 0) × (formerOf f ≡ 0xF1C1 → ⊥) × (hasVlan f ≡ false → formerOf f ≡ 0x8100 → ⊥)
   unfolding isTagged
   put-same-only e =
       let u : List ℕ = untagged f in
@@ -153,17 +158,32 @@ module _ (f : List ℕ) (t : Tag) (read : readOf f ≡ answers t) where
       omega arith) in
       let k = kept h in
       let r : reservedOf f ≡ 0 = ap (λ (l : List ℕ). word l (typeAt f + 2)) (m .same) ∙ inside u n (m .room) (typeAt f + 2) 2 (omega arith) in
-      (r, (λ x. eqb-false _ _ (m .plain) (ap (word u) k ∙ former-at ∙ x)), h)
+      (sym source ∙ m .remains, r, (λ x. eqb-false _ _ (m .plain) (ap (word u) k ∙ former-at ∙ x)), h)
 
 -- the statements
 pub take-then-put : TakeThenPut
-take-then-put f t b read = (put-same-only f t read, λ p. put-same f t read b (p .0) (p .1) (p .2))
+take-then-put f t b read = (put-same-only f t read, λ p. put-same f t read b (p .0) (p .1) (p .2) (p .3))
 
 pub former-tag : FormerTag
 former-tag = put-carries
 
 pub former-vlan : FormerVlan
-former-vlan f t read v e s n = put-later f t read v e s n
+former-vlan f g t read v e s n = put-later f t read v e s g n
+
+-- a frame with a group source whose former type is 8100: the writer gives 14
+abbrev reflected : List ℕ
+reflected =
+    0x02 ∷ 0 ∷ 0 ∷ 0 ∷ 0 ∷ 0x01
+    ∷ 0x01 ∷ 0 ∷ 0 ∷ 0 ∷ 0 ∷ 0x02
+    ∷ 0xF1 ∷ 0xC1 ∷ 0 ∷ 0 ∷ 0 ∷ 0x07
+    ∷ 0x81 ∷ 0 ∷ 0 ∷ 0 ∷ 0x08 ∷ 0 ∷ []
+
+pub former-vlan-needs : FormerVlanNeeds
+unfolding readOf headerOf headShort tagShort typeAt hasVlan vlanOf isTagged groupSource cutAt writeOf
+former-vlan-needs all =
+    let w : refused GROUP ≡ answers _ = all reflected (record { header = headerOf reflected; number = 7 }) refl refl refl (omega arith) (λ e. omega (arith, e)) in
+    let z : _≡_ {A = ℕ} 0 1 = cc in
+    omega arith
 
 pub former-vlan-tag : FormerVlanTag
 former-vlan-tag f t read v e s n = put-later-carries f t read v e s n

@@ -1,16 +1,17 @@
--- Words of a frame that is put together from parts, where its type field is, and its first bytes. Assumes nothing.
+-- Words of a frame that is put together from parts, its source, where its type field is, and its first bytes.
+-- Assumes nothing.
 use mathlib.Core.Path.{_≡_, refl, sym, ap, _∙_}
-use Prim.Native.Nat.{ℕ, _+_, _≤_}
+use Prim.Native.Nat.{ℕ, _+_, _%_, _≤_, _<_}
 use native.Mathlib.Omega.{arith}
 use native.Mathlib.Nat.{add-assoc}
 use mathlib.Core.Bool.{Bool, true, false}
 use mathlib.Core.List.{List, [], _∷_, _++_}
-use lib.ListN.{length, getD, take, drop, List·getD-append}
-use lib.Seq.{getD-append-add, getD-take, getD-drop}
+use lib.ListN.{length, getD, take, drop, List·getD-append, List·getD-eq-default}
+use lib.Seq.{getD-append-add, getD-take, getD-drop, length-take-le}
 use lib.Dec.{eqb}
 use borrow.Author.Tests.{eqb-true, eqb-false}
 use Rattle.frame.specs.Bytes.{word}
-use Rattle.frame.specs.Frame.{typeAt, hasVlan}
+use Rattle.frame.specs.Frame.{typeAt, groupSource, hasVlan}
 use Rattle.frame.proofs.Heads.{type-vlan, type-plain}
 
 -- ---- a word before a seam and behind it
@@ -29,6 +30,19 @@ word-take o f i h = rw (getD-take o f i 0 (omega arith), getD-take o f (i + 1) 0
 
 pub word-drop : (k : ℕ) (f : List ℕ) (j : ℕ) → word (drop k f) j ≡ word f (k + j)
 word-drop k f j = rw (getD-drop k f j 0, getD-drop k f (j + 1) 0, add-assoc k j 1)
+
+-- ---- the source
+
+pub no-source : (f : List ℕ) → length f < 7 → false ≡ groupSource f
+unfolding groupSource
+no-source f h = rw (List·getD-eq-default f 0 {n = 6} (omega arith))
+
+-- it stands before the tag: what follows does not change it
+pub same-source : (o : ℕ) (f x : List ℕ) → 12 ≤ o → o ≤ length f → groupSource (take o f ++ x) ≡ groupSource f
+unfolding groupSource
+same-source o f x h r =
+    let b : getD (take o f ++ x) 6 0 ≡ getD f 6 0 = List·getD-append (take o f) x 0 6 (omega (arith, length-take-le o f r)) ∙ getD-take o f 6 0 (omega arith) in
+    ap (λ (k : ℕ). eqb (k % 2) 1) b
 
 -- ---- where the type field is
 

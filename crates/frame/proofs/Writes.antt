@@ -10,11 +10,11 @@ use lib.Dec.{ltb, eqb}
 use borrow.Author.Tests.{lt-ltb, le-ltb, le-leb, lt-leb, ne-eqb, ltb-false}
 use Rattle.refusal.specs.Checks.{Said}
 use Rattle.refusal.specs.Checks.Said.{refused, answers}
-use Rattle.refusal.specs.Numbers.{LONG, SHORT, ROOM, TAGGED}
+use Rattle.refusal.specs.Numbers.{LONG, SHORT, ROOM, TAGGED, GROUP}
 use Rattle.refusal.proofs.Checks.{passed, same-value}
 use Rattle.record.specs.Sizes.{frameMost, untaggedMost}
 use Rattle.frame.specs.Bytes.{overlay}
-use Rattle.frame.specs.Frame.{typeAt, hasVlan, isTagged, headShort, readOf, cutAt, tagAt, tagged, writeOf}
+use Rattle.frame.specs.Frame.{typeAt, groupSource, hasVlan, isTagged, headShort, readOf, cutAt, tagAt, tagged, writeOf}
 use Rattle.frame.specs.TagCalls.{Outcome, takeTag, takeFrom, writeInto, writeTag, saidRead, refusalOf, typePlace, cutFits, writtenWithout, tagFits, writtenWith}
 use Rattle.frame.specs.declared.Header.{Header}
 use Rattle.frame.specs.declared.TagRead.{TagRead}
@@ -159,18 +159,22 @@ module _ (f : List ℕ) (n : ℕ) where
     unfolding writeOf
     write-tagged r t = simp (le-ltb _ _ few, head-whole f r, t)
 
-    pub write-whole : typeAt f + 2 ≤ length f → isTagged f ≡ false → writeOf f n ≡ answers (tagged f n)
+    pub write-group : typeAt f + 2 ≤ length f → isTagged f ≡ false → groupSource f ≡ true → writeOf f n ≡ refused GROUP
     unfolding writeOf
-    write-whole r t = simp (le-ltb _ _ few, head-whole f r, t)
+    write-group r t g = simp (le-ltb _ _ few, head-whole f r, t, g)
+
+    pub write-whole : typeAt f + 2 ≤ length f → isTagged f ≡ false → groupSource f ≡ false → writeOf f n ≡ answers (tagged f n)
+    unfolding writeOf
+    write-whole r t g = simp (le-ltb _ _ few, head-whole f r, t, g)
 
   module _ (out : List ℕ) where
     pub write-refused : {k : ℕ} → writeOf f n ≡ refused k → (refused k ≡ writeTag f n out .said) × (out ≡ writeTag f n out .bytes)
     unfolding writeTag writeInto
     write-refused e = rw e (refl, refl)
 
-    module _ (h : Header) (k : HeadIs f h) (few : length f ≤ untaggedMost) (t : h .tagged ≡ false) where
+    module _ (h : Header) (k : HeadIs f h) (few : length f ≤ untaggedMost) (t : h .tagged ≡ false) {g : Bool} (e : g ≡ groupSource f) (s : g ≡ false) where
       whole : writeOf f n ≡ answers (tagged f n)
-      whole = write-whole few (k .room) (sym (k .tagged) ∙ t)
+      whole = write-whole few (k .room) (sym (k .tagged) ∙ t) (sym e ∙ s)
 
       long : length (tagged f n) ≡ length f + 6
       long = tag-length f (typeAt f) n (omega (arith, k .room))
@@ -192,6 +196,7 @@ pub record WroteIs (f : List ℕ) (n : ℕ) (g : List ℕ) : Type 0 where
   pub few : length f ≤ untaggedMost
   pub room : typeAt f + 2 ≤ length f
   pub plain : isTagged f ≡ false
+  pub remains : groupSource f ≡ false
   pub same : g ≡ tagged f n
 
 pub wrote-is : (f : List ℕ) (n : ℕ) {g : List ℕ} → writeOf f n ≡ answers g → WroteIs f n g
@@ -200,7 +205,8 @@ wrote-is f n e =
     let a = passed (ltb untaggedMost (length f)) LONG (sym e) in
     let b = passed (headShort f) SHORT (a .1) in
     let c = passed (isTagged f) TAGGED (b .1) in
-    record { few = ltb-false _ _ (a .0); room = head-room f (b .0); plain = c .0; same = cc (c .1) }
+    let d = passed (groupSource f) GROUP (c .1) in
+    record { few = ltb-false _ _ (a .0); room = head-room f (b .0); plain = c .0; remains = d .0; same = cc (d .1) }
 
 -- what write a tag answers fits into the output
 pub written-fits : (f : List ℕ) (n : ℕ) (out : List ℕ) {l : ℕ} → writeTag f n out .said ≡ answers l → l ≤ length out

@@ -1,13 +1,14 @@
--- Document 01, "The frame": what its bytes mean, how a tag is read, taken out and put in. No buffers here.
+-- Document 01, "The frame", and document 02, order 1: what its bytes mean, how a tag is read, taken out and put in. No buffers
+-- here.
 -- Assumes nothing.
 use Prim.Native.Nat.{ℕ, _+_, _*_, _/_, _%_, _^_}
 use mathlib.Core.Bool.{Bool, _&&_, _||_, not}
 use mathlib.Core.List.{List, [], _∷_, _++_}
-use lib.ListN.{length, take, drop}
+use lib.ListN.{length, getD, take, drop}
 use lib.Dec.{ltb, eqb}
 use Rattle.refusal.specs.Checks.{Said}
 use Rattle.refusal.specs.Checks.Said.{refused, answers}
-use Rattle.refusal.specs.Numbers.{LONG, SHORT, UNTAGGED, TAGGED}
+use Rattle.refusal.specs.Numbers.{LONG, SHORT, UNTAGGED, TAGGED, GROUP}
 use Rattle.record.specs.Words.{if_then_else_}
 use Rattle.record.specs.Sizes.{frameMost, untaggedMost}
 use Rattle.frame.specs.Bytes.{word}
@@ -16,6 +17,10 @@ use Rattle.frame.specs.declared.Header.{Header}
 -- Destination 6 bytes: as one number, high byte first.
 abbrev pub destOf : List ℕ → ℕ
 destOf f = word f 0 * 2 ^ 32 + word f 2 * 2 ^ 16 + word f 4
+
+-- Source 6 bytes: a group source has "the lowest bit of the first source byte set" (order 1).
+unfoldable pub groupSource : List ℕ → Bool
+groupSource f = eqb (getD f 6 0 % 2) 1
 
 -- If the two bytes at 12 are 8100 hex, a VLAN tag of 4 bytes stands there;
 unfoldable pub hasVlan : List ℕ → Bool
@@ -94,10 +99,11 @@ tagAt f o n = take o f ++ tagBytes n ++ drop o f
 abbrev pub tagged : (f : List ℕ) (number : ℕ) → List ℕ
 tagged f n = tagAt f (typeAt f) n
 
--- What the writer makes of a frame: 3 above 1994 bytes, 4 by the 14 and 18 byte rules only, 13, or the tagged frame.
+-- What the writer makes of a frame: 3 above 1994 bytes, 4 by the 14 and 18 byte rules only, 13, 14, or the tagged frame.
 unfoldable pub writeOf : (f : List ℕ) (number : ℕ) → Said (List ℕ)
 writeOf f n =
     if ltb untaggedMost (length f) then refused LONG
     else if headShort f then refused SHORT
     else if isTagged f then refused TAGGED
+    else if groupSource f then refused GROUP
     else answers (tagged f n)

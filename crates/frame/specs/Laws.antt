@@ -1,5 +1,5 @@
--- Document 01, "The frame" and "Calls and the order of checks": what else holds of one frame's bytes, as statements.
--- Assumes nothing.
+-- Document 01, "The frame" and "Calls and the order of checks", and document 02, order 1: what else holds of one frame's
+-- bytes, as statements. Assumes nothing.
 use Prim.Native.Nat.{ℕ, _+_, _≤_, _<_}
 use mathlib.Core.Path.{_≡_}
 use mathlib.Core.Logic.{_↔_, _⊎_}
@@ -8,6 +8,7 @@ use mathlib.Core.List.{List}
 use lib.ListN.{length, take, getD}
 use Rattle.refusal.specs.Checks.{Said}
 use Rattle.refusal.specs.Checks.Said.{refused}
+use Rattle.refusal.specs.Numbers.{GROUP}
 use Rattle.frame.specs.Bytes.{word, Bytes}
 use Rattle.frame.specs.Frame.{destOf, typeAt, readOf}
 use Rattle.frame.specs.TagCalls.{Outcome, takeTag, writeTag, saidHead, saidRead, saidTaken, saidWritten}
@@ -44,6 +45,10 @@ TakeRefusedKeeps = (f out : List ℕ) (n : ℕ) → takeTag f out .said ≡ refu
 
 abbrev pub WriteRefusedKeeps : Type 0
 WriteRefusedKeeps = (f : List ℕ) (number : ℕ) (out : List ℕ) (n : ℕ) → writeTag f number out .said ≡ refused n → writeTag f number out .bytes ≡ out
+
+-- Order 1 gives 14 to arrivals and the tag writer: taking a tag out never gives it.
+abbrev pub TakeNeverGroup : Type 0
+TakeNeverGroup = (f out : List ℕ) → takeTag f out .said ≡ refused GROUP → ⊥
 
 -- The cases of an answer enum say different things.
 abbrev pub Telling : {A B : Type 0} → (A → Said B) → Type 0

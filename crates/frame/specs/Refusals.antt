@@ -1,5 +1,6 @@
--- Document 01, "Calls and the order of checks": the condition of each refusal number of the two tag calls, in the
--- words of its table, and each call's list of numbers in its order. They do not mention the calls. Assumes nothing.
+-- Document 01, "Calls and the order of checks", and document 02, order 1: the condition of each refusal number of the two
+-- tag calls, in the words of the table (14, group source address, is `groupSource`), and each call's list of numbers in its
+-- order. They do not mention the calls. Assumes nothing.
 use Prim.Native.Nat.{ℕ, _+_, _-_}
 use mathlib.Core.Path.{_≡_}
 use mathlib.Core.Logic.{_↔_}
@@ -9,9 +10,9 @@ use lib.ListN.{length}
 use lib.Dec.{ltb}
 use Rattle.refusal.specs.Checks.{Check, First}
 use Rattle.refusal.specs.Checks.Said.{refused}
-use Rattle.refusal.specs.Numbers.{LONG, SHORT, UNTAGGED, ROOM, TAGGED}
+use Rattle.refusal.specs.Numbers.{LONG, SHORT, UNTAGGED, ROOM, TAGGED, GROUP}
 use Rattle.record.specs.Sizes.{frameMost, untaggedMost}
-use Rattle.frame.specs.Frame.{headShort, tagShort, isTagged}
+use Rattle.frame.specs.Frame.{groupSource, headShort, tagShort, isTagged}
 use Rattle.frame.specs.TagCalls.{takeTag, writeTag}
 
 -- 3: frame too long
@@ -43,12 +44,13 @@ takeChecks f out =
     ∷ record { number = ROOM; holds = tooSmall (length f - 6) out }
     ∷ []
 
--- Write a tag: 3 (above 1994), 4 (only the 14 and 18 byte rules), 13, 8 (output below length + 6).
+-- Write a tag: 3 (above 1994), 4 (only the 14 and 18 byte rules), 13, 14, 8 (output below length + 6).
 unfoldable pub writeChecks : (f out : List ℕ) → List Check
 writeChecks f out =
     record { number = LONG; holds = tooLong untaggedMost f }
     ∷ record { number = SHORT; holds = headShort f }
     ∷ record { number = TAGGED; holds = carriesTag f }
+    ∷ record { number = GROUP; holds = groupSource f }
     ∷ record { number = ROOM; holds = tooSmall (length f + 6) out }
     ∷ []
 

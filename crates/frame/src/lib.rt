@@ -1,11 +1,12 @@
-// The bytes of one frame: the header reader, a tag taken out, a tag written (document 01, "The frame").
+// The bytes of one frame: the header reader, a tag taken out, a tag written (document 01, "The frame", and document 02,
+// order 1).
 use record::Stream;
 ghost use mathlib.Core.Path.{_≡_};
 ghost use Prim.Native.Nat.{_+_, _*_, _≤_, _<_};
 ghost use lib.ListN.{length};
 ghost use Rattle.record.specs.Sizes.{frameMost};
 ghost use Rattle.frame.specs.Bytes.{word, overlay};
-ghost use Rattle.frame.specs.Frame.{headOf, destOf, readOf, tagBytes, cutAt, tagAt};
+ghost use Rattle.frame.specs.Frame.{headOf, destOf, groupSource, readOf, tagBytes, cutAt, tagAt};
 ghost use Rattle.frame.specs.TagCalls.{saidHead, saidRead, saidTaken, saidWritten, refusalOf, takeTag, writeTag, writtenWithout, writtenWith};
 
 // What stands before a frame's data.
@@ -79,6 +80,16 @@ pub fn destination(dest: [u8; 6]) -> u64
     ensures { λ r. ⌜ r ≡ destOf dest ⌝ }
 {
     dest_of(&dest)
+}
+
+// Is the source a group's? A frame that ends before its source has none.
+pub fn group_source(frame: &[u8]) -> bool
+    ensures { λ r. ⌜ r ≡ groupSource (now (frame .entry)) ⌝ }
+{
+    if frame.len() < 7 {
+        return false;
+    }
+    frame[6] % 2 == 1
 }
 
 // Destination, VLAN id, place of the type field, and whether F1C1 stands there: the 14 and 18 byte rules only.
@@ -286,6 +297,9 @@ pub fn write_tag(frame: &[u8], number: u16, out: &mut [u8]) -> Written
     };
     if h.tagged {
         return Written::Refused(refusal::TAGGED);
+    }
+    if group_source(frame) {
+        return Written::Refused(refusal::GROUP);
     }
     let at = h.at;
     let len = frame.len() + 6;

@@ -13,7 +13,7 @@ use Rattle.refusal.specs.Numbers.{TABLE, NETWORK, UNKNOWN, DAMAGED, ROOM, SETTI
 use Rattle.refusal.proofs.Checks.{Positive, first-positive}
 use Rattle.record.specs.declared.Stream.{Stream}
 use Rattle.record.specs.Sizes.{slotsMost}
-use Rattle.frame.specs.Frame.{Tag, destOf, readOf, untagged}
+use Rattle.frame.specs.Frame.{Tag, destOf, untagged}
 use Rattle.stream.specs.Record.{settled, lawful}
 use Rattle.stream.specs.Record as record′
 use Rattle.calls.specs.Table.{Table, at, search, someSlot, hasKey, isFree}
@@ -29,7 +29,7 @@ use Rattle.port.specs.Answers.{tellArrival, tellOpened, tellDone, tellSw
 
 positive : (t : Table) (c : Call) → Positive (checksOf t c)
 unfolding checksOf
-positive t (arriving network f out) = (omega arith, (omega arith, (omega arith, (omega arith, (omega arith, (omega arith, (omega arith, (omega arith, tt))))))))
+positive t (arriving network f out) = (omega arith, (omega arith, (omega arith, (omega arith, (omega arith, (omega arith, (omega arith, (omega arith, (omega arith, tt)))))))))
 positive t (opening dest vlan rule window time) = (omega arith, (omega arith, (omega arith, (omega arith, tt))))
 positive t (closing i) = (omega arith, (omega arith, tt))
 positive t (resetting i) = (omega arith, (omega arith, (omega arith, tt)))
@@ -98,7 +98,7 @@ either : (P : Act → Type 0) (b : Bool) (n : ℕ) (a : Act) → P (refuse n) �
 either P true n a p q = p
 either P false n a p q = q
 
--- an arrival after 1 to 5
+-- an arrival after 1 to 5 and 14
 read : (t : Table) (network : ℕ) (f out : List ℕ) (x : Said Tag) → Arrives (arrival t network f out x)
 unfolding arrivalAt arrival
 read t network f out (refused n) = tt
@@ -115,8 +115,7 @@ read t network f out (answers g) =
 arrives : (t : Table) (network : ℕ) (f out : List ℕ) → Arrives (act t (arriving network f out))
 unfolding act checked
 arrives t network f out =
-    either Arrives (ltb slotsMost (length t)) TABLE (cond (ltb 1 network) (refuse NETWORK) (arrival t network f out (readOf f))) tt
-    (either Arrives (ltb 1 network) NETWORK (arrival t network f out (readOf f)) tt (read t network f out (readOf f)))
+    either Arrives (ltb slotsMost (length t)) TABLE _ tt (either Arrives (ltb 1 network) NETWORK _ tt (read t network f out _))
 
 opened : (t : Table) (dest : List ℕ) (vlan rule window time : ℕ) → Opens (act t (opening dest vlan rule window time))
 unfolding act checked open-call

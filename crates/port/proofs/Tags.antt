@@ -34,7 +34,7 @@ never-taken f out e =
 never-written : (f : List ℕ) (number : ℕ) (out : List ℕ) → writeTag f number out .said ≡ refused 0 → ⊥
 unfolding writeChecks
 never-written f number out e =
-    let z = first-positive 0 (writeChecks f out) (omega arith, (omega arith, (omega arith, (omega arith, tt)))) (write-refused-exactly f number out 0 .0 e) in
+    let z = first-positive 0 (writeChecks f out) (omega arith, (omega arith, (omega arith, (omega arith, (omega arith, tt))))) (write-refused-exactly f number out 0 .0 e) in
     omega arith
 
 pub taken-all-told : TakenTold

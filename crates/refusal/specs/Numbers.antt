@@ -1,4 +1,5 @@
--- Document 01, "Calls and the order of checks": the numbers of its table, by name. Assumes nothing.
+-- Document 01, "Calls and the order of checks": the numbers of its table, by name, and those of document 02's orders.
+-- Assumes nothing.
 use Prim.Native.Nat.{ℕ}
 
 -- the table has more than 64 slots
@@ -52,3 +53,7 @@ SLOT = 12
 -- frame already carries F1C1
 abbrev pub TAGGED : ℕ
 TAGGED = 13
+
+-- group source address (order 1)
+abbrev pub GROUP : ℕ
+GROUP = 14

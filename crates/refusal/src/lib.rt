@@ -1,4 +1,4 @@
-// The refusal numbers of document 01, "Calls and the order of checks", by name.
+// The refusal numbers of document 01, "Calls and the order of checks", and of the orders of document 02, by name.
 // Beside each name stand the document's words. specs/Numbers.antt has the same names for the contracts.
 
 // The table has more than 64 slots.
@@ -39,3 +39,6 @@ pub const SLOT: u8 = 12;
 
 // Frame already carries F1C1.
 pub const TAGGED: u8 = 13;
+
+// Group source address (order 1).
+pub const GROUP: u8 = 14;

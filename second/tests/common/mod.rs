@@ -7,7 +7,7 @@ use second::{arrival, Arrival, Refusal, Settings, Stream, Verdict};
 
 /// The destination most tests use.
 pub const DESTINATION: [u8; 6] = [2, 0, 0, 0, 0, 1];
-/// The source all tests use. The library never looks at it.
+/// The source most frames have. It is no group.
 pub const SOURCE: [u8; 6] = [2, 0, 0, 0, 0, 2];
 /// What stands in an output before a call.
 pub const FILL: u8 = 0xA5;
@@ -72,6 +72,13 @@ pub fn untagged_to(destination: [u8; 6], tci: Option<u16>) -> Vec<u8> {
         frame.extend(tci.to_be_bytes());
     }
     frame.extend([0x08, 0x00, 0x77]);
+    frame
+}
+
+/// The frame with another first source byte.
+pub fn from_source(first: u8, frame: &[u8]) -> Vec<u8> {
+    let mut frame = frame.to_vec();
+    frame[6] = first;
     frame
 }
 

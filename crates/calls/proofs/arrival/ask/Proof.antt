@@ -1,5 +1,5 @@
 -- `calls::arrival::ask` meets its contract: at each return a law says which refusal it is. Assumes nothing.
-use Rattle.calls.proofs.Steps.{ask-many, ask-network, ask-refused, ask-tagged}
+use Rattle.calls.proofs.Steps.{ask-many, ask-network, ask-refused, ask-group, ask-tagged}
 use borrow.Author.Needs.{needs}
 use Rattle.calls.proofs.arrival.ask.Statement.{statement}
 use Rattle.calls.proofs.arrival.ask.Tie as tie
@@ -27,10 +27,20 @@ returns-3 c =
     let r = c .before .before .before in
     ask-refused _ _ _ (r .before .before .if1 .left) (r .before .if2 .left) (r .read-tag .ensures) (c .before .enum-told .given .1) (c .refusal-of .ensures)
 
+group-source-requires : tie.Need-group-source-requires
+group-source-requires c κs = search needs
+
 returns-4 : tie.Need-returns-4
 returns-4 c =
-    let r = c .before .before .before in
-    ask-tagged _ _ _ (r .before .before .if1 .left) (r .before .if2 .left) (r .read-tag .ensures) (c .before .got .given .1)
+    let g = c .before .before .before in
+    let r = g .before .before in
+    ask-group _ _ _ (r .before .before .if1 .left) (r .before .if2 .left) (r .read-tag .ensures) (g .got .given .1) (c .before .group-source .ensures) (c .if3 .taken)
+
+returns-5 : tie.Need-returns-5
+returns-5 c =
+    let g = c .before .before .before in
+    let r = g .before .before in
+    ask-tagged _ _ _ (r .before .before .if1 .left) (r .before .if2 .left) (r .read-tag .ensures) (g .got .given .1) (c .before .group-source .ensures) (c .if3 .left)
 
 pub ask-spec : {M : Type 1} → statement M
 ask-spec =
@@ -43,4 +53,6 @@ ask-spec =
     enum-told
     refusal-of-requires
     returns-3
-    returns-4)
+    group-source-requires
+    returns-4
+    returns-5)
