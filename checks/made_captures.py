@@ -2,9 +2,9 @@
 import struct
 
 
-def frame(number, vlan=None, dest="020000000001", payload=b""):
+def frame(number, vlan=None, dest="020000000001", payload=b"", source="020000000002"):
     tag = b"" if vlan is None else struct.pack(">HH", 0x8100, vlan)
-    return bytes.fromhex(dest + "020000000002") + tag + struct.pack(">HHHH", 0xF1C1, 0, number, 0x0800) + payload
+    return bytes.fromhex(dest + source) + tag + struct.pack(">HHHH", 0xF1C1, 0, number, 0x0800) + payload
 
 
 def pcap(packets, order="<", nano=False, link=1, magic=None):

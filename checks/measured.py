@@ -112,15 +112,27 @@ def several(bench):
     """Captures of more than one stream, and of none."""
     runs = with_both(stream(known()), stream(known(150), vlan=100), stream(known(160), dest="01005e000007", vlan=100 | 0xE000))
     other = b"\xff" * 12 + b"\x08\x06" + bytes(46)
-    # Frames that are cut short, too short and too long are no arrivals.
-    no_arrivals = [(START, other), (START, frame(1)[:17], 100), (START, frame(1)[:19]), (START, frame(1) + bytes(1981))]
+    # Frames that are cut short, too short and too long are no arrivals, nor those with a group source.
+    no_arrivals = [(START, other), (START, frame(1)[:17], 100), (START, frame(1)[:19]), (START, frame(1) + bytes(1981)),
+                   (START, frame(1, source="010000000002")), (START, frame(1, dest="020000000009", source="ff0000000002"))]
     both = [pcapng(sorted(packets + no_arrivals)) for packets in runs]
     bench.case(both, "T=1ms tau=1ms", 2, "choose: refused: more than one stream, --key chooses one of 01:00:5e:00:00:07,100 (",
-               "; 02:00:00:00:00:01,0 (", "; 02:00:00:00:00:01,100 (")
+               "; 02:00:00:00:00:01,0 (", "; 02:00:00:00:00:01,100 (", without=("02:00:00:00:00:09",))
     bench.case(both, "T=1ms tau=1ms --key 020000000001,0 --margin 0 wait=0", 0, "stream 02:00:00:00:00:01,0: ", " of 400 from", "\nL 8: ")
     bench.case(both, "--key 01:00:5e:00:00:07,100 T=1ms tau=1ms", 0, "stream 01:00:5e:00:00:07,100: ", " of 160 from")
     bench.case(both, "--key 01:00:5e:00:00:07,0", 2, "choose: refused: no frame of 01:00:5e:00:00:07,0; there are 01:00:5e:00:00:07,100 (")
-    bench.case([pcap([(START, other)]), pcap([])], "", 2, "choose: refused: no frame with a redundancy tag in either capture")
+    bench.case([pcap([(START, other)]), pcap([])], "", 2, "choose: refused: no frame with a redundancy tag and an individual source in either capture")
+
+
+def reflected(bench):
+    """A tap reflects each frame of network 0 onto network 1, 40 ms late and with a group source. Nothing of it is measured."""
+    runs = stream(known())
+    echo = [(time + 40 * MS, data[:6] + b"\x03" + data[7:]) for time, data in runs[0]]
+    both = [pcap(runs[0]), pcap(sorted(runs[1] + echo))]
+    bench.case(both, "T=1ms tau=1ms --margin 0 wait=0", 0, "J at least 2.4 ms: ", "\nJ 2.5 ms: ", f" from {len(runs[0]) + len(runs[1])} frames, ",
+               "\nL 8: ", "\nR 5 (", without=("warning",))
+    alone = [pcap([(time, frame(1, source="030000000002")) for time in (START, START + MS)])] * 2
+    bench.case(alone, "", 2, "choose: refused: no frame with a redundancy tag and an individual source in either capture")
 
 
 def jumps(bench):
@@ -188,7 +200,7 @@ def at_random(bench, rng):
 def measured_faults():
     with tempfile.TemporaryDirectory() as room:
         bench = Bench(room)
-        for test in (forms, not_known, several, jumps, refusals):
+        for test in (forms, not_known, several, reflected, jumps, refusals):
             test(bench)
         rng = random.Random(8021)
         for _ in range(20):

@@ -84,25 +84,32 @@ struct settings read_settings(const char *text)
     return s;
 }
 
+// By number. One that is not here is no refusal.
+static const char *const refusals[] = {
+    [NIPPITSUN_REFUSED_TABLE] = "the table has more than 64 slots",
+    [NIPPITSUN_REFUSED_NETWORK] = "network is not 0 or 1",
+    [NIPPITSUN_REFUSED_LONG] = "frame too long",
+    [NIPPITSUN_REFUSED_SHORT] = "frame short",
+    [NIPPITSUN_REFUSED_UNTAGGED] = "no F1C1 at the type field",
+    [NIPPITSUN_REFUSED_UNKNOWN] = "no slot in use has the key",
+    [NIPPITSUN_REFUSED_DAMAGED] = "the record is damaged",
+    [NIPPITSUN_REFUSED_ROOM] = "output too small",
+    [NIPPITSUN_REFUSED_SETTING] = "a setting outside the sizes",
+    [NIPPITSUN_REFUSED_TAKEN] = "a slot in use has the key",
+    [NIPPITSUN_REFUSED_FULL] = "no free slot",
+    [NIPPITSUN_REFUSED_SLOT] = "slot beyond the table or free",
+    [NIPPITSUN_REFUSED_TAGGED] = "frame already carries F1C1",
+    [NIPPITSUN_REFUSED_GROUP] = "group source address",
+};
+
+int is_refusal(unsigned number)
+{
+    return number < sizeof refusals / sizeof refusals[0] && refusals[number] != NULL;
+}
+
 const char *refusal_words(unsigned number)
 {
-    static const char *const words[] = {
-        [NIPPITSUN_REFUSED_NOT] = "not refused",
-        [NIPPITSUN_REFUSED_TABLE] = "the table has more than 64 slots",
-        [NIPPITSUN_REFUSED_NETWORK] = "network is not 0 or 1",
-        [NIPPITSUN_REFUSED_LONG] = "frame too long",
-        [NIPPITSUN_REFUSED_SHORT] = "frame short",
-        [NIPPITSUN_REFUSED_UNTAGGED] = "no F1C1 at the type field",
-        [NIPPITSUN_REFUSED_UNKNOWN] = "no slot in use has the key",
-        [NIPPITSUN_REFUSED_DAMAGED] = "the record is damaged",
-        [NIPPITSUN_REFUSED_ROOM] = "output too small",
-        [NIPPITSUN_REFUSED_SETTING] = "a setting outside the sizes",
-        [NIPPITSUN_REFUSED_TAKEN] = "a slot in use has the key",
-        [NIPPITSUN_REFUSED_FULL] = "no free slot",
-        [NIPPITSUN_REFUSED_SLOT] = "slot beyond the table or free",
-        [NIPPITSUN_REFUSED_TAGGED] = "frame already carries F1C1",
-    };
-    return number < sizeof words / sizeof words[0] ? words[number] : "a number that document 01 does not have";
+    return is_refusal(number) ? refusals[number] : "a number that no refusal has";
 }
 
 int open_sender(const char *interface)

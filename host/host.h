@@ -32,7 +32,10 @@ void read_address(const char *text, uint8_t dest[ADDRESS]);
 // DEST,VLAN,RULE,L,R, or refuse.
 struct settings read_settings(const char *text);
 
-// The words of document 01 for a refusal number.
+// Has a refusal this number?
+int is_refusal(unsigned number);
+
+// The words of documents 01 and 02 for a refusal number.
 const char *refusal_words(unsigned number);
 
 // A packet socket that sends on one interface and is given no frame, or refuse. It needs the right CAP_NET_RAW.

@@ -171,8 +171,8 @@ static void write_all(FILE *f, const struct report *r)
     by_stream_and_network(f, r, "silences_total", "counter", "Times a network fell silent for a stream.", silences);
     by_stream_and_network(f, r, "returns_total", "counter", "Times a silent network had arrivals again.", returns);
     head(f, "refused_total", "counter", "Frames that the receiver refused, by number.");
-    for (unsigned n = NIPPITSUN_REFUSED_TABLE; n <= NIPPITSUN_REFUSED_TAGGED; n++)
-        fprintf(f, "nippitsun_refused_total{number=\"%u\"} %" PRIu64 "\n", n, r->refused[n]);
+    for (unsigned n = 1; n <= UINT8_MAX; n++)
+        if (is_refusal(n)) fprintf(f, "nippitsun_refused_total{number=\"%u\"} %" PRIu64 "\n", n, r->refused[n]);
     alone(f, "damaged", "gauge", "Records in use that are damaged, at the last tick.", r->damaged);
     by_network(f, "frames_total", "counter", "Frames read from a network.", (uint64_t[]){p[0].frames, p[1].frames});
     by_network(f, "outgoing_total", "counter", "Frames read that this machine sent.", (uint64_t[]){p[0].outgoing, p[1].outgoing});

@@ -20,12 +20,12 @@ POINTS_LEAST = 30
 
 
 def tagged(frame, length):
-    """The key and the number of a frame with a redundancy tag, if its length is allowed. What stands behind the tag may have been
-    cut when it was captured."""
+    """The key and the number of a frame with a redundancy tag, if its length is allowed and its source is no group's: a receiver
+    refuses the others. What stands behind the tag may have been cut when it was captured."""
     at, vlan = 12, 0
     if frame[12:14] == b"\x81\x00":
         at, vlan = 16, int.from_bytes(frame[14:16], "big") & 0xFFF
-    if frame[at:at + 2] != b"\xf1\xc1" or len(frame) < at + 6 or not at + 8 <= length <= FRAME_MOST:
+    if frame[at:at + 2] != b"\xf1\xc1" or len(frame) < at + 6 or not at + 8 <= length <= FRAME_MOST or frame[6] & 1:
         return None
     return (frame[:6], vlan), int.from_bytes(frame[at + 4:at + 6], "big")
 
@@ -130,7 +130,7 @@ def measure(names, key=None):
     found = {}
     back = sum(of_network(name, network, found) for network, name in enumerate(names))
     if not found:
-        raise Refused("no frame with a redundancy tag in either capture")
+        raise Refused("no frame with a redundancy tag and an individual source in either capture")
     there = "; ".join(f"{show_key(k)} ({len(found[k][0])} and {len(found[k][1])} frames)" for k in sorted(found))
     if key is None and len(found) > 1:
         raise Refused(f"more than one stream, --key chooses one of {there}")

@@ -29,8 +29,9 @@ pub fn hidden<T: Copy>(x: T) -> T {
     unsafe { std::ptr::read_volatile(&x) }
 }
 
+/// A frame that is taken: the byte at 6 is even, so its source is no group's.
 pub fn frame(size: usize, vlan: bool, tagged: bool) -> Vec<u8> {
-    let mut f: Vec<u8> = (0..size).map(|i| (i * 7 + 1) as u8).collect();
+    let mut f: Vec<u8> = (0..size).map(|i| (i * 7 + 2) as u8).collect();
     let mut at = 12;
     if vlan {
         f[12..16].copy_from_slice(&[0x81, 0x00, 0x20, 0x05]);

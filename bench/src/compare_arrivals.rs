@@ -1,6 +1,6 @@
 //! Random arrivals on random tables: the archive's call, the second program's and the plain one in place. Answers, every
 //! record field by field, and every output byte must be equal, and each refusal and verdict must have come up.
-use crate::compare::{all_seen, wrong, Dice};
+use crate::compare::{all_seen, individual, wrong, Dice};
 use crate::record::{
     ArrivalAnswer, Counts, SlotAnswer, State, Stream, TickAnswer, DUPLICATE, HANDED_UP, ROGUE,
 };
@@ -202,6 +202,7 @@ fn frame(dice: &mut Dice, pool: &[u8], t: &Tables) -> Vec<u8> {
     } as usize;
     let from = dice.below((pool.len() - length) as u64) as usize;
     let mut f = pool[from..from + length].to_vec();
+    individual(dice, &mut f);
     let mut put = |at: usize, bytes: &[u8]| {
         if at + bytes.len() <= length {
             f[at..at + bytes.len()].copy_from_slice(bytes);
@@ -305,7 +306,7 @@ pub fn arrivals(cases: u64) -> Result<u64, String> {
     all_seen(
         "an arrival's refusal",
         &refused,
-        &[0, 1, 2, 3, 4, 5, 6, 7, 8],
+        &[0, 1, 2, 3, 4, 5, 6, 7, 8, 14],
     )?;
     all_seen("an arrival's verdict", &verdicts, &[0, 1, 2, 3])?;
     Ok(cases)

@@ -1,4 +1,4 @@
-//! The plain side: the same calls in safe Rust, written from document 01 alone. Each is kept a call of its own, as the
+//! The plain side: the same calls in safe Rust, written from documents 01 and 02 alone. Each is kept a call of its own, as the
 //! archive's are, so that both sides pay for one, and has C's convention, by which the answer comes back in registers.
 use crate::record::{
     ArrivalAnswer, Decided, Stream, TagAnswer, DAMAGED, DUPLICATE, HANDED_UP, ROGUE,
@@ -18,6 +18,10 @@ const UNKNOWN: u8 = 6;
 const HURT: u8 = 7;
 const ROOM: u8 = 8;
 const TAGGED: u8 = 13;
+const GROUP: u8 = 14;
+
+/// The first byte of the source; its lowest bit marks a group.
+const SOURCE: usize = 6;
 
 fn word(s: &[u8], at: usize) -> u16 {
     u16::from_be_bytes([s[at], s[at + 1]])
@@ -111,6 +115,9 @@ pub extern "C" fn write_tag(frame: &[u8], number: u16, out: &mut [u8]) -> TagAns
     };
     if word(frame, at) == TAG {
         return refused(TAGGED);
+    }
+    if frame[SOURCE] & 1 != 0 {
+        return refused(GROUP);
     }
     if out.len() < frame.len() + 6 {
         return refused(ROOM);
@@ -309,6 +316,9 @@ pub fn arrival_at(
     };
     if word(tag, 0) != TAG {
         return not_taken(UNTAGGED);
+    }
+    if frame[SOURCE] & 1 != 0 {
+        return not_taken(GROUP);
     }
     let dest = (u32::from_be_bytes([frame[0], frame[1], frame[2], frame[3]]) as u64) << 16
         | word(frame, 4) as u64;

@@ -1,8 +1,8 @@
 /* Nippitsun for C and C++: a receiver for frames that arrive on two networks, and the redundancy tag in and out.
  *
- * The calls are the exported functions of the crate `port`, proved to do what document 01 says. This header is written by
- * hand: bindings/c/test.c holds it to the compiled code, and bindings/check to the sources. C11 or C++11, x86-64;
- * link with libport.a, which is called libnippitsun.a once it is installed (docs/LINKING.md).
+ * The calls are the exported functions of the crate `port`, proved to do what document 01 says, with order 1 of document 02.
+ * This header is written by hand: bindings/c/test.c holds it to the compiled code, and bindings/check to the sources. C11 or
+ * C++11, x86-64; link with libport.a, which is called libnippitsun.a once it is installed (docs/LINKING.md).
  *
  * What the caller owes. The proof takes it for granted, and no call can test it:
  *
@@ -24,9 +24,9 @@
 #include <stddef.h>
 #include <stdint.h>
 
-#define NIPPITSUN_VERSION "0.1.0"
+#define NIPPITSUN_VERSION "0.2.0"
 #define NIPPITSUN_VERSION_MAJOR 0
-#define NIPPITSUN_VERSION_MINOR 1
+#define NIPPITSUN_VERSION_MINOR 2
 #define NIPPITSUN_VERSION_PATCH 0
 
 #ifdef __cplusplus
@@ -66,8 +66,8 @@ enum nippitsun_verdict {
     NIPPITSUN_VERDICT_ROGUE = 3
 };
 
-/* Why a call was refused (document 01, "Calls and the order of checks"). Where several hold, a call answers the first in its
- * own order, which stands beside its declaration. */
+/* Why a call was refused (document 01, "Calls and the order of checks"; 14 is of order 1). Where several hold, a call answers
+ * the first in its own order, which stands beside its declaration. */
 enum nippitsun_refusal {
     NIPPITSUN_REFUSED_NOT = 0,
     NIPPITSUN_REFUSED_TABLE = 1,    /* the table has more than 64 slots */
@@ -82,7 +82,8 @@ enum nippitsun_refusal {
     NIPPITSUN_REFUSED_TAKEN = 10,   /* a slot in use has the key */
     NIPPITSUN_REFUSED_FULL = 11,    /* no free slot */
     NIPPITSUN_REFUSED_SLOT = 12,    /* slot beyond the table or free */
-    NIPPITSUN_REFUSED_TAGGED = 13   /* the frame already carries F1C1 */
+    NIPPITSUN_REFUSED_TAGGED = 13,  /* the frame already carries F1C1 */
+    NIPPITSUN_REFUSED_GROUP = 14    /* group source address: the lowest bit of the first source byte is set */
 };
 
 /* ---- the stream record
@@ -160,7 +161,7 @@ typedef struct nippitsun_tag_answer {
 
 /* ---- the calls on a table. Refusals are given in the order in which they stand here. */
 
-/* A frame came in on a network. Refusals 1, 2, 3, 4, 5, 6, 7, 8.
+/* A frame came in on a network. Refusals 1, 2, 3, 4, 5, 14, 6, 7, 8.
  * The lowest slot in use with the frame's key has the arrival. Handed up: the frame without its tag stands at the start of
  * the output, and the bytes after it keep their values. Duplicate and rogue write nothing to the output. The output must
  * hold frame_bytes - 6 bytes for every verdict; NIPPITSUN_FRAME_MOST bytes are always enough. */
@@ -187,12 +188,13 @@ nippitsun_tick_answer nippitsun_tick(nippitsun_stream *table, size_t slots);
 /* ---- the tag, with no table */
 
 /* Takes the tag out and writes the frame without it to the start of the output; the bytes after it keep their values.
- * Refusals 3, 4, 5, 8. The output must hold frame_bytes - 6 bytes; NIPPITSUN_FRAME_MOST bytes are always enough. */
+ * Refusals 3, 4, 5, 8: any source is taken. The output must hold frame_bytes - 6 bytes; NIPPITSUN_FRAME_MOST bytes are always
+ * enough. */
 nippitsun_tag_answer nippitsun_take_tag(const uint8_t *NIPPITSUN_APART frame, size_t frame_bytes, uint8_t *NIPPITSUN_APART out,
                                         size_t out_bytes);
 
 /* Puts a tag with this number into the frame and writes the tagged frame to the start of the output; the bytes after it keep
- * their values. Refusals 3 (above NIPPITSUN_UNTAGGED_MOST), 4, 13, 8. The output must hold frame_bytes + 6 bytes;
+ * their values. Refusals 3 (above NIPPITSUN_UNTAGGED_MOST), 4, 13, 14, 8. The output must hold frame_bytes + 6 bytes;
  * NIPPITSUN_FRAME_MOST bytes are always enough. */
 nippitsun_tag_answer nippitsun_write_tag(const uint8_t *NIPPITSUN_APART frame, size_t frame_bytes, uint16_t number,
                                          uint8_t *NIPPITSUN_APART out, size_t out_bytes);

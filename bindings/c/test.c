@@ -229,7 +229,7 @@ static uint8_t frame_bytes[2100];
 /* A frame of n bytes to running_dest with a redundancy tag, behind a VLAN tag if vlan is not 0. */
 static const uint8_t *tagged(size_t n, uint16_t vlan, uint16_t number) {
     size_t at = 12;
-    fill(frame_bytes, n, 3);
+    fill(frame_bytes, n, 2);
     memcpy(frame_bytes, running_dest, 6);
     if (vlan) {
         memcpy(frame_bytes + 12, (uint8_t[]){0x81, 0x00, (uint8_t)(0xA0 | vlan >> 8), (uint8_t)vlan}, 4);
@@ -240,8 +240,14 @@ static const uint8_t *tagged(size_t n, uint16_t vlan, uint16_t number) {
 }
 
 static const uint8_t *untagged(size_t n) {
-    fill(frame_bytes, n, 3);
+    fill(frame_bytes, n, 2);
     return frame_bytes;
+}
+
+/* The frame just made, with this first byte of its source. It is a group's if the byte is odd; those made above are even. */
+static const uint8_t *from(uint8_t first, const uint8_t *made) {
+    frame_bytes[6] = first;
+    return made;
 }
 
 /* Is the output the frame without the six bytes at this place? */
@@ -437,16 +443,19 @@ static void refusals(void) {
     make_out(13);
     table[0] = running();
     table[0].rule = 3;
-    CHECK(arrive(2, tagged(2001, 0, 1), 2001).refusal == NIPPITSUN_REFUSED_NETWORK);
-    CHECK(arrive(255, tagged(2001, 0, 1), 2001).refusal == NIPPITSUN_REFUSED_NETWORK);
-    CHECK(arrive(1, tagged(2001, 0, 1), 2001).refusal == NIPPITSUN_REFUSED_LONG);
-    CHECK(arrive(1, untagged(13), 13).refusal == NIPPITSUN_REFUSED_SHORT);
-    CHECK(arrive(1, tagged(19, 0, 1), 19).refusal == NIPPITSUN_REFUSED_SHORT);
-    CHECK(arrive(1, tagged(23, 5, 1), 23).refusal == NIPPITSUN_REFUSED_SHORT);
-    CHECK(arrive(1, untagged(60), 60).refusal == NIPPITSUN_REFUSED_UNTAGGED);
+    CHECK(arrive(2, from(1, tagged(2001, 0, 1)), 2001).refusal == NIPPITSUN_REFUSED_NETWORK);
+    CHECK(arrive(255, from(1, tagged(2001, 0, 1)), 2001).refusal == NIPPITSUN_REFUSED_NETWORK);
+    CHECK(arrive(1, from(1, tagged(2001, 0, 1)), 2001).refusal == NIPPITSUN_REFUSED_LONG);
+    CHECK(arrive(1, from(1, untagged(13)), 13).refusal == NIPPITSUN_REFUSED_SHORT);
+    CHECK(arrive(1, from(1, tagged(19, 0, 1)), 19).refusal == NIPPITSUN_REFUSED_SHORT);
+    CHECK(arrive(1, from(1, tagged(23, 5, 1)), 23).refusal == NIPPITSUN_REFUSED_SHORT);
+    CHECK(arrive(1, from(1, untagged(60)), 60).refusal == NIPPITSUN_REFUSED_UNTAGGED);
+    CHECK(arrive(1, from(1, tagged(60, 5, 1)), 60).refusal == NIPPITSUN_REFUSED_GROUP);
+    CHECK(arrive(1, from(1, tagged(60, 0, 1)), 60).refusal == NIPPITSUN_REFUSED_GROUP);
     CHECK(arrive(1, tagged(60, 5, 1), 60).refusal == NIPPITSUN_REFUSED_UNKNOWN);
     CHECK(arrive(1, tagged(60, 0, 1), 60).refusal == NIPPITSUN_REFUSED_DAMAGED);
     table[0].rule = 1;
+    CHECK(arrive(1, from(1, tagged(20, 0, 1)), 20).refusal == NIPPITSUN_REFUSED_GROUP);
     CHECK(arrive(1, tagged(20, 0, 1), 20).refusal == NIPPITSUN_REFUSED_ROOM);
     /* 8 is given for a duplicate too. */
     CHECK(arrive(1, tagged(20, 0, 100), 20).refusal == NIPPITSUN_REFUSED_ROOM);
@@ -456,10 +465,12 @@ static void refusals(void) {
     nippitsun_tag_answer t = written(untagged(NIPPITSUN_UNTAGGED_MOST), NIPPITSUN_UNTAGGED_MOST, 0xABCD);
     CHECK(t.refusal == 0 && t.length == 2000 && t.number == 0xABCD && equal(out, frame_bytes, 12) && equal(out + 18, frame_bytes + 12, 1982));
     CHECK(equal(out + 12, (uint8_t[]){0xF1, 0xC1, 0, 0, 0xAB, 0xCD}, 6));
-    CHECK(written(untagged(1995), 1995, 1).refusal == NIPPITSUN_REFUSED_LONG);
-    CHECK(written(untagged(13), 13, 1).refusal == NIPPITSUN_REFUSED_SHORT);
-    CHECK(written(tagged(14, 0, 1), 14, 1).refusal == NIPPITSUN_REFUSED_TAGGED);
+    make_out(0);
+    CHECK(written(from(1, untagged(1995)), 1995, 1).refusal == NIPPITSUN_REFUSED_LONG);
+    CHECK(written(from(1, untagged(13)), 13, 1).refusal == NIPPITSUN_REFUSED_SHORT);
+    CHECK(written(from(1, tagged(14, 0, 1)), 14, 1).refusal == NIPPITSUN_REFUSED_TAGGED);
     make_out(65);
+    CHECK(written(from(1, untagged(60)), 60, 1).refusal == NIPPITSUN_REFUSED_GROUP);
     CHECK(written(untagged(60), 60, 1).refusal == NIPPITSUN_REFUSED_ROOM);
     make_out(67);
     t = written(untagged(60), 60, 1);
@@ -479,6 +490,29 @@ static void refusals(void) {
         taken(tagged(sizes[i], 5, 1), sizes[i]);
         written(untagged(sizes[i]), sizes[i], 1);
     }
+}
+
+/* Every first byte of a source, with and without a VLAN tag: an odd one reaches no stream and gets no tag, and a tag is taken
+ * out all the same. A group destination is a key as any other. */
+static void sources(void) {
+    static const uint8_t group[6] = {0x01, 0x00, 0x5E, 0x00, 0x00, 0x07};
+    make_table(2);
+    make_out(100);
+    for (unsigned first = 0; first < 256; first++) {
+        unsigned refusal = first % 2 ? NIPPITSUN_REFUSED_GROUP : NIPPITSUN_REFUSED_NOT;
+        table[0] = table[1] = running();
+        table[1].vlan = 5;
+        CHECK(arrive(0, from((uint8_t)first, tagged(60, 0, 101)), 60).refusal == refusal);
+        CHECK(arrive(1, from((uint8_t)first, tagged(60, 5, 101)), 60).refusal == refusal);
+        CHECK(written(from((uint8_t)first, untagged(60)), 60, 1).refusal == refusal);
+        CHECK(taken(from((uint8_t)first, tagged(60, 0, 7)), 60).number == 7 && out[6] == first);
+    }
+    make_table(1);
+    CHECK(opened(group, 0, NIPPITSUN_RULE_VECTOR, 4, 3).refusal == 0);
+    tagged(60, 0, 7);
+    memcpy(frame_bytes, group, 6);
+    CHECK(arrive(0, from(0x01, frame_bytes), 60).refusal == NIPPITSUN_REFUSED_GROUP);
+    CHECK(arrive(0, from(0xFE, frame_bytes), 60).verdict == NIPPITSUN_VERDICT_HANDED_UP);
 }
 
 /* 1 comes before anything else: a table of more than 64 slots is refused and not read, and an open's settings are refused
@@ -526,12 +560,14 @@ int main(void) {
     opens();
     closes_resets_and_ticks();
     refusals();
+    sources();
     unread();
     nothing();
     make_table(0);
     make_out(0);
-    for (int n = 1; n <= 13; n++) CHECK(refused[n] > 0);
+    for (int n = 1; n <= NIPPITSUN_REFUSED_GROUP; n++) CHECK(refused[n] > 0);
     for (int v = 1; v <= 3; v++) CHECK(verdicts[v] > 0);
-    printf("%u checks of the C calls, %u failed: every verdict, refusals 1 to 13, every field of a record\n", checks, failures);
+    printf("%u checks of the C calls, %u failed: every verdict, refusals 1 to %d, every field of a record\n", checks, failures,
+           NIPPITSUN_REFUSED_GROUP);
     return failures != 0;
 }

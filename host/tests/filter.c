@@ -4,7 +4,8 @@
 // comes out of it has passed. And in every form, with a tag beside it or not, coming in or going out, through an interpreter
 // of the few instructions that the filter has. Both must agree, and with the library: the frame as the host would give it,
 // with its tag put back, is let through if the library takes it or finds it damaged in any way that operators should see
-// (0, 3 with F1C1 and an open key, 7, 8), and stopped if it would be refused as foreign (5, 6). Short frames (4) may go either way.
+// (0, 3 and 14 with F1C1 and an open key, 7, 8), and stopped if it would be refused as foreign (5, 6, and 3 and 14 with another
+// key). Short frames (4) may go either way.
 #include "filter.h"
 #include "host.h"
 
@@ -90,7 +91,7 @@ static int passes_kernel(const int pair[2], const struct form *f)
 }
 
 // What the library says of the frame as the host gives it: with the tag put back.
-static unsigned says(nippitsun_stream *table, const struct form *f, int short_enough)
+static unsigned says(nippitsun_stream *table, const struct form *f, int by_the_rest)
 {
     uint8_t whole[LONGEST + VLAN_TAG], out[NIPPITSUN_FRAME_MOST];
     size_t length = f->length;
@@ -103,8 +104,9 @@ static unsigned says(nippitsun_stream *table, const struct form *f, int short_en
         whole[TYPE_AT + 3] = (uint8_t)f->tci;
         length += VLAN_TAG;
     }
-    // A frame that is too long is judged by its first bytes as well: is it one of ours?
-    if (short_enough && length > NIPPITSUN_FRAME_MOST) length = NIPPITSUN_FRAME_MOST;
+    // A frame that is too long or has a group source is judged by the rest as well: is it one of ours?
+    if (by_the_rest && length > NIPPITSUN_FRAME_MOST) length = NIPPITSUN_FRAME_MOST;
+    if (by_the_rest && length > ADDRESS) whole[ADDRESS] &= 0xFE;
     return nippitsun_arrival(table, NIPPITSUN_SLOTS_MOST, 0, whole, length, out, sizeof out).refusal;
 }
 
@@ -198,11 +200,13 @@ int main(int count, char **words)
         close(pair[1]);
     }
     // A test that never met a form shows nothing of it.
-    if (let[0] == 0 || let[3] == 0 || stopped[4] == 0 || stopped[5] == 0 || stopped[6] == 0 || long_ones == 0 || of_kernel == 0)
+    if (let[0] == 0 || let[3] == 0 || let[14] == 0 || stopped[4] == 0 || stopped[5] == 0 || stopped[6] == 0 || stopped[14] == 0 || long_ones == 0
+        || of_kernel == 0)
         refuse("some form was never made");
     if (let[5] != 0 || let[6] != 0 || stopped[0] != 0) refuse("the counts do not agree");
     printf("filter-test: %" PRIu64 " frames, %" PRIu64 " of them through the kernel too; let through %" PRIu64 " that the library takes, "
-           "%" PRIu64 " too long, %" PRIu64 " short; stopped %" PRIu64 " foreign, %" PRIu64 " without a stream, %" PRIu64 " too long, %" PRIu64 " short\n",
-           frames, of_kernel, let[0], let[3], let[4], stopped[5], stopped[6], stopped[3], stopped[4]);
+           "%" PRIu64 " too long, %" PRIu64 " short, %" PRIu64 " with a group source; stopped %" PRIu64 " foreign, %" PRIu64 " without a stream, "
+           "%" PRIu64 " too long, %" PRIu64 " short, %" PRIu64 " with a group source\n",
+           frames, of_kernel, let[0], let[3], let[4], let[14], stopped[5], stopped[6], stopped[3], stopped[4], stopped[14]);
     return 0;
 }

@@ -85,6 +85,11 @@ pub struct Ticked {
 /// assert_eq!(receiver.counts(slot).unwrap().discarded, 1);
 ///
 /// assert_eq!(receiver.arrival(2, &frame, &mut out), Err(Refusal::Network));
+///
+/// // A tap that is faulty has set the lowest bit of the first source byte: a group address, which is no sender's.
+/// let mut reflected = frame;
+/// reflected[6] |= 1;
+/// assert_eq!(receiver.arrival(0, &reflected, &mut out), Err(Refusal::Group));
 /// # Ok::<(), Refusal>(())
 /// ```
 #[derive(Clone, Debug, Default, PartialEq, Eq)]
@@ -138,7 +143,7 @@ impl Receiver {
         self.table.get(slot).map(|s| &s.counts)
     }
 
-    /// A frame came in on a network, 0 or 1. Refusals 1 to 8 in this order.
+    /// A frame came in on a network, 0 or 1. Refusals 1, 2, 3, 4, 5, 14, 6, 7, 8 in this order.
     ///
     /// The output must hold the frame without its tag for every verdict: [`Stream::FRAME_MOST`] bytes are always enough.
     /// Its bytes after a frame handed up keep their values.

@@ -4,7 +4,7 @@ use std::fmt;
 
 macro_rules! refusals {
     ($($(#[doc = $what:literal])+ $name:ident = $number:literal, $says:literal;)+) => {
-        /// Why a call was refused (document 01, "Calls and the order of checks"). A refused call changes nothing.
+        /// Why a call was refused (document 01, "Calls and the order of checks"; 14 is of order 1). A refused call changes nothing.
         #[derive(Clone, Copy, Debug, PartialEq, Eq, Hash, PartialOrd, Ord)]
         #[repr(u8)]
         pub enum Refusal {
@@ -23,7 +23,7 @@ macro_rules! refusals {
                 }
             }
 
-            /// When this refusal is given, in the words of document 01.
+            /// When this refusal is given, in the words of the documents.
             pub const fn words(self) -> &'static str {
                 match self {
                     $(Refusal::$name => $says,)+
@@ -60,10 +60,12 @@ refusals! {
     Slot = 12, "slot beyond the table or free";
     /// The frame already carries F1C1.
     Tagged = 13, "frame already carries F1C1";
+    /// The source is a group address: the lowest bit of its first byte is set.
+    Group = 14, "group source address";
 }
 
 impl Refusal {
-    /// The number that document 01 gives this refusal.
+    /// The number that the documents give this refusal.
     pub const fn number(self) -> u8 {
         self as u8
     }

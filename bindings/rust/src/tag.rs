@@ -16,7 +16,7 @@ pub struct Taken {
 }
 
 /// Puts a tag with this number into the frame, and writes the result to the start of the output. Answers its length.
-/// Refusals 3, 4, 13, 8 in this order.
+/// Refusals 3, 4, 13, 14, 8 in this order.
 ///
 /// ```
 /// use nippitsun::{tag, Refusal};
@@ -40,7 +40,8 @@ pub fn put(frame: &[u8], number: u16, out: &mut [u8]) -> Result<usize, Refusal> 
     Ok(a.length)
 }
 
-/// Takes the tag out of the frame, and writes the rest to the start of the output. Refusals 3, 4, 5, 8 in this order.
+/// Takes the tag out of the frame, and writes the rest to the start of the output. Refusals 3, 4, 5, 8 in this order: any
+/// source is taken.
 pub fn take(frame: &[u8], out: &mut [u8]) -> Result<Taken, Refusal> {
     let a = archive::take_tag(frame, out);
     Refusal::check(a.refusal)?;

@@ -77,6 +77,12 @@ fn tagged(length: usize, number: u16) -> Vec<u8> {
     f
 }
 
+/// The frame with this first byte of its source.
+fn from(first: u8, mut frame: Vec<u8>) -> Vec<u8> {
+    frame[6] = first;
+    frame
+}
+
 /// An arrival that is refused changes nothing.
 fn refused(r: &mut Receiver, network: u8, frame: &[u8], room: usize) -> Option<Refusal> {
     let before = r.clone();
@@ -194,13 +200,14 @@ fn every_refusal() {
         ..running()
     }]);
     let mut out = [0; 2000];
-    let bare = [7; 60];
+    let bare = [6; 60];
+    let group = from(1, bare.to_vec());
     let mut seen = vec![
-        refused(&mut long, 2, &tagged(2001, 1), 0),
-        refused(&mut r, 2, &tagged(2001, 1), 0),
-        refused(&mut r, 1, &tagged(2001, 1), 0),
-        refused(&mut r, 1, &tagged(19, 1), 0),
-        refused(&mut r, 1, &bare, 0),
+        refused(&mut long, 2, &from(1, tagged(2001, 1)), 0),
+        refused(&mut r, 2, &from(1, tagged(2001, 1)), 0),
+        refused(&mut r, 1, &from(1, tagged(2001, 1)), 0),
+        refused(&mut r, 1, &from(1, tagged(19, 1)), 0),
+        refused(&mut r, 1, &group, 0),
         refused(&mut Receiver::new(1), 1, &tagged(60, 1), 0),
         refused(&mut r, 1, &tagged(60, 1), 0),
     ];
@@ -210,7 +217,8 @@ fn every_refusal() {
     seen.push(r.open(settings(0)).err());
     seen.push(r.open(settings(1)).err());
     seen.push(r.close(1).err());
-    seen.push(tag::put(&tagged(60, 1), 2, &mut out).err());
+    seen.push(tag::put(&from(1, tagged(60, 1)), 2, &mut out).err());
+    seen.push(tag::put(&group, 2, &mut []).err());
     assert_eq!(
         seen,
         Refusal::ALL.iter().map(|&n| Some(n)).collect::<Vec<_>>()
@@ -224,8 +232,8 @@ fn every_refusal() {
     assert_eq!(r.reset(1), Err(Refusal::Slot));
     r.records_mut()[0].window = 65;
     assert_eq!(r.reset(0), Err(Refusal::Damaged));
-    assert_eq!(tag::put(&[0; 1995], 2, &mut out), Err(Refusal::Long));
-    assert_eq!(tag::put(&bare[..13], 2, &mut out), Err(Refusal::Short));
+    assert_eq!(tag::put(&[1; 1995], 2, &mut out), Err(Refusal::Long));
+    assert_eq!(tag::put(&group[..13], 2, &mut out), Err(Refusal::Short));
     assert_eq!(tag::put(&bare, 2, &mut out[..65]), Err(Refusal::Room));
     assert_eq!(tag::take(&[0; 2001], &mut out), Err(Refusal::Long));
     assert_eq!(tag::take(&tagged(19, 1), &mut out), Err(Refusal::Short));
@@ -234,6 +242,51 @@ fn every_refusal() {
         tag::take(&tagged(60, 1), &mut out[..53]),
         Err(Refusal::Room)
     );
+}
+
+#[test]
+fn a_group_source_reaches_no_stream() {
+    let group = Err(Refusal::Group);
+    let mut out = [0; 100];
+    for first in 0..=255 {
+        let frame = from(first, tagged(60, 101));
+        let bare = from(first, vec![6; 60]);
+        let is_group = first % 2 == 1;
+        let mut r = Receiver::from_records(vec![running()]);
+        if is_group {
+            assert_eq!(refused(&mut r, 0, &frame, 60), Some(Refusal::Group));
+        } else {
+            assert!(r.arrival(0, &frame, &mut out).is_ok());
+        }
+        assert_eq!(
+            tag::put(&bare, 7, &mut out),
+            if is_group { group } else { Ok(66) }
+        );
+        // Taking a tag out does not look at the source.
+        assert_eq!(tag::take(&frame, &mut out).map(|t| t.number), Ok(101));
+    }
+
+    // Before an unknown key, a damaged record and an output that is too small.
+    let frame = from(0xFF, tagged(60, 1));
+    let damaged = Receiver::from_records(vec![Stream {
+        rule: 3,
+        ..running()
+    }]);
+    for mut r in [Receiver::new(1), damaged] {
+        assert_eq!(refused(&mut r, 1, &frame, 0), Some(Refusal::Group));
+    }
+
+    // A group destination is a key as any other.
+    let mut r = Receiver::new(1);
+    let destination = [0x01, 0x00, 0x5E, 0x00, 0x00, 0x07];
+    let opened = r.open(Settings {
+        destination,
+        ..settings(0)
+    });
+    assert_eq!(opened, Ok(0));
+    let mut frame = tagged(60, 1);
+    frame[..6].copy_from_slice(&destination);
+    assert!(r.arrival(0, &from(0xFE, frame), &mut out).is_ok());
 }
 
 #[test]
@@ -260,9 +313,9 @@ fn refusals_have_their_numbers_and_say_why() {
         assert_eq!(usize::from(refusal.number()), at + 1);
         assert_eq!(Refusal::of_number(refusal.number()), Some(refusal));
     }
-    assert_eq!(Refusal::ALL.len(), 13);
+    assert_eq!(Refusal::ALL.len(), 14);
     assert_eq!(Refusal::of_number(0), None);
-    assert_eq!(Refusal::of_number(14), None);
+    assert_eq!(Refusal::of_number(15), None);
     let why: Box<dyn std::error::Error> = Box::new(Refusal::Room);
     assert_eq!(why.to_string(), "refused (8): output too small");
 }

@@ -171,7 +171,7 @@ mod tests {
     }
 
     /// What comes through is what the library does not refuse with 5 or 6. Where it says 4, either is right. It looks at the
-    /// length first, so one that is too long is cut for it.
+    /// length and the source before the key, so for it one that is too long is cut, and one of a group gets another source.
     fn hold_to_the_library(program: &[Instruction], library: &Receiver, frame: &Queued) -> bool {
         let kept = run(program, frame);
         assert!(kept == 0 || kept as usize > Stream::FRAME_MOST);
@@ -182,9 +182,12 @@ mod tests {
             [mark[0], mark[1], tci[0], tci[1]]
         });
         let whole = put_back(&mut room, frame.bytes.len(), beside);
-        let whole = &whole[..whole.len().min(Stream::FRAME_MOST)];
+        let mut whole = whole[..whole.len().min(Stream::FRAME_MOST)].to_vec();
+        if let Some(first) = whole.get_mut(6) {
+            *first &= 0xFE;
+        }
         let mut out = [0; Stream::FRAME_MOST];
-        match library.clone().arrival(0, whole, &mut out) {
+        match library.clone().arrival(0, &whole, &mut out) {
             Err(Refusal::Short) => {}
             Err(Refusal::Untagged | Refusal::Unknown) => assert_eq!(kept, 0, "{frame:?}"),
             Err(refusal) => panic!("{refusal}"),
@@ -248,6 +251,27 @@ mod tests {
         for packet in 0..8 {
             let kept = run(&program, &came(packet));
             assert_eq!(kept == 0, packet == PACKET_OUTGOING, "{packet}");
+        }
+    }
+
+    /// The library is to refuse it with 14, so that it is counted.
+    #[test]
+    fn a_group_source_comes_through() {
+        let keys = [(DEST, 100), (DEST, 0)];
+        let (program, library) = (program(&keys), receiver(&keys));
+        for (first, tci) in [(0x01, 100), (0xFF, 0), (0xFE, 0), (0x01, 101)] {
+            let mut bytes = frame(DEST, [VLAN_MARK, REDUNDANCY_TAG], tci, 60);
+            bytes[6] = first;
+            let mut out = [0; Stream::FRAME_MOST];
+            let refused = library.clone().arrival(0, &bytes, &mut out).err();
+            assert_eq!(refused, (first % 2 == 1).then_some(Refusal::Group));
+            let queued = Queued {
+                bytes,
+                packet: 2,
+                beside: None,
+            };
+            let through = hold_to_the_library(&program, &library, &queued);
+            assert_eq!(through, tci != 101, "{first:02x}, {tci}");
         }
     }
 

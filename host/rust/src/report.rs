@@ -328,6 +328,7 @@ mod tests {
         silences.found_by(11);
         let mut refused = [0; Refusal::ALL.len() + 1];
         refused[3] = 4;
+        refused[usize::from(Refusal::Group.number())] = 8;
         let network = |frames, open| Network {
             counts: port::Counts {
                 frames,
@@ -356,6 +357,7 @@ mod tests {
 slot 0 dest 01005e000007 vlan 100 rule 1 L 5 R 3 arrivals0 7 arrivals1 0 passed 7 discarded 0 rogue 0 disorder 0 lost 0 resets 0 silent0 0 back0 0 silent1 0 back1 0
 slot 2 dest 020000000001 vlan 0 rule 1 L 5 R 3 arrivals0 9 arrivals1 0 passed 9 discarded 0 rogue 0 disorder 0 lost 0 resets 0 silent0 0 back0 0 silent1 1 back1 0
 refused 3 (frame too long) 4
+refused 14 (group source address) 8
 damaged 1
 network 0 frames 20 outgoing 1 dropped 2 unstamped 3 reopened 4
 network 1 frames 30 outgoing 1 dropped 2 unstamped 3 reopened 4
@@ -386,12 +388,13 @@ ticks 50 late 6 steps 1";
             }
             assert_eq!(families.len(), 21);
             // Four families by stream and network, six by stream, one by refusal, six by network, four alone.
-            assert_eq!(values.len(), 4 * 4 + 6 * 2 + 13 + 6 * 2 + 4);
+            assert_eq!(values.len(), 4 * 4 + 6 * 2 + Refusal::ALL.len() + 6 * 2 + 4);
             for line in [
                 "nippitsun_arrivals_total{slot=\"0\",dest=\"01:00:5e:00:00:07\",vlan=\"100\",network=\"0\"} 7",
                 "nippitsun_passed_total{slot=\"2\",dest=\"02:00:00:00:00:01\",vlan=\"0\"} 9",
                 "nippitsun_silent{slot=\"2\",dest=\"02:00:00:00:00:01\",vlan=\"0\",network=\"1\"} 1",
                 "nippitsun_refused_total{number=\"3\"} 4",
+                "nippitsun_refused_total{number=\"14\"} 8",
                 "nippitsun_open{network=\"1\"} 0",
                 "nippitsun_clock_steps_total 1",
             ] {
