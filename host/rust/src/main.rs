@@ -15,11 +15,11 @@ mod trouble;
 
 use clock::Clock;
 use filter::Key;
-use nippitsun::{Arrival, Receiver, Refusal, Stream, Verdict};
+use nippitsun::{Arrival, Receiver, Stream, Verdict};
 use options::{Asked, Give, Options};
 use order::{Call, Order, Time};
 use port::{Port, Setup};
-use report::{say, Network, Report};
+use report::{say, Network, Refused, Report};
 use silence::{News, Silences};
 use socket::{Signal, Signals};
 use std::ffi::OsString;
@@ -45,7 +45,7 @@ struct Host {
     order: Order,
     ports: Vec<Port>,
     silences: Silences,
-    refused: [u64; Refusal::ALL.len() + 1],
+    refused: Refused,
     damaged: u64,
     /// Where the library writes a frame that it hands up.
     out: Box<[u8; Stream::FRAME_MOST]>,
@@ -261,7 +261,7 @@ fn receive(options: Options) -> Result<(), Trouble> {
         setup,
         clock,
         ports,
-        refused: [0; Refusal::ALL.len() + 1],
+        refused: [0; report::NUMBERS],
         damaged: 0,
         out,
         up,

@@ -31,12 +31,16 @@ pub struct Network {
     pub open: bool,
 }
 
+/// How many numbers a refusal can have: it is told in a byte, and not every one below the greatest is given.
+pub const NUMBERS: usize = 1 << u8::BITS;
+/// How often each refusal was given, by its number.
+pub type Refused = [u64; NUMBERS];
+
 /// All counters at one time.
 pub struct Report<'a> {
     pub records: &'a [Stream],
     pub silences: &'a Silences,
-    /// How often each refusal was given, by its number.
-    pub refused: &'a [u64],
+    pub refused: &'a Refused,
     pub damaged: u64,
     pub networks: [Network; NETWORKS],
     pub ticks: u64,
@@ -326,7 +330,7 @@ mod tests {
         let mut silences = Silences::new(3, Some(10), 0);
         silences.arrival(2, 0, 6);
         silences.found_by(11);
-        let mut refused = [0; Refusal::ALL.len() + 1];
+        let mut refused = [0; NUMBERS];
         refused[3] = 4;
         refused[usize::from(Refusal::Group.number())] = 8;
         let network = |frames, open| Network {
