@@ -130,7 +130,9 @@ def reflected(bench):
     echo = [(time + 40 * MS, data[:6] + b"\x03" + data[7:]) for time, data in runs[0]]
     both = [pcap(runs[0]), pcap(sorted(runs[1] + echo))]
     bench.case(both, "T=1ms tau=1ms --margin 0 wait=0", 0, "J at least 2.4 ms: ", "\nJ 2.5 ms: ", f" from {len(runs[0]) + len(runs[1])} frames, ",
-               "\nL 8: ", "\nR 5 (", without=("warning",))
+               "\nL 8: ", "\nR 5 (",
+               f"warning: 0 frames on network 0 and {len(echo)} on network 1 have a group source, which a receiver refuses with 14: they are left out")
+    bench.case([both[0], pcap(echo)], "", 2, f"is in both captures: 0 frames on network 0 and {len(echo)} on network 1 have a group source")
     alone = [pcap([(time, frame(1, source="030000000002")) for time in (START, START + MS)])] * 2
     bench.case(alone, "", 2, "choose: refused: no frame with a redundancy tag and an individual source in either capture")
 

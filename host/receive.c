@@ -25,7 +25,7 @@ static const char usage[] =
     "  --open DEST,VLAN,RULE,L,R   a stream: address in hex, id, vector or match, window, reset time in ticks; again for more\n"
     "  --tick MS                   a tick every MS milliseconds (100)\n"
     "  --room KB                   what the kernel may hold for a port, in kilobytes (1024)\n"
-    "  --all                       no filter in the kernel: foreign frames are counted as refusals 5 and 6; to look for a wrong key\n"
+    "  --all                       no filter in the kernel: foreign frames are counted as refusals 5 and 6, or 14 with a group source; to look for a wrong key\n"
     "  --alarm MS                  say so when a stream has arrivals on one network and for MS milliseconds none on the other (1000; 0: never)\n"
     "  --stats FILE                write all counters to FILE each second, in the text form that Prometheus reads\n"
     "  --quiet MS                  end after MS milliseconds without a frame\n"

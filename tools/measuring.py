@@ -20,18 +20,23 @@ POINTS_LEAST = 30
 
 
 def tagged(frame, length):
-    """The key and the number of a frame with a redundancy tag, if its length is allowed and its source is no group's: a receiver
-    refuses the others. What stands behind the tag may have been cut when it was captured."""
+    """The key and the number of a frame with a redundancy tag, if its length is allowed. What stands behind the tag may have been
+    cut when it was captured."""
     at, vlan = 12, 0
     if frame[12:14] == b"\x81\x00":
         at, vlan = 16, int.from_bytes(frame[14:16], "big") & 0xFFF
-    if frame[at:at + 2] != b"\xf1\xc1" or len(frame) < at + 6 or not at + 8 <= length <= FRAME_MOST or frame[6] & 1:
+    if frame[at:at + 2] != b"\xf1\xc1" or len(frame) < at + 6 or not at + 8 <= length <= FRAME_MOST:
         return None
     return (frame[:6], vlan), int.from_bytes(frame[at + 4:at + 6], "big")
 
 
 def show_key(key):
     return f"{key[0].hex(':')},{key[1]}"
+
+
+def show_reflected(counts):
+    """Frames of each network that are left out, as a receiver refuses them: what a tap reflects is no copy."""
+    return f"{counts[0]} frames on network 0 and {counts[1]} on network 1 have a group source, which a receiver refuses with 14"
 
 
 class Stretch:
@@ -79,9 +84,10 @@ class Stretch:
 
 
 class Measured:
-    def __init__(self, key, frames, stretches, back):
+    def __init__(self, key, frames, reflected, stretches, back):
         self.key = key
         self.frames = frames
+        self.reflected = reflected
         self.stretches = stretches
         self.back = back
         copies = [entry for stretch in stretches for entry in stretch.copies.values()]
@@ -112,23 +118,26 @@ class Measured:
         return other if other > 0 and 4 * self.spread(other) <= 3 * spread else None
 
 
-def of_network(name, network, found):
-    """Arrivals of each key are put into `found`. How many time stamps are earlier than the one before."""
+def of_network(name, network, found, reflected):
+    """Arrivals of each key are put into `found`, and those with a group source counted in `reflected`. How many time stamps are
+    earlier than the one before."""
     last, back = None, 0
     for time, length, frame in read_capture(name):
         if last is not None and time < last:
             back += 1
         last = time
         seen = tagged(frame, length)
-        if seen:
+        if seen and frame[6] & 1:
+            reflected.setdefault(seen[0], [0, 0])[network] += 1
+        elif seen:
             found.setdefault(seen[0], ([], []))[network].append((time, network, seen[1]))
     return back
 
 
 def measure(names, key=None):
     """The figures of the captures of network 0 and network 1, for one stream."""
-    found = {}
-    back = sum(of_network(name, network, found) for network, name in enumerate(names))
+    found, reflected = {}, {}
+    back = sum(of_network(name, network, found, reflected) for network, name in enumerate(names))
     if not found:
         raise Refused("no frame with a redundancy tag and an individual source in either capture")
     there = "; ".join(f"{show_key(k)} ({len(found[k][0])} and {len(found[k][1])} frames)" for k in sorted(found))
@@ -151,7 +160,8 @@ def measure(names, key=None):
         if not recent or near is not recent[0]:
             recent = [near] + recent[:RECENT - 1]
         near.add(time, network, number)
-    measured = Measured(key, [len(arrivals) for arrivals in networks], stretches, back)
+    measured = Measured(key, [len(arrivals) for arrivals in networks], reflected.get(key), stretches, back)
     if not measured.on_both:
-        raise Refused(f"no index of {show_key(key)} is in both captures: are they of the same time, and by one clock?")
+        why = show_reflected(measured.reflected) if measured.reflected else "are they of the same time, and by one clock?"
+        raise Refused(f"no index of {show_key(key)} is in both captures: {why}")
     return measured

@@ -10,7 +10,7 @@ pub const USAGE: &str = "usage: receive-rust [OPTION].. INTERFACE0 INTERFACE1
   --open DEST,VLAN,RULE,L,R   a stream: address in hex, id, vector or match, window, reset time in ticks; again for more
   --tick MS                   a tick every MS milliseconds (100)
   --room KB                   what the kernel may hold for a port, in kilobytes (1024)
-  --all                       no filter in the kernel: foreign frames are counted as refusals 5 and 6; to look for a wrong key
+  --all                       no filter in the kernel: foreign frames are counted as refusals 5 and 6, or 14 with a group source; to look for a wrong key
   --alarm MS                  say so when a stream has arrivals on one network and for MS milliseconds none on the other (1000; 0: never)
   --stats FILE                write all counters to FILE each second, in the text form that Prometheus reads
   --quiet MS                  end after MS milliseconds without a frame
