@@ -1,4 +1,5 @@
--- Take a tag out gives 3, 4, 5 and 8 as an arrival gives them, never 14, and writes as handed up does. Assumes nothing.
+-- Take a tag out gives 3, 4, 5 and 8 as an arrival gives them, and writes as handed up does; a group source reaches no stream.
+-- Assumes nothing.
 use Prim.Native.Nat.{ℕ, _-_, _≤_, _<_}
 use mathlib.Core.Path.{_≡_, refl, sym, ap, _∙_}
 use mathlib.Core.Logic.{_↔_}
@@ -17,7 +18,6 @@ use Rattle.frame.specs.Frame.{Tag, groupSource, readOf, untagged, headerOf, des
 use Rattle.frame.specs.TagCalls.{Outcome, Bare, takeFrom, takeTag}
 use Rattle.frame.specs.declared.Header.{Header}
 use Rattle.frame.proofs.Heads.{tag-of}
-use Rattle.frame.proofs.Refusals.{take-never-group}
 use Rattle.stream.specs.Record.{lawful}
 use Rattle.stream.specs.Decisions.{up}
 use Rattle.calls.specs.Table.{Table, at, search, hasKey}
@@ -169,4 +169,4 @@ group-reaches-none t network f out s = go (ltb slotsMost (length t)) (ltb 1 netw
 
 pub group-refused : GroupRefused
 unfolding arrival answer
-group-refused t network f out g m k e s = (rw (past t network f out m k, e, admits-none f g s), take-never-group f out)
+group-refused t network f out g m k e s = rw (past t network f out m k, e, admits-none f g s)

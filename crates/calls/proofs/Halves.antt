@@ -20,5 +20,5 @@ halves-fit t network f number g out i few net small wrote some place law any roo
     let l : length g ≡ length f + 6 = ap length (k .same) ∙ tag-length f (typeAt f) number (omega (arith, k .room)) in
     let fits : length g - 6 ≤ length out = omega arith in
     let inside : i < length t = rw place (some-place _ t some) in
-    let single = no-group-written f number g wrote .1 in
-    simp (le-ltb _ _ few, le-ltb _ _ net, r .0, single, sym place, lt-leb _ _ inside, law, le-ltb _ _ fits, r .1, any) (refl, refl)
+    let remains = no-group-written f number g wrote .1 in
+    simp (le-ltb _ _ few, le-ltb _ _ net, r .0, remains, sym place, lt-leb _ _ inside, law, le-ltb _ _ fits, r .1, any) (refl, refl)

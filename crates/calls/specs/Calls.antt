@@ -155,7 +155,7 @@ pub record Result : Type 0 where
   pub table : Table
   pub output : List ℕ
 
--- A result meets document 01: the answer, the table and the output bytes are those that the rules give.
+-- A result meets the documents: the answer, the table and the output bytes are those that the rules give.
 pub record Meets (t : Table) (c : Call) (r : Result) : Type 0 where
   pub said : r .said ≡ answer t (act t c)
   pub table : r .table ≡ after t (act t c)

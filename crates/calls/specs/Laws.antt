@@ -116,11 +116,12 @@ GroupReachesNone =
     (t : Table) (network : ℕ) (f out : List ℕ) → groupSource f ≡ true
     → (n : ℕ) × (answer t (act t (arriving network f out)) ≡ refused n)
 
--- and once 1 to 5 are passed, with 14, which taking the tag out never gives: so `TakeRefusesAlike` needs its premise.
+-- and once 1 to 5 are passed, with 14. Taking the tag out never gives that (`TakeNeverGroup`): so `TakeRefusesAlike` needs
+-- its premise.
 abbrev pub GroupRefused : Type 0
 GroupRefused =
     (t : Table) (network : ℕ) (f out : List ℕ) (g : Tag) → length t ≤ slotsMost → network ≤ 1 → readOf f ≡ answers g → groupSource f ≡ true
-    → (answer t (act t (arriving network f out)) ≡ refused GROUP) × (takeTag f out .said ≡ refused GROUP → ⊥)
+    → answer t (act t (arriving network f out)) ≡ refused GROUP
 
 -- The two halves fit: a frame that went through the writer, and then through an arrival of a stream that takes any number,
 -- is handed up as it was before.

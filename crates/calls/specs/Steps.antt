@@ -1,5 +1,6 @@
--- Document 01, "Calls and the order of checks": the same calls in the steps that the code takes, each on values alone. The
--- laws of `proofs/` put the steps together and show that they come to what `Calls` says. Assumes nothing.
+-- Document 01, "Calls and the order of checks", and document 02, order 1: the same calls in the steps that the code takes,
+-- each on values alone. The laws of `proofs/` put the steps together and show that they come to what `Calls` says. Assumes
+-- nothing.
 use Prim.Native.Nat.{ℕ, _-_}
 use mathlib.Core.Bool.{Bool, _&&_, not}
 use mathlib.Core.List.{List}

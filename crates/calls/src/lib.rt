@@ -1,5 +1,5 @@
 // The by-value part of each call on a table: what it answers, what it stores, what it writes (document 01, "Calls and the
-// order of checks"). The walks over the table are in the crate `receiver`.
+// order of checks", and document 02, order 1). The walks over the table are in the crate `receiver`.
 mod arrival;
 mod slot;
 

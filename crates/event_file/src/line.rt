@@ -83,8 +83,8 @@ fn pair(a: u64, b: u64, buf: &mut [u8], at: usize) -> usize
     decimal(b, buf, y)
 }
 
-// A refusal's number in decimal: its digits, or a number that document 01 has not. (Document 01, "Which form goes where": a
-// match on refusal numbers for printing.)
+// A refusal's number in decimal: its digits, or a number that no refusal has. (Document 01, "Which form goes where": a match
+// on refusal numbers for printing.)
 enum Numeral {
     One(u8),
     Two(u8, u8),
@@ -108,7 +108,8 @@ fn in_digits(n: u8) -> Numeral
         refusal::FULL => Numeral::Two(b'1', b'1'),
         refusal::SLOT => Numeral::Two(b'1', b'2'),
         refusal::TAGGED => Numeral::Two(b'1', b'3'),
-        0 | 14..=255 => Numeral::Other(n),
+        refusal::GROUP => Numeral::Two(b'1', b'4'),
+        0 | 15..=255 => Numeral::Other(n),
     }
 }
 

@@ -1,4 +1,4 @@
--- Each refusal number is given exactly when document 01 says. Assumes nothing.
+-- Each refusal number is given exactly when the documents say, and 14 never by a take. Assumes nothing.
 use mathlib.Core.Path.{_≡_, refl}
 use mathlib.Core.Logic.{inl, inr}
 use Prim.Native.Nat.{ℕ, _+_, _-_}

@@ -1,4 +1,4 @@
--- Taking a tag out and putting the same number in, as document 01 has it. Assumes nothing.
+-- Taking a tag out and putting the same number in, as document 01 and order 1 have it. Assumes nothing.
 use mathlib.Core.Path.{_≡_, refl, sym, ap, _∙_}
 use Prim.Native.Nat.{ℕ, _+_, _-_, _/_, _%_, _≤_, _<_}
 use native.Mathlib.Omega.{arith}
@@ -15,7 +15,7 @@ use Rattle.frame.specs.Bytes.{word, Bytes}
 use Rattle.frame.specs.Frame.{Tag, typeAt, groupSource, hasVlan, vlanOf, isTagged, headShort, tagShort, headerOf, readOf, tagBytes, cutAt, tagAt, untagged, reservedOf, formerOf, writeOf}
 use Rattle.frame.specs.RoundTrips.{TakeThenPut, FormerTag, FormerVlan, FormerVlanNeeds, FormerVlanTag, FormerVlanShort}
 use Rattle.frame.proofs.Heads.{type-least, type-vlan, type-plain, head-cut, TagIs, tag-of}
-use Rattle.frame.proofs.Writes.{write-short, write-tagged, write-group, write-whole, wrote-is}
+use Rattle.frame.proofs.Writes.{write-short, write-tagged, write-whole, wrote-is}
 use Rattle.frame.proofs.Words.{word-front, word-at, word-take, word-drop, same-source, Place, plain, vlan, place, six}
 use Rattle.frame.proofs.PutThenTake.{front, inside}
 
@@ -134,7 +134,8 @@ module _ (f : List ℕ) (t : Tag) (read : readOf f ≡ answers t) where
       let e5 : getD l 5 0 ≡ n % 256 = omega (arith, small 4, small 5) in
       six l (simp length-drop (omega (arith, room))) ∙ rw (e0, e1, e2, e3, e4, e5)
 
-  -- with zero reserved bytes, and a former type that is neither F1C1 nor, with no VLAN tag, 8100, it is the same frame
+  -- with no group source, zero reserved bytes, and a former type that is neither F1C1 nor, with no VLAN tag, 8100, it is the
+  -- same frame
   put-same : Bytes f → groupSource f ≡ false → reservedOf f ≡ 0 → (formerOf f ≡ 0xF1C1 → ⊥) → (hasVlan f ≡ false → formerOf f ≡ 0x8100 → ⊥) → writeOf (untagged f) (t .number) ≡ answers f
   put-same b g z u x =
       let k = kept x in

@@ -1,6 +1,5 @@
 -- Document 01, "The frame", and document 02, order 1: what its bytes mean, how a tag is read, taken out and put in. No buffers
--- here.
--- Assumes nothing.
+-- here. Assumes nothing.
 use Prim.Native.Nat.{ℕ, _+_, _*_, _/_, _%_, _^_}
 use mathlib.Core.Bool.{Bool, _&&_, _||_, not}
 use mathlib.Core.List.{List, [], _∷_, _++_}

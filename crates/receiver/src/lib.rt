@@ -100,7 +100,8 @@ fn decide_at(t: &mut [Stream], i: usize, network: u8, number: u16, room: bool) -
 // whose length is far too great is answered, not overrun. Open, close and reset copy a record out of the table, decide by
 // value, and store: a call that is refused later stores beyond the table, which is nothing.
 
-// Arrival: 1 to 8. 1 to 5 are answered before the table is searched, and the room is known before anything is marked.
+// Arrival: 1 to 8, and 14 behind 5. 1 to 5 and 14 are answered before the table is searched, and the room is known before
+// anything is marked.
 pub fn arrival(t: &mut [Stream], network: u8, frame: &[u8], out: &mut [u8]) -> Answer
     ensures { λ r. ⌜ Meets (now (t .entry)) (arriving network (now (frame .entry)) (now (out .entry))) (record { said = saidArrival r; table = now (t .exit); output = now (out .exit) }) ⌝ }
 {

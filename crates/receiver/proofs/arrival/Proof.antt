@@ -200,7 +200,7 @@ module _ {M : Type 1} (𝓤 : URA M) (H : Heap 𝓤) (A : Atoms 𝓤) (W : Given
             returns ! (look-cell ! 48 refl) $ forget ! 48 refl $ forget ! 46 refl $ forget ! 44 refl $ forget ! 42 refl $ forget ! 40 refl $ forget ! 38 refl $ forget ! 36 refl $ forget ! 34 refl $ forget ! 32 refl $ forget ! 30 refl $ forget ! 28 refl $ forget ! 26 refl $ forget ! 18 refl $ forget ! 16 refl $ forget ! 14 refl $ forget ! 12 refl $ forget ! 10 refl $ forget ! 8 refl $
             move ! (48 ∷ 49 ∷ []) $ free1 ! $ move ! (46 ∷ 47 ∷ []) $ free1 ! $ move ! (44 ∷ 45 ∷ []) $ free1 ! $ move ! (42 ∷ 43 ∷ []) $ free1 ! $ move ! (40 ∷ 41 ∷ []) $ free1 ! $ move ! (38 ∷ 39 ∷ []) $ free1 ! $ move ! (36 ∷ 37 ∷ []) $ free1 ! $ move ! (34 ∷ 35 ∷ []) $ free1 ! $ move ! (32 ∷ 33 ∷ []) $ free1 ! $ move ! (30 ∷ 31 ∷ []) $ free1 ! $ move ! (28 ∷ 29 ∷ []) $ free1 ! $ move ! (26 ∷ 27 ∷ []) $ free1 ! $ move ! (24 ∷ 25 ∷ []) $ free1 ! $ move ! (22 ∷ 23 ∷ []) $ free1 ! $ move ! (20 ∷ 21 ∷ []) $ free1 ! $ move ! (18 ∷ 19 ∷ []) $ free1 ! $ move ! (16 ∷ 17 ∷ []) $ free1 ! $ move ! (14 ∷ 15 ∷ []) $ free1 ! $ move ! (12 ∷ 13 ∷ []) $ free1 ! $ move ! (10 ∷ 11 ∷ []) $ free1 ! $ move ! (8 ∷ 9 ∷ []) $ free1 ! $ free0 ! $ keep ! (0 ∷ 1 ∷ 2 ∷ 4 ∷ 5 ∷ 6 ∷ 7 ∷ []) $ by ! (exits g-ys zs len g-us us′ len-us′ r g-r (arrival-decided ys network fr us p refl (sym e) r roomy (decided .0) (decided .1) (said .0) (said .1))))))
 
-      -- 1 to 5 are asked: the first `let .. else` and what follows
+      -- 1 to 5 and 14 are asked: the first `let .. else` and what follows
       abbrev Answered : Asked → List (Item 𝓤)
       Answered q′ = ‵ (fobs γ (codedHoleys R .code (heres R ys))) ∷ ‵ (fbor κ (Held R (length ys) b o γ)) ∷ ‵ (flft κ q) ∷ ‵ (ShrSlice (named 1) κ₁ u8 .own (record { ptr = (b₁, o₁); name = γ₁; now = fr }) (sliceVal (b₁, o₁) (length fr) ∷ [])) ∷ ‵ (flft κ₁ q₁) ∷ ‵ (fobs γ₂ (codedHoleys u8 .code (heres u8 us))) ∷ ‵ (fbor κ₂ (Held u8 (length us) b₂ o₂ γ₂)) ∷ ‵ (flft κ₂ q₂) ∷ ‵ (froom (sliceTy (tyRef erased mut (pointee (u8 .written)))) l₂₀ 0) ∷ ‵ (fdies (sliceTy (tyRef erased mut (pointee (u8 .written)))) l₂₀) ∷ ‵ (froom (tyRef erased mut (pointee (u8 .written))) l₁₉ 0) ∷ ‵ (fdies (tyRef erased mut (pointee (u8 .written))) l₁₉) ∷ ‵ (froom (sliceTy (tyRef erased mut (pointee (R .written)))) l₁₈ 0) ∷ ‵ (fdies (sliceTy (tyRef erased mut (pointee (R .written)))) l₁₈) ∷ ‵ (froom (tyRef erased mut (pointee (R .written))) l₁₇ 0) ∷ ‵ (fdies (tyRef erased mut (pointee (R .written))) l₁₇) ∷ ‵ (froom (sliceTy (tyRef erased imm (pointee (u8 .written)))) l₁₆ 0) ∷ ‵ (fdies (sliceTy (tyRef erased imm (pointee (u8 .written)))) l₁₆) ∷ ‵ (froom (tyRef erased imm (pointee (u8 .written))) l₁₅ 0) ∷ ‵ (fdies (tyRef erased imm (pointee (u8 .written))) l₁₅) ∷ ‵ (froom (sliceTy (tyRef erased imm (pointee (R .written)))) l₁₄ 0) ∷ ‵ (fdies (sliceTy (tyRef erased imm (pointee (R .written)))) l₁₄) ∷ ‵ (froom (tyRef erased imm (pointee (R .written))) l₁₃ 0) ∷ ‵ (fdies (tyRef erased imm (pointee (R .written))) l₁₃) ∷ ‵ (froom (tyInt w64) l₁₂ 0) ∷ ‵ (fdies (tyInt w64) l₁₂) ∷ ‵ (froom judged-ty l₁₁ 0) ∷ ‵ (fdies judged-ty l₁₁) ∷ ‵ (froom tyBool l₁₀ 0) ∷ ‵ (fdies tyBool l₁₀) ∷ ‵ (froom (tyInt w64) l₉ 0) ∷ ‵ (fdies (tyInt w64) l₉) ∷ ‵ (froom found-ty l₈ 0) ∷ ‵ (fdies found-ty l₈) ∷ ‵ (froom (tyInt w16) l₇ 0) ∷ ‵ (fdies (tyInt w16) l₇) ∷ ‵ (froom header-ty l₆ 0) ∷ ‵ (fdies header-ty l₆) ∷ ‵ (fat fullShare asked-ty l₅ 0 (asked-val q′)) ∷ ‵ (fdies asked-ty l₅) ∷ ‵ (fat fullShare (sliceTy (tyRef (named 2) mut (pointee (u8 .written)))) l₄ 0 (sliceVal (b₂, o₂) (length us))) ∷ ‵ (fdies (sliceTy (tyRef (named 2) mut (pointee (u8 .written)))) l₄) ∷ ‵ (fat fullShare (sliceTy (tyRef (named 1) imm (pointee (u8 .written)))) l₃ 0 (sliceVal (b₁, o₁) (length fr))) ∷ ‵ (fdies (sliceTy (tyRef (named 1) imm (pointee (u8 .written)))) l₃) ∷ ‵ (fat fullShare (tyInt w8) l₂ 0 (vint w8 network)) ∷ ‵ (fdies (tyInt w8) l₂) ∷ ‵ (fat fullShare mutTy l₁ 0 s) ∷ ‵ (fdies mutTy l₁) ∷ ‵ (froom answer-ty l₀ 0) ∷ ‵ (fdies answer-ty l₀) ∷ []
 

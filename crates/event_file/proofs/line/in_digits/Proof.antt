@@ -57,10 +57,14 @@ unfolding decimalOf digitsOf
 returns-13 c = let k = c .match .keys13 in rw k
 
 returns-14 : tie.Need-returns-14
-returns-14 c = search needs
+unfolding decimalOf digitsOf
+returns-14 c = let k = c .match .keys14 in rw k
 
 returns-15 : tie.Need-returns-15
 returns-15 c = search needs
+
+returns-16 : tie.Need-returns-16
+returns-16 c = search needs
 
 pub in-digits-spec : {M : Type 1} → statement M
 in-digits-spec =
@@ -80,4 +84,5 @@ in-digits-spec =
     returns-12
     returns-13
     returns-14
-    returns-15)
+    returns-15
+    returns-16)
