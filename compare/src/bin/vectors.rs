@@ -307,14 +307,7 @@ impl<S: Side> List<S> {
                 let f = frame(length, Tags { vlan, redundancy });
                 self.table(&[fresh(), Stream { vlan: 5, ..fresh() }]);
                 let what = format!("{} bytes, {}", length, kind);
-                self.arrival(&what, 0, &f);
-                let call = Call::TakeTag { frame: &f };
-                self.call(&format!("take a tag out, {}", what), call, 2000);
-                let call = Call::WriteTag {
-                    frame: &f,
-                    number: 258,
-                };
-                self.call(&format!("write a tag, {}", what), call, 2000);
+                self.frame_calls(&what, &f);
             }
         }
     }
@@ -384,6 +377,16 @@ impl<S: Side> List<S> {
         self.arrival("another destination", 0, &stranger);
     }
 
+    /// Each call that takes a frame.
+    fn frame_calls(&mut self, what: &str, frame: &[u8]) {
+        self.arrival(what, 0, frame);
+        let call = Call::TakeTag { frame };
+        self.call(&format!("take a tag out, {}", what), call, 2000);
+        let number = 258;
+        let call = Call::WriteTag { frame, number };
+        self.call(&format!("write a tag, {}", what), call, 2000);
+    }
+
     fn sources(&mut self) {
         self.section("Frames of 20 bytes: the first byte of the source, on fresh streams with an ordinary destination (slot 0) and a group (slot 1)");
         let streams = [
@@ -398,14 +401,7 @@ impl<S: Side> List<S> {
                 let mut f = from_source(first, frame(20, tags));
                 let what = format!("source {:02x}.., {}", first, kind);
                 self.table(&streams);
-                self.arrival(&what, 0, &f);
-                let call = Call::TakeTag { frame: &f };
-                self.call(&format!("take a tag out, {}", what), call, 2000);
-                let call = Call::WriteTag {
-                    frame: &f,
-                    number: 258,
-                };
-                self.call(&format!("write a tag, {}", what), call, 2000);
+                self.frame_calls(&what, &f);
                 f[..6].copy_from_slice(&GROUP);
                 self.arrival(&format!("{}, to the group", what), 1, &f);
             }
