@@ -39,12 +39,13 @@ pub data Act : Type 0 where
 -- ---- the checks, in their order
 
 -- Arrival: 1 to 8 in this order, and 14 after 5 and before 6; 1 stands in `act`, 2 in `checked`, 3 to 5 in `readOf`, and
--- the rest here. A frame with a group source reaches no stream. The lowest slot with the key is taken. 8 is given when the
--- output holds fewer than length - 6 bytes, for every arrival that gets this far, even a duplicate.
+-- the rest here. A frame with a group source reaches no stream.
 unfoldable pub admitted : (frame : List ℕ) → Said Tag → Said Tag
 admitted f (refused n) = refused n
 admitted f (answers g) = if groupSource f then refused GROUP else answers g
 
+-- The lowest slot with the key is taken. 8 is given when the output holds fewer than length - 6 bytes, for every arrival that
+-- gets this far, even a duplicate.
 unfoldable pub arrivalAt : (t : Table) (slot number network : ℕ) (frame out : List ℕ) → Act
 arrivalAt t i number network f out =
     if leb (length t) i then refuse UNKNOWN

@@ -91,8 +91,8 @@ sentBy b = set frame 6 b
 abbrev pub sentTo : (first : ℕ) → List ℕ
 sentTo b = set frame 0 b
 
--- A source that begins with 01 or FF is a group's, and one with FE is not. 14 comes after 5, and before 6, for no stream is
--- open in `eight`, and 8. A group destination is a key like any other.
+-- A source that begins with 01 or FF is a group's, and one with FE is not. 14 comes after 5, and before 6 and 8: no stream is
+-- open in `eight`, and the output there has no room. A group destination is a key like any other.
 abbrev pub GroupCases : Type 0
 GroupCases =
     (answer filled (act filled (arriving 0 (sentBy 0x01) buffer)) ≡ refused GROUP)

@@ -19,15 +19,15 @@ PutThenTake =
     (f : List ℕ) (n : ℕ) (g : List ℕ) → n < 65536 → writeOf f n ≡ answers g
     → (readOf g ≡ answers (record { header = record { dest = destOf f; vlan = vlanOf f; at = typeAt f; tagged = true }; number = n })) × (untagged g ≡ f)
 
--- Every frame that is accepted remains: neither it nor what is made of it has a group source.
-abbrev pub NoGroupWritten : Type 0
-NoGroupWritten = (f : List ℕ) (n : ℕ) (g : List ℕ) → writeOf f n ≡ answers g → (groupSource f ≡ false) × (groupSource g ≡ false)
-
 -- The same of the two calls, with any buffers that have room: what the one wrote, the other takes apart.
 abbrev pub WriteThenTake : Type 0
 WriteThenTake =
     (f : List ℕ) (n : ℕ) (out back : List ℕ) (m : ℕ) → n < 65536 → writeTag f n out .said ≡ answers m → length f ≤ length back
     → takeTag (take m (writeTag f n out .bytes)) back ≡ record { said = answers (record { number = n; length = length f }); bytes = overlay f back }
+
+-- Every frame that is accepted remains: neither it nor what is made of it has a group source.
+abbrev pub NoGroupWritten : Type 0
+NoGroupWritten = (f : List ℕ) (n : ℕ) (g : List ℕ) → writeOf f n ≡ answers g → (groupSource f ≡ false) × (groupSource g ≡ false)
 
 -- Taking it out and putting the same number in gives the same frame exactly if it remains, its reserved bytes were zero and
 -- the former type is neither F1C1 nor, in a frame with no VLAN tag, 8100.
@@ -47,10 +47,11 @@ TagLater f =
     (t : Tag) → readOf f ≡ answers t → hasVlan f ≡ false → formerOf f ≡ 0x8100
     → 24 ≤ length f → (word f 22 ≡ 0xF1C1 → ⊥) → writeOf (untagged f) (t .number) ≡ answers (tagAt (untagged f) 16 (t .number))
 
--- if it remains (of all frames this would be false),
+-- if it remains
 abbrev pub FormerVlan : Type 0
 FormerVlan = (f : List ℕ) → groupSource f ≡ false → TagLater f
 
+-- (of all frames that would be false),
 abbrev pub FormerVlanNeeds : Type 0
 FormerVlanNeeds = ((f : List ℕ) → TagLater f) → ⊥
 
