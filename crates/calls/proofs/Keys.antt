@@ -1,4 +1,4 @@
--- Whether a record has the key, field by field, in the order in which the code compares. Assumes nothing.
+-- Whether a record has the key, field by field. Assumes nothing.
 use mathlib.Core.Path.{_≡_, refl}
 use Prim.Native.Nat.{ℕ}
 use mathlib.Core.Bool.{Bool, true, false, not, _&&_}
