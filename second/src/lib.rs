@@ -2,9 +2,9 @@
 //! redundancy tag.
 //!
 //! This is a second implementation. It was written from document 01 ("Exact
-//! rules and what to build") and order 1 of document 02 alone, so that its
-//! answers can be compared with those of the first one. Section names in the
-//! comments are those of document 01.
+//! rules and what to build") and orders 1 and 2 of document 02 alone, so that
+//! its answers can be compared with those of the first one. Section names in
+//! the comments are those of document 01.
 
 #![forbid(unsafe_code)]
 

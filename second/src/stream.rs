@@ -116,8 +116,12 @@ impl Stream {
 
     /// Is this slot in use with this key?
     pub fn has_key(&self, destination: [u8; 6], vlan: u16) -> bool {
-        self.is_in_use()
-            && self.destination == destination
+        rule!(self.is_in_use(), FindsClosed: true)
+            && rule!(
+                self.destination == destination,
+                KeyVlanAlone: true,
+                KeyFiveBytes: self.destination[..5] == destination[..5]
+            )
             && rule!(self.vlan == vlan, KeyWithoutVlan: true)
     }
 

@@ -1,8 +1,8 @@
 //! Wrong variants of this program, each with one slip. A comparison with
 //! another program is only worth something if it finds them, so it is tried
 //! against each. Document 01 names some under "Errors that look right"; the
-//! others are slips that its text, or that of order 1 of document 02, makes
-//! easy.
+//! others are slips that its text, or that of orders 1 and 2 of document 02,
+//! makes easy.
 //!
 //! No variant is set at first. In the code a slip stands behind the right rule:
 //! `rule!(right, Slip: wrong)`.
@@ -66,6 +66,11 @@ variants! {
     VlanZeroApart, Files, "a VLAN tag with id 0 has another key than no tag";
     VlanBehindTag, Files, "8100 is also looked for behind F1C1";
     KeyWithoutVlan, Files, "the key is the destination alone";
+    KeyVlanAlone, Files, "the key is the VLAN id alone";
+    KeyFiveBytes, Files, "only the first five bytes of the destination are compared";
+    FindsClosed, Files, "a slot that is not in use is found by its key too";
+    SearchEndsAtVlan, Files, "the search ends at the first slot in use with another VLAN id";
+    FirstWithVlan, Files, "of the slots in use with the VLAN id only the first is looked at";
     Opens4095, Files, "VLAN 4095 can be opened";
     NumberLowFirst, Files, "the number is read low byte first";
     ReservedRead, Files, "a tag counts only if its reserved bytes are zero";
@@ -162,6 +167,31 @@ pub(crate) fn group_before_no_tag(frame: &[u8], why: Refusal) -> Refusal {
         Refusal::NoTag => check_source(frame).err().unwrap_or(why),
         _ => why,
     }
+}
+
+/// The lowest slot in use with the key, unless a slot in use before it has
+/// another VLAN id.
+pub(crate) fn find_until_other_vlan(
+    table: &[Stream],
+    destination: [u8; 6],
+    vlan: u16,
+) -> Option<usize> {
+    table
+        .iter()
+        .take_while(|s| !s.is_in_use() || s.vlan == vlan)
+        .position(|s| s.has_key(destination, vlan))
+}
+
+/// The lowest slot in use with the VLAN id, if it has the destination too.
+pub(crate) fn find_first_with_vlan(
+    table: &[Stream],
+    destination: [u8; 6],
+    vlan: u16,
+) -> Option<usize> {
+    table
+        .iter()
+        .position(|s| s.is_in_use() && s.vlan == vlan)
+        .filter(|&slot| table[slot].has_key(destination, vlan))
 }
 
 /// A stream opened in a slot whose old record keeps its state.
