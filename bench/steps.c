@@ -1,5 +1,5 @@
-/* The arrivals of the table's cells, for bench/steps to count: CALLS calls of nippitsun_arrival for each size, number of
-   streams and mix, in this order, and none beside. What comes is what bench/src/cells_arrivals.rs says. */
+/* The arrivals of the table's cells with no VLAN tag, for bench/steps to count: CALLS calls of nippitsun_arrival for each
+   size, number of streams and mix, in this order, and none beside. What comes is what bench/src/cells_arrivals.rs says. */
 #include "../bindings/c/nippitsun.h"
 
 enum { CALLS = 128 };

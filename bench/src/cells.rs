@@ -45,14 +45,44 @@ pub fn frame(size: usize, vlan: bool, tagged: bool) -> Vec<u8> {
     f
 }
 
+/// Frames in a ring. Even, so that a place is always of the same network.
+pub const RING: usize = 8;
+
+/// What one side reads and writes lies at the same places of a page on every side. Otherwise a time hangs on where the memory
+/// happens to be: a read may wait for an earlier write that has the same place in another page.
+#[repr(C, align(4096))]
+pub struct Room {
+    pub ring: [[u8; 1536]; RING],
+    /// With it the output has no place in common with a frame of up to 256 bytes.
+    between: [u8; 256],
+    pub out: [u8; 2048],
+}
+
+impl Room {
+    pub fn new() -> Box<Room> {
+        Box::new(Room {
+            ring: [[0; 1536]; RING],
+            between: [0; 256],
+            out: [0; 2048],
+        })
+    }
+
+    /// With this frame as the first.
+    fn with(frame: &[u8]) -> Box<Room> {
+        let mut room = Room::new();
+        room.ring[0][..frame.len()].copy_from_slice(frame);
+        room
+    }
+}
+
 macro_rules! taking {
     ($side:ident, $size:expr, $vlan:expr) => {{
-        let f = frame($size, $vlan, true);
-        let mut out = vec![0u8; 2000];
+        let mut room = Room::with(&frame($size, $vlan, true));
         Box::new(move |calls| {
+            let Room { ring, out, .. } = &mut *room;
             let mut sum = 0u64;
             for _ in 0..calls {
-                let r = $side::take_tag(hidden(&f[..]), &mut out);
+                let r = $side::take_tag(hidden(&ring[0][..$size]), out);
                 sum = sum.wrapping_add(r.length as u64 + r.number as u64 + r.refusal as u64);
             }
             sum.wrapping_add(out[$size - 7] as u64)
@@ -62,12 +92,12 @@ macro_rules! taking {
 
 macro_rules! writing {
     ($side:ident, $size:expr, $vlan:expr) => {{
-        let f = frame($size, $vlan, false);
-        let mut out = vec![0u8; 2000];
+        let mut room = Room::with(&frame($size, $vlan, false));
         Box::new(move |calls| {
+            let Room { ring, out, .. } = &mut *room;
             let mut sum = 0u64;
             for n in 0..calls {
-                let r = $side::write_tag(hidden(&f[..]), n as u16, &mut out);
+                let r = $side::write_tag(hidden(&ring[0][..$size]), n as u16, out);
                 sum = sum.wrapping_add(r.length as u64 + r.number as u64 + r.refusal as u64);
             }
             sum.wrapping_add(out[$size + 5] as u64)

@@ -1,9 +1,43 @@
 //! The cells of the whole arrival. Every side sees the same frames on the same table: the streams come in turn.
-use crate::cells::{frame, hidden, Cell, Group, Work};
+use crate::cells::{frame, hidden, Cell, Group, Room, Work, RING};
 use crate::compare_arrivals::record_of;
 use crate::record::{ArrivalAnswer, Stream};
 use crate::{plain, proved};
 use second::{Arrival, Refusal, Verdict};
+
+/// How the streams' keys differ. All destinations share their first five bytes.
+#[derive(Clone, Copy, PartialEq)]
+enum Keys {
+    /// By the destination. The frames have no VLAN tag, so every VLAN id is 0.
+    Destinations,
+    /// By the destination and by the VLAN id.
+    Both,
+    /// By the VLAN id. The destination is one.
+    Vlans,
+}
+
+impl Keys {
+    /// The last byte of the stream's destination.
+    fn last(self, stream: u8) -> u8 {
+        match self {
+            Keys::Vlans => 0,
+            _ => stream,
+        }
+    }
+
+    /// The VLAN id of the stream.
+    fn vlan(self, stream: u8) -> u16 {
+        match self {
+            Keys::Destinations => 0,
+            _ => stream as u16 + 1,
+        }
+    }
+
+    /// Do the frames have a VLAN tag?
+    fn tagged(self) -> bool {
+        self != Keys::Destinations
+    }
+}
 
 /// What comes. `ahead` is how far the first number of each stream is ahead of its anchor, `step` how the number goes on when
 /// every stream has had its turn, and `pair` whether each frame comes on network 0 and then on network 1.
@@ -14,6 +48,7 @@ struct Mix {
     step: u16,
     pair: bool,
     network: u8,
+    keys: Keys,
 }
 
 const fn mix(name: &'static str, ahead: u16, step: u16) -> Mix {
@@ -23,6 +58,7 @@ const fn mix(name: &'static str, ahead: u16, step: u16) -> Mix {
         step,
         pair: false,
         network: 0,
+        keys: Keys::Destinations,
     }
 }
 
@@ -48,21 +84,25 @@ const SINGLE: [Mix; 4] = [
     },
 ];
 
+/// Those of frames with a VLAN tag, all new. With one stream they are the same.
+const VLANS: Mix = Mix {
+    keys: Keys::Both,
+    ..mix("vlans", 1, 1)
+};
+const SHARED: Mix = Mix {
+    keys: Keys::Vlans,
+    ..mix("shared", 1, 1)
+};
+
 /// The number that each stream has had last when a cell starts.
 const ANCHOR: u16 = 65000;
 
-/// Frames in the ring. Even, so that a place is always of the same network.
-const RING: usize = 8;
-
-#[repr(align(64))]
-struct Ring([[u8; 1536]; RING]);
-
-#[repr(align(64))]
-struct Output([u8; 2048]);
+/// What stands above the VLAN id in a VLAN tag. It is no part of the key.
+const PRIORITY: u16 = 0x2000;
 
 /// The frames to come. One that was used is written anew for its next turn, so no frame is read just after it is written.
 struct Traffic {
-    ring: Box<Ring>,
+    room: Box<Room>,
     place: usize,
     mix: Mix,
     streams: u8,
@@ -74,14 +114,14 @@ struct Traffic {
 
 impl Traffic {
     fn new(size: usize, streams: u8, mix: Mix) -> Traffic {
-        let mut ring = Box::new(Ring([[0; 1536]; RING]));
-        for f in ring.0.iter_mut() {
-            f[..size].copy_from_slice(&frame(size, false, true));
+        let mut room = Room::new();
+        for f in room.ring.iter_mut() {
+            f[..size].copy_from_slice(&frame(size, mix.keys.tagged(), true));
             f[..6].copy_from_slice(&[2, 0, 0, 0, 0, 0]);
         }
         let number = ANCHOR.wrapping_add(mix.ahead);
         let mut t = Traffic {
-            ring,
+            room,
             place: 0,
             mix,
             streams,
@@ -98,9 +138,15 @@ impl Traffic {
     /// Writes the next frame to its place, and goes on to the next place.
     #[inline(always)]
     fn renew(&mut self) {
-        let f = &mut self.ring.0[self.place];
-        f[5] = self.stream;
-        f[16..18].copy_from_slice(&self.number.to_be_bytes());
+        let f = &mut self.room.ring[self.place];
+        let keys = self.mix.keys;
+        f[5] = keys.last(self.stream);
+        let mut at = 16;
+        if keys.tagged() {
+            f[14..16].copy_from_slice(&(PRIORITY | keys.vlan(self.stream)).to_be_bytes());
+            at = 20;
+        }
+        f[at..at + 2].copy_from_slice(&self.number.to_be_bytes());
         self.place = (self.place + 1) % RING;
         if self.mix.pair && !self.second {
             self.second = true;
@@ -124,26 +170,30 @@ impl Traffic {
     }
 }
 
+/// A table begins with a page, on every side.
+#[repr(align(4096))]
+struct Slots<T>([T; 64]);
+
 /// The streams, each in the middle of its life: vector rule, L = 64, the whole window came.
-fn table(streams: u8) -> Vec<second::Stream> {
-    (0..streams)
-        .map(|i| second::Stream {
-            in_use: 1,
-            destination: [2, 0, 0, 0, 0, i],
-            rule: 1,
-            window: 64,
-            reset_time: 100,
-            anchor: ANCHOR,
-            history: u64::MAX,
-            take_any: 0,
-            remaining: 100,
-            ..second::Stream::FREE
-        })
-        .collect()
+fn table(mix: Mix) -> Box<Slots<second::Stream>> {
+    Box::new(Slots(std::array::from_fn(|i| second::Stream {
+        in_use: 1,
+        destination: [2, 0, 0, 0, 0, mix.keys.last(i as u8)],
+        vlan: mix.keys.vlan(i as u8),
+        rule: 1,
+        window: 64,
+        reset_time: 100,
+        anchor: ANCHOR,
+        history: u64::MAX,
+        take_any: 0,
+        remaining: 100,
+        ..second::Stream::FREE
+    })))
 }
 
-fn records(streams: u8) -> Vec<Stream> {
-    table(streams).iter().map(record_of).collect()
+fn records(mix: Mix) -> Box<Slots<Stream>> {
+    let table = table(mix);
+    Box::new(Slots(std::array::from_fn(|i| record_of(&table.0[i]))))
 }
 
 /// What is summed of an answer, the same for both sides.
@@ -178,16 +228,18 @@ macro_rules! arriving {
     ($call:path, $table:expr, $size:expr, $streams:expr, $mix:expr) => {{
         let mut table = $table;
         let mut traffic = Traffic::new($size, $streams, $mix);
-        let mut out = Box::new(Output([0; 2048]));
         Box::new(move |calls| {
             let size = hidden($size);
+            let table = &mut table.0[..$streams as usize];
             let mut sum = 0u64;
             for _ in 0..calls {
-                let f = &traffic.ring.0[traffic.place][..size];
-                sum = sum.wrapping_add($call(&mut table, traffic.network(), f, &mut out.0).sum());
+                let network = traffic.network();
+                let room = &mut *traffic.room;
+                let f = &room.ring[traffic.place][..size];
+                sum = sum.wrapping_add($call(table, network, f, &mut room.out).sum());
                 traffic.renew();
             }
-            sum.wrapping_add(out.0[size - 7] as u64)
+            sum.wrapping_add(traffic.room.out[size - 7] as u64)
         })
     }};
 }
@@ -195,30 +247,31 @@ macro_rules! arriving {
 /// The same frames, each copied whole and nothing else done.
 fn copying(size: usize, streams: u8, mix: Mix) -> Work {
     let mut traffic = Traffic::new(size, streams, mix);
-    let mut out = Box::new(Output([0; 2048]));
     Box::new(move |calls| {
         let size = hidden(size);
         for _ in 0..calls {
-            plain::copy(&traffic.ring.0[traffic.place][..size], &mut out.0);
+            let room = &mut *traffic.room;
+            plain::copy(&room.ring[traffic.place][..size], &mut room.out);
             traffic.renew();
         }
-        out.0[size - 7] as u64
+        traffic.room.out[size - 7] as u64
     })
 }
 
 /// The same frames and a call that does nothing: what the loop and the bare call cost. The call goes through a pointer that the
 /// compiler does not know, or it would leave the call out.
 fn calling(size: usize, streams: u8, mix: Mix) -> Work {
-    let mut table = records(streams);
+    let mut table = records(mix);
     let mut traffic = Traffic::new(size, streams, mix);
-    let mut out = Box::new(Output([0; 2048]));
     Box::new(move |calls| {
         let size = hidden(size);
         let call: plain::Bare = hidden(plain::nothing);
         let mut sum = 0u64;
         for _ in 0..calls {
-            let f = &traffic.ring.0[traffic.place][..size];
-            sum = sum.wrapping_add(call(&mut table, traffic.network(), f, &mut out.0));
+            let network = traffic.network();
+            let room = &mut *traffic.room;
+            let f = &room.ring[traffic.place][..size];
+            sum = sum.wrapping_add(call(&mut table.0, network, f, &mut room.out));
             traffic.renew();
         }
         sum
@@ -227,9 +280,9 @@ fn calling(size: usize, streams: u8, mix: Mix) -> Work {
 
 fn cell(size: usize, streams: u8, mix: Mix) -> Cell {
     let works: Vec<Work> = vec![
-        arriving!(proved::arrival, records(streams), size, streams, mix),
-        arriving!(plain::arrival_at, records(streams), size, streams, mix),
-        arriving!(plain::arrival, table(streams), size, streams, mix),
+        arriving!(proved::arrival, records(mix), size, streams, mix),
+        arriving!(plain::arrival_at, records(mix), size, streams, mix),
+        arriving!(plain::arrival, table(mix), size, streams, mix),
         copying(size, streams, mix),
         calling(size, streams, mix),
     ];
@@ -247,6 +300,13 @@ pub fn arrivals() -> Group {
             for mix in MIXES {
                 cells.push(cell(size, streams, mix));
             }
+        }
+    }
+    for size in [64, 1500] {
+        cells.push(cell(size, 1, VLANS));
+        for streams in [8, 64] {
+            cells.push(cell(size, streams, VLANS));
+            cells.push(cell(size, streams, SHARED));
         }
     }
     for mix in SINGLE {

@@ -329,7 +329,7 @@ pub fn arrival_at(
     };
     let slot = match table
         .iter()
-        .position(|s| s.dest == dest && s.vlan == vlan && s.used != 0)
+        .position(|s| s.vlan == vlan && s.dest == dest && s.used != 0)
     {
         Some(slot) => slot,
         None => return not_taken(UNKNOWN),

@@ -71,7 +71,9 @@ fn line_time(size: usize, gigabits: f64) -> f64 {
 /// The largest part of the product's time: the search, the copy, or the rest.
 fn most(row: &Row, rows: &[Row]) -> &'static str {
     let (size, _, mix) = parts(&row.name);
-    let one = match rows.iter().find(|r| parts(&r.name) == (size, 1, mix)) {
+    // With one stream this mix would be the other.
+    let alone = if mix == "shared" { "vlans" } else { mix };
+    let one = match rows.iter().find(|r| parts(&r.name) == (size, 1, alone)) {
         Some(one) => one,
         None => return "-",
     };
