@@ -43,9 +43,10 @@ static nippitsun_stream table[NIPPITSUN_SLOTS_MOST];
 static uint8_t out[NIPPITSUN_FRAME_MOST];
 static const uint8_t frame[64] = {0, 0, 0, 0, 0, DEST, [12] = 0x81, 0, 0x20, VLAN, 0xF1, 0xC1, 0, 0, 0xFD, 0xE8, 8};
 
-/* Functions of their own: the process that counts knows a call by their addresses. */
-__attribute__((noinline)) static void begins(void) { __asm__ volatile(""); }
-__attribute__((noinline)) static void ends(void) { __asm__ volatile(""); }
+/* Functions of their own: the process that counts knows a call by their addresses. They differ, so that no compiler makes one
+   of them. */
+__attribute__((noinline)) static void begins(void) { __asm__ volatile("/* begins */"); }
+__attribute__((noinline)) static void ends(void) { __asm__ volatile("/* ends */"); }
 
 /* The arrival of a duplicate, which changes counters alone, behind `slots` slots of one kind. Was it found there? */
 static int arrives(const struct passed *p, size_t slots) {
@@ -107,10 +108,12 @@ int main(void) {
         if (more % slots != 0) return puts("the slots do not cost the same"), 1;
     }
     /* With another VLAN id nothing else of the slot is looked at; else the destination; whether it is in use comes last. */
-    if (each[OTHER_VLAN] != each[OTHER_BOTH] || each[OTHER_VLAN_FREE] != each[OTHER_BOTH] || each[OTHER_BOTH_FREE] != each[OTHER_BOTH])
+    if (each[OTHER_VLAN] != each[OTHER_BOTH] || each[OTHER_VLAN_FREE] != each[OTHER_BOTH] ||
+        each[OTHER_BOTH_FREE] != each[OTHER_BOTH])
         return puts("with another VLAN id the search goes on in the slot"), 1;
     if (each[OTHER_DEST] <= each[OTHER_BOTH] || each[OTHER_DEST_FREE] != each[OTHER_DEST] || each[KEY_FREE] <= each[OTHER_DEST])
         return puts("VLAN id, destination and use are not compared in this order"), 1;
-    printf("the search compares the VLAN id first and stops where it differs: %ld instructions a slot, whatever else it holds\n", each[OTHER_BOTH]);
+    printf("the search compares the VLAN id first and stops where it differs: %ld instructions a slot, whatever else it holds\n",
+        each[OTHER_BOTH]);
     return 0;
 }
