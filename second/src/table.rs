@@ -69,10 +69,11 @@ fn check_table(table: &[Stream]) -> Result<(), Refusal> {
 
 /// The lowest slot in use with the key, damaged or not.
 fn find(table: &[Stream], destination: [u8; 6], vlan: u16) -> Option<usize> {
+    let mine = |s: &Stream| s.has_key(destination, vlan);
     rule!(
-        table.iter().position(|s| s.has_key(destination, vlan)),
-        SearchEndsAtVlan: wrong::find_until_other_vlan(table, destination, vlan),
-        FirstWithVlan: wrong::find_first_with_vlan(table, destination, vlan)
+        table.iter().position(mine),
+        SearchEndsAtVlan: wrong::until_other_vlan(table, vlan).iter().position(mine),
+        FirstWithVlan: wrong::first_with_vlan(table, vlan).filter(|&slot| mine(&table[slot]))
     )
 }
 

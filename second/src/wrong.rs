@@ -169,29 +169,15 @@ pub(crate) fn group_before_no_tag(frame: &[u8], why: Refusal) -> Refusal {
     }
 }
 
-/// The lowest slot in use with the key, unless a slot in use before it has
-/// another VLAN id.
-pub(crate) fn find_until_other_vlan(
-    table: &[Stream],
-    destination: [u8; 6],
-    vlan: u16,
-) -> Option<usize> {
-    table
-        .iter()
-        .take_while(|s| !s.is_in_use() || s.vlan == vlan)
-        .position(|s| s.has_key(destination, vlan))
+/// The slots in front of the first one in use with another VLAN id.
+pub(crate) fn until_other_vlan(table: &[Stream], vlan: u16) -> &[Stream] {
+    let other = table.iter().position(|s| s.is_in_use() && s.vlan != vlan);
+    &table[..other.unwrap_or(table.len())]
 }
 
-/// The lowest slot in use with the VLAN id, if it has the destination too.
-pub(crate) fn find_first_with_vlan(
-    table: &[Stream],
-    destination: [u8; 6],
-    vlan: u16,
-) -> Option<usize> {
-    table
-        .iter()
-        .position(|s| s.is_in_use() && s.vlan == vlan)
-        .filter(|&slot| table[slot].has_key(destination, vlan))
+/// The lowest slot in use with the VLAN id.
+pub(crate) fn first_with_vlan(table: &[Stream], vlan: u16) -> Option<usize> {
+    table.iter().position(|s| s.is_in_use() && s.vlan == vlan)
 }
 
 /// A stream opened in a slot whose old record keeps its state.
