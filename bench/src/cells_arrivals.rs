@@ -265,13 +265,14 @@ fn calling(size: usize, streams: u8, mix: Mix) -> Work {
     let mut traffic = Traffic::new(size, streams, mix);
     Box::new(move |calls| {
         let size = hidden(size);
+        let table = &mut table.0[..streams as usize];
         let call: plain::Bare = hidden(plain::nothing);
         let mut sum = 0u64;
         for _ in 0..calls {
             let network = traffic.network();
             let room = &mut *traffic.room;
             let f = &room.ring[traffic.place][..size];
-            sum = sum.wrapping_add(call(&mut table.0, network, f, &mut room.out));
+            sum = sum.wrapping_add(call(table, network, f, &mut room.out));
             traffic.renew();
         }
         sum

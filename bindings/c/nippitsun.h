@@ -1,8 +1,9 @@
 /* Nippitsun for C and C++: a receiver for frames that arrive on two networks, and the redundancy tag in and out.
  *
- * The calls are the exported functions of the crate `port`, proved to do what document 01 says, with orders 1 and 2 of
- * document 02. This header is written by hand: bindings/c/test.c holds it to the compiled code, and bindings/check to the
- * sources. C11 or C++11, x86-64; link with libport.a, which is called libnippitsun.a once it is installed (docs/LINKING.md).
+ * The calls are the exported functions of the crate `port`, proved to do what document 01 says, with order 1 of document 02
+ * (order 2 changes no answer). This header is written by hand: bindings/c/test.c holds it to the compiled code, and
+ * bindings/check to the sources. C11 or C++11, x86-64; link with libport.a, which is called libnippitsun.a once it is
+ * installed (docs/LINKING.md).
  *
  * What the caller owes. The proof takes it for granted, and no call can test it:
  *

@@ -1,5 +1,5 @@
-//! A receiver for frames that arrive on two networks, proved to do what document 01 says, with orders 1 and 2 of document 02,
-//! and safe to use from Rust.
+//! A receiver for frames that arrive on two networks, proved to do what document 01 says, with order 1 of document 02 (order 2
+//! changes no answer), and safe to use from Rust.
 //!
 //! [`Receiver`] owns a table of streams and decides each arrival: handed up, duplicate or rogue. [`tag`] puts the redundancy
 //! tag into a frame and takes it out. The work is done by the archive of the proved crate `port`; this crate gives its calls
