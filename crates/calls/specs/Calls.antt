@@ -156,6 +156,10 @@ pub record Result : Type 0 where
   pub table : Table
   pub output : List ℕ
 
+-- What a call on a table comes to.
+abbrev pub resultOf : Table → Call → Result
+resultOf t c = record { said = answer t (act t c); table = after t (act t c); output = output t (outOf c) (act t c) }
+
 -- A result meets the documents: the answer, the table and the output bytes are those that the rules give.
 pub record Meets (t : Table) (c : Call) (r : Result) : Type 0 where
   pub said : r .said ≡ answer t (act t c)

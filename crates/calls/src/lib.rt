@@ -2,6 +2,7 @@
 // order of checks", and document 02, order 1). The walks over the table are in the crate `receiver`.
 mod arrival;
 mod slot;
+mod told;
 
 pub use arrival::ask;
 pub use arrival::finish;
@@ -18,6 +19,7 @@ pub use slot::close;
 pub use slot::place;
 pub use slot::reset;
 use stream::Marks;
+pub use told::tell_arrival;
 ghost use mathlib.Core.Path.{_≡_};
 ghost use mathlib.Core.Bool.{_||_};
 ghost use Rattle.calls.specs.Ticks.{noSums, visited};
@@ -39,6 +41,18 @@ pub enum Answer {
         number: u16,
         verdict: Verdict,
     },
+}
+
+// The same in plain fields, since an enum can't cross to C, and an array of these is what a batch answers. Refusal 0: verdict
+// is 1 handed up, 2 duplicate, 3 rogue, and length is what was written to the output, 0 but for a frame handed up. Where it
+// is refused, refusal is the number and the rest is 0.
+#[repr(C)]
+pub struct ArrivalAnswer {
+    pub slot: usize,
+    pub length: usize,
+    pub number: u16,
+    pub verdict: u8,
+    pub refusal: u8,
 }
 
 // The answer of an open: the slot.

@@ -4,7 +4,7 @@ use mathlib.Core.Path.{_≡_}
 use mathlib.Core.List.{List, [], _∷_}
 use Rattle.frame.specs.TagCalls.{Outcome, Bare, takeTag, writeTag}
 use Rattle.calls.specs.Table.{Table}
-use Rattle.calls.specs.Calls.{Call, act, after, answer, output, outOf, Result, Meets}
+use Rattle.calls.specs.Calls.{Call, Result, resultOf, Meets}
 
 -- A receiver: from a table and a call to an answer, a table and the output bytes. Any function of this type is one,
 -- right or wrong.
@@ -17,11 +17,7 @@ MeetsContract receive = (t : Table) (c : Call) → Meets t c (receive t c)
 
 -- The receiver that the definitions give.
 unfoldable pub theReceiver : Receiver
-theReceiver t c = record {
-  said = answer t (act t c);
-  table = after t (act t c);
-  output = output t (outOf c) (act t c);
-}
+theReceiver t c = resultOf t c
 
 -- The table after a run of calls.
 unfoldable pub run : Receiver → Table → List Call → Table

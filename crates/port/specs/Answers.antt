@@ -5,30 +5,13 @@ use mathlib.Core.List.{List}
 use Rattle.refusal.specs.Checks.{Said}
 use Rattle.refusal.specs.Checks.Said.{refused, answers}
 use Rattle.calls.specs.Table.{Table}
-use Rattle.calls.specs.Calls.{Call, arriving, opening, closing, resetting, ticking, Answer, Verdict, arrived, placed, done, swept, handedUp, duplicate, rogue, act, after, answer, output, outOf}
-use Rattle.port.specs.declared.ArrivalAnswer.{ArrivalAnswer}
+use Rattle.calls.specs.Calls.{Call, arriving, opening, closing, resetting, ticking, Answer, arrived, placed, done, swept, act, after, answer, output, outOf}
+use Rattle.calls.specs.Told.{tellArrival}
 use Rattle.port.specs.declared.SlotAnswer.{SlotAnswer}
 use Rattle.port.specs.declared.TickAnswer.{TickAnswer}
 
--- An arrival carries the slot, the number and one of three verdicts: 1 handed up with its length, 2 duplicate, 3 rogue.
-abbrev pub tellVerdict : (slot number : ℕ) → Verdict → ArrivalAnswer
-tellVerdict slot number (handedUp l) = record { slot = slot; length = l; number = number; verdict = 1; refusal = 0 }
-tellVerdict slot number duplicate = record { slot = slot; length = 0; number = number; verdict = 2; refusal = 0 }
-tellVerdict slot number rogue = record { slot = slot; length = 0; number = number; verdict = 3; refusal = 0 }
-
--- all fields 0 but the refusal's number
-abbrev pub noArrival : (refusal : ℕ) → ArrivalAnswer
-noArrival n = record { slot = 0; length = 0; number = 0; verdict = 0; refusal = n }
-
--- (The last three are answers of other calls, which an arrival never has; so it is of each call below.)
-abbrev pub tellArrival : Said Answer → ArrivalAnswer
-tellArrival (refused n) = noArrival n
-tellArrival (answers (arrived slot number v)) = tellVerdict slot number v
-tellArrival (answers (placed slot)) = noArrival 0
-tellArrival (answers done) = noArrival 0
-tellArrival (answers (swept streams records)) = noArrival 0
-
--- Open tells the slot.
+-- Open tells the slot. (The last three are answers of other calls, which an open never has; so it is of each call below. An
+-- arrival is told by `tellArrival` of `calls`.)
 abbrev pub tellOpened : Said Answer → SlotAnswer
 tellOpened (refused n) = record { slot = 0; refusal = n }
 tellOpened (answers (placed slot)) = record { slot = slot; refusal = 0 }

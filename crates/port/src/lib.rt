@@ -4,14 +4,14 @@ ghost use mathlib.Core.Path.{_≡_};
 ghost use mathlib.Core.List.{[]};
 ghost use Rattle.frame.specs.TagCalls.{takeTag, writeTag};
 ghost use Rattle.calls.specs.Calls.{arriving, opening, closing, resetting, ticking};
-ghost use Rattle.calls.specs.Said.{saidVerdict, saidArrival, saidOpened, saidDone, saidSwept};
+ghost use Rattle.calls.specs.Said.{saidOpened, saidDone, saidSwept};
+ghost use Rattle.calls.specs.Told.{tellArrival};
 ghost use Rattle.port.specs.Tags.{tellTaken, tellWritten};
-ghost use Rattle.port.specs.Answers.{tellVerdict, tellArrival, tellOpened, tellDone, tellSwept, MeetsInC};
-use calls::Answer;
+ghost use Rattle.port.specs.Answers.{tellOpened, tellDone, tellSwept, MeetsInC};
+use calls::ArrivalAnswer;
 use calls::Done;
 use calls::Opened;
 use calls::Swept;
-use calls::Verdict;
 use frame::Taken;
 use frame::Written;
 use record::Stream;
@@ -68,17 +68,6 @@ pub extern "C" fn nippitsun_write_tag(frame: &[u8], number: u16, out: &mut [u8])
 
 // ---- the calls on a table
 
-// The answer of an arrival. Refusal 0: verdict is 1 handed up, 2 duplicate, 3 rogue, and length is what was written to the
-// output, 0 but for a frame handed up. Where it is refused, refusal is the number and the rest is 0.
-#[repr(C)]
-pub struct ArrivalAnswer {
-    pub slot: usize,
-    pub length: usize,
-    pub number: u16,
-    pub verdict: u8,
-    pub refusal: u8,
-}
-
 // The answer of an open. Where it is refused, refusal is the number and slot is 0; otherwise refusal is 0.
 #[repr(C)]
 pub struct SlotAnswer {
@@ -92,53 +81,6 @@ pub struct TickAnswer {
     pub resets: u64,
     pub damaged: u64,
     pub refusal: u8,
-}
-
-fn tell_verdict(slot: usize, number: u16, v: Verdict) -> ArrivalAnswer
-    ensures { λ r. ⌜ r ≡ tellVerdict slot number (saidVerdict v) ⌝ }
-{
-    match v {
-        Verdict::HandedUp(length) => ArrivalAnswer {
-            slot,
-            length,
-            number,
-            verdict: 1,
-            refusal: 0,
-        },
-        Verdict::Duplicate => ArrivalAnswer {
-            slot,
-            length: 0,
-            number,
-            verdict: 2,
-            refusal: 0,
-        },
-        Verdict::Rogue => ArrivalAnswer {
-            slot,
-            length: 0,
-            number,
-            verdict: 3,
-            refusal: 0,
-        },
-    }
-}
-
-fn tell_arrival(a: Answer) -> ArrivalAnswer
-    ensures { λ r. ⌜ r ≡ tellArrival (saidArrival a) ⌝ }
-{
-    match a {
-        Answer::Refused(refusal) => ArrivalAnswer {
-            slot: 0,
-            length: 0,
-            number: 0,
-            verdict: 0,
-            refusal,
-        },
-        Answer::Arrival {
-            slot,
-            number,
-            verdict,
-        } => tell_verdict(slot, number, verdict),
-    }
 }
 
 fn tell_opened(a: Opened) -> SlotAnswer
@@ -194,7 +136,7 @@ pub extern "C" fn nippitsun_arrival(
     ensures { λ r. ⌜ MeetsInC tellArrival (now (table .entry)) (arriving network (now (frame .entry)) (now (out .entry))) r (now (table .exit)) (now (out .exit)) ⌝ }
 {
     let a = receiver::arrival(table, network, frame, out);
-    tell_arrival(a)
+    calls::tell_arrival(a)
 }
 
 // Close.

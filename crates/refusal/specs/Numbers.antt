@@ -57,3 +57,7 @@ TAGGED = 13
 -- group source address (order 1)
 abbrev pub GROUP : ℕ
 GROUP = 14
+
+-- count above 32, or lengths that run past the buffer (order 3)
+abbrev pub BATCH : ℕ
+BATCH = 15

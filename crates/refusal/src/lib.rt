@@ -42,3 +42,6 @@ pub const TAGGED: u8 = 13;
 
 // Group source address (order 1).
 pub const GROUP: u8 = 14;
+
+// Count above 32, or lengths that run past the buffer (order 3).
+pub const BATCH: u8 = 15;

@@ -1,8 +1,8 @@
--- `port::tell_arrival` meets its contract. Assumes nothing.
+-- `calls::told::tell_arrival` meets its contract. Assumes nothing.
 use mathlib.Core.Path.{refl}
 use borrow.Author.Needs.{needs}
-use Rattle.port.proofs.tell_arrival.Statement.{statement}
-use Rattle.port.proofs.tell_arrival.Tie as tie
+use Rattle.calls.proofs.told.tell_arrival.Statement.{statement}
+use Rattle.calls.proofs.told.tell_arrival.Tie as tie
 
 enum-known-a : tie.Need-enum-known-a
 enum-known-a c = search needs

@@ -1,8 +1,8 @@
--- `port::tell_verdict` meets its contract. Assumes nothing.
+-- `calls::told::tell_verdict` meets its contract. Assumes nothing.
 use mathlib.Core.Path.{refl}
 use borrow.Author.Needs.{needs}
-use Rattle.port.proofs.tell_verdict.Statement.{statement}
-use Rattle.port.proofs.tell_verdict.Tie as tie
+use Rattle.calls.proofs.told.tell_verdict.Statement.{statement}
+use Rattle.calls.proofs.told.tell_verdict.Tie as tie
 
 enum-known-v : tie.Need-enum-known-v
 enum-known-v c = search needs

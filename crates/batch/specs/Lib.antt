@@ -1,0 +1,3 @@
+pub mod Batch
+pub mod Told
+pub mod Steps
