@@ -1,0 +1,4 @@
+pub mod Values
+pub mod Enums
+pub mod Tails
+pub mod Rows
