@@ -1,3 +1,7 @@
+pub mod Lengths
+pub mod Filling
+pub mod Fits
+pub mod Turning
 pub mod Values
 pub mod Enums
 pub mod Tails

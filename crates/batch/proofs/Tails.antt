@@ -4,7 +4,7 @@
 --     tail-back        and back, the end holding vs now: [obs; the borrow; the token; …] of the bytes before it and vs
 -- Assumes `Given`.
 use mathlib.Core.Path.{_≡_, refl, sym, ap, _∙_, subst}
-use Prim.Native.Nat.{ℕ, _+_, _-_, _*_, _^_, _≤_}
+use Prim.Native.Nat.{ℕ, _+_, _-_, _*_, _^_, _≤_, _<_}
 use native.Mathlib.Omega.{arith}
 use mathlib.Core.List.{List, [], _∷_, _++_, append-nil}
 use lib.ListN.{length, take, drop as drop-list, length-map, length-drop}
@@ -77,3 +77,9 @@ module _ {M : Type 1} {𝓤 : URA M} {H : Heap 𝓤} {A : Atoms 𝓤} {K : Type 
       back = subst (λ (l : List ℕ). ent 𝓤 (sep 𝓤 (A .dead (ν ∷ [])) (sep 𝓤 (sem 𝓤 H A (Behind κ q ν γ δ us k b o)) (sem 𝓤 H A (finally u8 δ vs))))
           (H .⇛ (guard 𝓤 (length vs ≡ length (midOf k (length us - k) us)) (sep 𝓤 (sem 𝓤 H A (own κ b o γ l)) (A .lft κ q))))) (put-is k us vs)
           (sl-relent-backᵐ 𝓤 H A W u8 κ q (ν ∷ []) b o γ δ us k (length us - k) vs)
+
+-- there is room for the end
+pub tail-room : (k : ℕ) (us : List ℕ) → Room u8 (length us) → Room u8 (length (drop-list k us))
+tail-room k us room =
+    let e = length-drop k us in let a : length us < 2 ^ 64 = room .0 in let b : length us * 1 < 2 ^ 63 = room .1 in
+    (let r : length (drop-list k us) < 2 ^ 64 = omega (arith, a, e) in r, let r : length (drop-list k us) * 1 < 2 ^ 63 = omega (arith, b, e) in r)
