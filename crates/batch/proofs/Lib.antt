@@ -6,3 +6,5 @@ pub mod Values
 pub mod Enums
 pub mod Tails
 pub mod Rows
+pub mod Answers
+pub mod Fields
