@@ -1,4 +1,6 @@
--- The turns of a batch: lengths within the buffer, where it can be and a frame more, and that what a frame adds fits.
+-- What the proofs of the functions rest on: the steps by the tests that the code makes, lengths within the buffer, the turns of
+-- the loop, and that what a frame adds fits.
+pub mod Bodies
 pub mod Lengths
 pub mod Filling
 pub mod Fits

@@ -107,7 +107,7 @@ fn starts_with(left: usize, refusal: u8) -> Cursor
 }
 
 // The next frame, while there is one.
-fn next(c: Cursor, frames: &[u8], room: usize) -> Next
+fn seek(c: Cursor, frames: &[u8], room: usize) -> Next
     requires { ⌜ (c .at ≤ length (now frames)) × (c .used ≤ room) ⌝ }
     requires { ⌜ runsPast (c .left) (drop (c .at) (now frames)) ≡ false ⌝ }
     ensures { λ r. ⌜ r ≡ nextFrame c (now (frames .entry)) room ⌝ }
@@ -218,7 +218,7 @@ fn fill(
 {
     let mut c = begin(t.len(), network, count, frames);
     loop {
-        let Next::Frame(start, end, from) = next(c, frames, out.len()) else {
+        let Next::Frame(start, end, from) = seek(c, frames, out.len()) else {
             break;
         };
         let a = receiver::arrival(t, network, &frames[start..end], &mut out[from..]);
