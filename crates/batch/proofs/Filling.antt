@@ -21,6 +21,7 @@ use Rattle.batch.specs.declared.Cursor.{Cursor}
 use Rattle.batch.specs.declared.Next.{Next}
 use Rattle.batch.specs.declared.Next.the-variants.{Done, Frame}
 use Rattle.batch.proofs.Lengths.{past-none}
+use Rattle.batch.proofs.Bodies.{no-frame}
 
 -- ---- where a batch can be
 
@@ -135,10 +136,6 @@ pub filled-none : (network : ℕ) (s : List ℕ) (w : Work) → nextFrame (w .cu
 unfolding filledOf
 filled-none network s w e = filled-stops (w .cursor .left) network s w e
 
-none-left : (c : Cursor) (s : List ℕ) (room : ℕ) → c .left ≡ 0 → nextFrame c s room ≡ Done
-unfolding nextFrame
-none-left c s room e = rw e
-
 after-left : (w : Work) (r : Result) (j k : ℕ) → workAfter w r j k .cursor .left ≡ cursorAfter (w .cursor) j (tellArrival (r .said)) .left
 unfolding workAfter
 after-left w r j k = refl
@@ -161,7 +158,7 @@ filled-one network s w i j k e = go (w .cursor .left) refl (got s (length (w .ou
     rest : (n : ℕ) → w .cursor .left ≡ suc n → (b : Bool) → stops a ≡ b → filledIn (v .cursor .left) network s v ≡ filledIn n network s v
     rest n q true p =
         let z : v .cursor .left ≡ 0 = after-left w r j k ∙ left-after (w .cursor) j a true p in
-        ap (λ (m : ℕ). filledIn m network s v) z ∙ sym (filled-stops n network s v (none-left (v .cursor) s (length (v .out)) z))
+        ap (λ (m : ℕ). filledIn m network s v) z ∙ sym (filled-stops n network s v (sym (no-frame (v .cursor) s (length (v .out)) z)))
     rest n q false p =
         let l = left-after (w .cursor) j a false p in
         let z : v .cursor .left ≡ n = omega (arith, after-left w r j k) in

@@ -1,3 +1,6 @@
+-- What the proofs of the functions rest on: the steps by the tests that the code makes, lengths within the buffer, the turns of
+-- the loop, and that what a frame adds fits.
+pub mod Bodies
 pub mod Lengths
 pub mod Filling
 pub mod Fits
