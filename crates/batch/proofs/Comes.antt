@@ -21,7 +21,7 @@ use Rattle.batch.specs.Told.{mark, tellEach, tellBatch, MeetsBatch}
 use Rattle.batch.specs.Steps.{startsWith, begun, Work, filledIn, filledOf, Fills}
 use Rattle.batch.specs.declared.Cursor.{Cursor}
 use Rattle.batch.specs.declared.Batched.{Batched}
-use Rattle.batch.proofs.Turning.{Answers, toldOf, all}
+use Rattle.batch.proofs.Middle.{Answers, toldOf, all}
 
 -- the answers, told one by one
 tells : (us : List Turn) (n : ℕ) → toldOf us ++ replicate n mark ≡ map tellEach (map (λ (u : Turn). some (u .result .said)) us ++ replicate n none)

@@ -1,5 +1,5 @@
 -- The steps of the code are the batch: what a single arrival leaves, what is packed, the turns, and the call.
 pub mod Arriving
 pub mod Packing
-pub mod Turning
+pub mod Middle
 pub mod Comes
