@@ -9,7 +9,7 @@ pub mod Values
 pub mod Enums
 pub mod Tails
 pub mod Rows
-pub mod Answers
+pub mod ThirtyTwo
 pub mod Fields
 -- The steps of the code are the batch: what a single arrival leaves, what is packed, the turns, and the call.
 pub mod Arriving
