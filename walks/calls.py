@@ -79,6 +79,31 @@ class Steps(Frame):
         return (f'calls-{how} {{𝓤 = 𝓤}} {{H = H}} {{A = A}} ! fm R {ys} b o {room} {alias}.ended ({alias}.clauses 𝓤 H A mem run) (known .{dash(f)}′) (λ ν δ. {y}) (λ ν δ. {goes}) (λ ν δ. fst∗ 𝓤 _ (emp 𝓤)) '
                 f'(λ ν δ. {t.make}) (λ ν δ {r} vs p. {t.tells} {r} vs p){last} (λ ν δ {binds}. {fact}) (λ ν δ {r} ws. id⊢ 𝓤 _) (λ ν δ. {opds}) (λ ν δ {r}{more} g-{r}{" len" if mut else ""} {said}.')
 
+    # ---- the end of a &mut slice, held as a slice of its own. Entries of the slice go to the front and back to their places
+    def places(self, k):
+        mine = [self.front().index((e, k)) for e in ('obs', 'bor', 'tok')]
+        rest = [i for i in range(len(self.front())) if i not in mine]
+        back = {e: n for n, e in enumerate(mine + rest)}
+        return mine, [back[i] for i in range(len(self.front()))]
+
+    @staticmethod
+    def moves(ix): return f'move ! ({" ∷ ".join(map(str, ix))} ∷ []) $'
+
+    def ends(self, name, xs, first, within, room):
+        k = {p[0]: k for k, p in self.refs()}[name]
+        _, _, b, o, _ = self.names(k)
+        mine, order = self.places(k)
+        self.tails[k] = first
+        # [obs; the borrow; the token; what is kept; the others]
+        return f'{self.moves(mine)} lends-tail ! tt {xs} {b} {o} {first} {room} {within} (λ ε-ν ε-δ. {self.moves([i if i < 3 else i + 1 for i in order] + [3])}'
+
+    def back(self, name, xs, vs):
+        k = {p[0]: k for k, p in self.refs()}[name]
+        first = self.tails.pop(k)
+        _, _, b, o, _ = self.names(k)
+        mine, order = self.places(k)
+        return f'{self.moves(mine + [len(order)])} tail-back ! tt ε-ν ε-δ {xs} {vs} {b} {o} ({first} + {o}) {first} $ {self.moves(order)}'
+
     # ---- calls that are handed a & at its own lifetime, and with it a &mut one, lent as a & (read) or again as a &mut (write)
     def fronts(self, now):
         muts = [k for k, p in self.refs() if 'mut' in p[1]]

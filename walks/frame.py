@@ -10,6 +10,7 @@ class Frame:
         self.params, self.calls, self.ty = [], [], {}
         self.about, self.result, self.requires = '', '()', None
         self.n = self.off = 0
+        self.tails = {}
 
     # ---- the callees
     def callee(self, g):
@@ -42,10 +43,13 @@ class Frame:
     # ---- the parameters
     def refs(self): return [(k, p) for k, p in enumerate(p for p in self.params if p[1].startswith('&'))]
     def ref(self, p): return next(k for k, q in self.refs() if q is p)
-    def names(self, k): return [v + ('' if k == 0 else str(k).translate(SUB)) for v in ('κ', 'q', 'b', 'o', 'γ')]
+    # (of a slice whose end is lent for a while: its offset is that of the end)
+    def names(self, k):
+        κ, q, b, o, γ = [v + ('' if k == 0 else str(k).translate(SUB)) for v in ('κ', 'q', 'b', 'o', 'γ')]
+        return [κ, q, b, f'({self.tails[k]} + {o})' if k in self.tails else o, γ]
     def lone(self, p): return p[1].startswith('&') and '[' not in p[1]   # a & to one value, as &Six
-    def element(self, p): return Type(p[1][1:]).row if self.lone(p) else 'R' if 'Stream' in p[1] else 'u8'
-    def item(self, p): return 'Stream' if 'Stream' in p[1] else 'ℕ'
+    def element(self, p): return Type(re.sub(r'&|mut |\[|\]', '', p[1])).row
+    def item(self, p): return Type(re.sub(r'&|mut |\[|\]', '', p[1])).denot
     def value_type(self, p): return Type(p[1][1:]).denot if self.lone(p) else f'List {self.item(p)}'
 
     def slot(self, p):
@@ -214,10 +218,12 @@ class Frame:
         names, result = ('', 'vunit') if unit else ('r' + (' g' if r.fact else ''), r.val('r'))
         ends = nest(['tt'] * many, 'tt')
         if self.params[0][1].startswith('&mut'):
-            kept = '‵ (fobs γ (codedHoleys R .code (heres R zs))) ∷ ‵ (fbor κ (Held R (length zs) b o γ)) ∷ ‵ (flft κ q) ∷ []'
-            args, names = f' → Room R n → (zs : List Stream) → length zs ≡ n →{args}', f'gn zs len {names}'
+            one = self.params[0]
+            R = self.element(one)
+            kept = f'‵ (fobs γ (codedHoleys {R} .code (heres {R} zs))) ∷ ‵ (fbor κ (Held {R} (length zs) b o γ)) ∷ ‵ (flft κ q) ∷ []'
+            args, names = f' → Room {R} n → (zs : List {self.item(one)}) → length zs ≡ n →{args}', f'gn zs len {names}'
             at, lens = nest(['zs'] + ['tt'] * (many - 1), 'tt'), nest(['len'] + ['tt'] * (many - 1), 'tt')
-            back = 'nothing ! $ move ! (3 ∷ 0 ∷ []) $ join ! $ frame ! $ owns-slice ! R (named 0) ys zs b o len gn $ nothing ! $ ' + 'nothing ! $ fjoin ! $ ' * (many - 1) + 'move ! (1 ∷ 0 ∷ []) $ fjoin ! $ frame !'
+            back = 'nothing ! $ move ! (3 ∷ 0 ∷ []) $ join ! $ frame ! $ owns-slice ! ' + R + f' (named 0) {one[0]} zs b o len gn $ nothing ! $ ' + 'nothing ! $ fjoin ! $ ' * (many - 1) + 'move ! (1 ∷ 0 ∷ []) $ fjoin ! $ frame !'
         else:
             kept = '‵ (flft κ q) ∷ []'
             at = lens = ends

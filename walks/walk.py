@@ -39,6 +39,9 @@ Statements of the MIR, on lines that begin with a colon. An operand is a local 3
   : place 8 := 1[3] via := 5 ; FACT         local 8 points to record number _3 of the slice _1; _5 is its distance, of which FACT says that it fits
   : 9 := *8 ; EVIDENCE                      a record is read            : *8 := 4.0 ; EVIDENCE          a record is stored
   : part 9 := 2[5..4] via 6 7 8 ; LIST FIRST END WITHIN FACT      local 9 is the part of the slice _2 from number _5 up to _4, which are FIRST and END: WITHIN says that it is one, FACT that END fits
+  : tail 9 := 2[5..] via 6 7 8 ; LIST FIRST WITHIN FACT      local 9 is the end of the &mut slice _2 from number _5 on, which is FIRST: WITHIN says that it is one, FACT that the slice's length fits
+  : ends NAME ; LIST FIRST WITHIN FACT      from here on the &mut parameter NAME is its end from FIRST on, a slice of its own; what is kept of the whole stands behind the other entries in front (one more for %off). Leaves a bracket open
+  : back NAME ; LIST LAST                   and here it is whole again: LAST stands in the place of the end
   : reborrow 8 := 1 via 7 ; FACT            local 8 is the slice _1 once more, of which FACT says that its length fits; _7 is its place
 Calls leave a bracket open. r is the result, g-r that it fits, `said` the FACT of it. An argument is `TYPE VALUE FACT OPERAND`; `| given PROOF` shows a `requires`.
   : call CRATE::G | .. | .. -> TYPE r said. FACT                by value
@@ -98,6 +101,23 @@ class Walk(Steps):
                     f'{ind}assigns ! (addr ! (from ! (hop ! (look-cell ! {self.pos(p)} refl) (stop !)))) {self.cell(":=", r, "(tt, tt)")} $\n'
                     f'{ind}assigns ! (agg ! (and-then ! {self.opd(r)} (and-then ! {self.opd(n)} (no-more !)))) {self.cell(":=", d, f"(tt, (tt, ({fits}, tt)))")} $\n'
                     f'{ind}rewrite ! {self.pos(d)} (λ (m : ℕ). ‵ (fat fullShare {paren(self.ty[int(d)])} {local(d)} 0 (sliceVal ({b}, {first} + {o}) m))) (part-count {xs} {first} {end} {within}) refl $')
+        m = re.fullmatch(r'tail (\d+) := (\d+)\[(\d+)\.\.\] via (\d+) (\d+) (\d+)', body)
+        if m:
+            d, sl, i, p, n, r = m.groups()
+            xs, first, within, room = self.arguments('|' + ev)[0][0]
+            _, _, b, o, _ = self.names(self.ref(self.params[int(sl) - 1]))
+            fits = f'record {{ fits = lt-of-le-of-lt (sub-le (length {xs}) {first}) ({room} .0) }}'
+            return (f'{ind}assigns ! (bin ! {self.opd(sl + ".0")} {self.opd(i)} tt) {self.cell(":=", p, "(tt, tt)")} $\n'
+                    f'{ind}assigns ! (bin ! {self.opd(sl + ".1")} {self.opd(i)} {within}) {self.cell(":=", n, f"(tt, {fits})")} $\n'
+                    f'{ind}assigns ! (addr ! (from ! (hop ! (look-cell ! {self.pos(p)} refl) (stop !)))) {self.cell(":=", r, "(tt, tt)")} $\n'
+                    f'{ind}assigns ! (agg ! (and-then ! {self.opd(r)} (and-then ! {self.opd(n)} (no-more !)))) {self.cell(":=", d, f"(tt, (tt, ({fits}, tt)))")} $\n'
+                    f'{ind}rewrite ! {self.pos(d)} (λ (m : ℕ). ‵ (fat fullShare {paren(self.ty[int(d)])} {local(d)} 0 (sliceVal ({b}, {first} + {o}) m))) (sym (length-drop {first} {xs})) refl $')
+        m = re.fullmatch(r'ends (\S+)', body)
+        if m:
+            return ind + self.ends(m[1], *self.arguments('|' + ev)[0][0])
+        m = re.fullmatch(r'back (\S+)', body)
+        if m:
+            return ind + self.back(m[1], *self.arguments('|' + ev)[0][0])
         last = body.startswith('last ')
         step = 'assigns-last' if last else 'assigns'
         body = body[5:] if last else body

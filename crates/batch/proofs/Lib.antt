@@ -1,3 +1,16 @@
+-- What the proofs of the functions rest on: the steps by the tests that the code makes, lengths within the buffer, the turns of
+-- the loop, and that what a frame adds fits.
+pub mod Bodies
+pub mod Lengths
+pub mod Filling
+pub mod Fits
+pub mod Turning
+pub mod Values
+pub mod Enums
+pub mod Tails
+pub mod Rows
+pub mod Answers
+pub mod Fields
 -- The steps of the code are the batch: what a single arrival leaves, what is packed, the middle of a batch, and the call.
 pub mod Arriving
 pub mod Packing

@@ -107,9 +107,8 @@ fn starts_with(left: usize, refusal: u8) -> Cursor
 }
 
 // The next frame, while there is one.
-fn next(c: Cursor, frames: &[u8], room: usize) -> Next
-    requires { ⌜ (c .at ≤ length (now frames)) × (c .used ≤ room) ⌝ }
-    requires { ⌜ runsPast (c .left) (drop (c .at) (now frames)) ≡ false ⌝ }
+fn seek(c: Cursor, frames: &[u8], room: usize) -> Next
+    requires { ⌜ ((c .at ≤ length (now frames)) × (c .used ≤ room)) × (runsPast (c .left) (drop (c .at) (now frames)) ≡ false) ⌝ }
     ensures { λ r. ⌜ r ≡ nextFrame c (now (frames .entry)) room ⌝ }
 {
     if c.left == 0 {
@@ -146,8 +145,7 @@ fn put_length(out: &mut [u8], used: usize, e: ArrivalAnswer)
 
 // Where the batch is behind a frame: 8 ends it.
 fn advance(c: Cursor, end: usize, e: ArrivalAnswer) -> Cursor
-    requires { ⌜ c .used + added e < 2 ^ 64 ⌝ }
-    requires { ⌜ (0 < c .left) × (c .frames < framesMost) ⌝ }
+    requires { ⌜ (c .used + added e < 2 ^ 64) × ((0 < c .left) × (c .frames < framesMost)) ⌝ }
     ensures { λ r. ⌜ r ≡ cursorAfter c end e ⌝ }
 {
     let used = used_after(c.used, e);
@@ -218,7 +216,7 @@ fn fill(
 {
     let mut c = begin(t.len(), network, count, frames);
     loop {
-        let Next::Frame(start, end, from) = next(c, frames, out.len()) else {
+        let Next::Frame(start, end, from) = seek(c, frames, out.len()) else {
             break;
         };
         let a = receiver::arrival(t, network, &frames[start..end], &mut out[from..]);

@@ -16,9 +16,9 @@ use denote.RattleType.{RattleType}
 use denote.Laws.{Is, Tells}
 use denote.Steps.{owned}
 use denote.Struct.Laws as Struct-laws
-use Rattle.port.specs.declared.ArrivalAnswer.{ArrivalAnswer}
-use Rattle.port.proofs.ArrivalAnswer as ArrivalAnswer-type
-use Rattle.port.proofs.ArrivalAnswer.Laws as ArrivalAnswer-laws
+use Rattle.calls.specs.declared.ArrivalAnswer.{ArrivalAnswer}
+use Rattle.calls.proofs.ArrivalAnswer as ArrivalAnswer-type
+use Rattle.calls.proofs.ArrivalAnswer.Laws as ArrivalAnswer-laws
 use Rattle.port.specs.declared.SlotAnswer.{SlotAnswer}
 use Rattle.port.proofs.SlotAnswer as SlotAnswer-type
 use Rattle.port.proofs.SlotAnswer.Laws as SlotAnswer-laws

@@ -39,8 +39,9 @@ use Rattle.record.specs.declared.Stream.{Stream}
 use Rattle.calls.specs.declared.Answer.{Answer}
 use Rattle.calls.specs.Calls.{arriving, Meets as CallMeets}
 use Rattle.calls.specs.Said.{saidArrival}
-use Rattle.port.specs.declared.ArrivalAnswer.{ArrivalAnswer}
-use Rattle.port.specs.Answers.{tellArrival, MeetsInC}
+use Rattle.calls.specs.declared.ArrivalAnswer.{ArrivalAnswer}
+use Rattle.calls.specs.Told.{tellArrival}
+use Rattle.port.specs.Answers.{MeetsInC}
 use Rattle.receiver.proofs.Both.{calls-mut-two}
 use Rattle.receiver.proofs.Calling.{calls-value}
 use Rattle.receiver.proofs.Enums.{answer-val, answer-tells, answer-typed, answer-has}
@@ -53,10 +54,10 @@ use Rattle.receiver.proofs.arrival as fn-arrival
 use Rattle.receiver.proofs.arrival.Symbol as fn-arrival-def
 use Rattle.receiver.proofs.arrival.Symbol.{name as #receiver·arrival}
 use Rattle.receiver.proofs.arrival.Met as fn-arrival-met
-use Rattle.port.proofs.tell_arrival as fn-tell-arrival
-use Rattle.port.proofs.tell_arrival.Symbol as fn-tell-arrival-def
-use Rattle.port.proofs.tell_arrival.Symbol.{name as #port·tell-arrival}
-use Rattle.port.proofs.tell_arrival.Met as fn-tell-arrival-met
+use Rattle.calls.proofs.tell_arrival as fn-tell-arrival
+use Rattle.calls.proofs.tell_arrival.Symbol as fn-tell-arrival-def
+use Rattle.calls.proofs.tell_arrival.Symbol.{name as #calls·tell-arrival}
+use Rattle.calls.proofs.tell_arrival.Met as fn-tell-arrival-met
 use Rattle.port.proofs.nippitsun_arrival.Key.{name as #port·nippitsun-arrival}
 use Rattle.port.proofs.nippitsun_arrival as fn
 use Rattle.port.proofs.nippitsun_arrival.Statement as stated
@@ -74,7 +75,7 @@ module _ {M : Type 1} (𝓤 : URA M) (H : Heap 𝓤) (A : Atoms 𝓤) (mem : Mem
 
   pub record Known (C : Calls 𝓤 H) : Type 1 where
     pub arrival′ : Triple 𝓤 (C #receiver·arrival) Arrival
-    pub tell-arrival′ : Triple 𝓤 (C #port·tell-arrival) TellArrival
+    pub tell-arrival′ : Triple 𝓤 (C #calls·tell-arrival) TellArrival
 
 module _ {M : Type 1} (𝓤 : URA M) (H : Heap 𝓤) (A : Atoms 𝓤) (W : Given 𝓤 H A) (mem : Memory → SProp 𝓤) (run : Routine → Fun 𝓤) (κ : Lft) (q : Share) (b o : ℕ) (γ : GName) (ys : List Stream) (network : ℕ) (κ₁ : Lft) (q₁ : Share) (b₁ o₁ : ℕ) (γ₁ : GName) (fr : List ℕ) (κ₂ : Lft) (q₂ : Share) (b₂ o₂ : ℕ) (γ₂ : GName) (us : List ℕ) where
   abbrev x : RefT (List Stream) × (ℕ × (RefT (List ℕ) × (RefT (List ℕ) × Unit {0})))
@@ -130,7 +131,7 @@ nippitsun-arrival-spec 𝓤 H 𝓜 𝓖 𝓡 =
     (tables 𝓤 H 𝓜 𝓡 code.env .C) (tables 𝓤 H 𝓜 𝓡 code.env .Λ) #port·nippitsun-arrival code.function (code.unfolded 𝓤 H 𝓜 𝓡)
     (meets 𝓤 H (𝓖 .A) (givenOf 𝓤 H 𝓜 𝓖) (𝓜 .mem) (𝓡 .run) (tablesOf 𝓤 H 𝓜 (tables 𝓤 H 𝓜 𝓡 code.env)) (record {
       arrival′ = cited 𝓤 H (Arrival 𝓤 H (𝓖 .A) (𝓜 .mem) (𝓡 .run)) 𝓜 𝓡 code.env #receiver·arrival fn-arrival-def.routine code.calls-receiver·arrival (fn-arrival-met.met 𝓤 H 𝓜 𝓖 𝓡);
-      tell-arrival′ = cited 𝓤 H (TellArrival 𝓤 H (𝓖 .A) (𝓜 .mem) (𝓡 .run)) 𝓜 𝓡 code.env #port·tell-arrival fn-tell-arrival-def.routine code.calls-port·tell-arrival (fn-tell-arrival-met.met 𝓤 H 𝓜 𝓖 𝓡);
+      tell-arrival′ = cited 𝓤 H (TellArrival 𝓤 H (𝓖 .A) (𝓜 .mem) (𝓡 .run)) 𝓜 𝓡 code.env #calls·tell-arrival fn-tell-arrival-def.routine code.calls-calls·tell-arrival (fn-tell-arrival-met.met 𝓤 H 𝓜 𝓖 𝓡);
     }))
   where
     meets : {M : Type 1} (𝓤 : URA M) (H : Heap 𝓤) (A : Atoms 𝓤) → Given 𝓤 H A → (mem : Memory → SProp 𝓤) (run : Routine → Fun 𝓤) (𝓣 : Tables 𝓤 H) → Known 𝓤 H A mem run (𝓣 .C)

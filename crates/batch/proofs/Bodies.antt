@@ -1,0 +1,90 @@
+-- What the definitions of a batch's steps are, by the tests that the code makes. Assumes nothing.
+use Prim.Native.Nat.{ℕ, _+_, _-_, _/_, _%_, _≤_, _<_}
+use mathlib.Core.Path.{_≡_, refl, sym, ap, _∙_}
+use mathlib.Core.Bool.{true, false}
+use mathlib.Core.List.{List}
+use native.Mathlib.Omega.{arith}
+use lib.ListN.{length, set}
+use borrow.Author.Tests.{lt-ltb, le-ltb, le-leb, lt-leb, eq-eqb, ne-eqb}
+use Rattle.refusal.specs.Numbers.{TABLE, NETWORK, ROOM, BATCH}
+use Rattle.record.specs.Sizes.{slotsMost}
+use Rattle.frame.specs.Bytes.{word}
+use Rattle.calls.specs.declared.ArrivalAnswer.{ArrivalAnswer}
+use Rattle.batch.specs.Batch.{framesMost, runsPast}
+use Rattle.batch.specs.Steps.{startsWith, begun, fromOf, nextFrame, added, lengthPut, cursorAfter}
+use Rattle.batch.specs.declared.Cursor.{Cursor}
+use Rattle.batch.specs.declared.Next.the-variants.{Done, Frame}
+
+-- ---- the start
+
+module _ (slots network count : ℕ) (s : List ℕ) where
+  pub no-table : {c : Cursor} → slotsMost < slots → c ≡ startsWith 0 TABLE → c ≡ begun slots network count s
+  unfolding begun
+  no-table h e = e ∙ simp (lt-ltb _ _ h)
+
+  module _ (h : slots ≤ slotsMost) where
+    pub no-network : {c : Cursor} → 1 < network → c ≡ startsWith 0 NETWORK → c ≡ begun slots network count s
+    unfolding begun
+    no-network k e = e ∙ simp (le-ltb _ _ h, lt-ltb _ _ k)
+
+    module _ (k : network ≤ 1) where
+      pub no-count : {c : Cursor} → framesMost < count → c ≡ startsWith 0 BATCH → c ≡ begun slots network count s
+      unfolding begun
+      no-count m e = e ∙ simp (le-ltb _ _ h, le-ltb _ _ k, lt-ltb _ _ m)
+
+      module _ (m : count ≤ framesMost) where
+        pub no-lengths : {c : Cursor} → runsPast count s ≡ true → c ≡ startsWith 0 BATCH → c ≡ begun slots network count s
+        unfolding begun
+        no-lengths p e = e ∙ simp (le-ltb _ _ h, le-ltb _ _ k, le-ltb _ _ m, p)
+
+        pub all-passed : {c : Cursor} → runsPast count s ≡ false → c ≡ startsWith count 0 → c ≡ begun slots network count s
+        unfolding begun
+        all-passed p e = e ∙ simp (le-ltb _ _ h, le-ltb _ _ k, le-ltb _ _ m, p)
+
+-- ---- the next frame
+
+module _ (used room : ℕ) where
+  pub no-room : room < used + 2 → room ≡ fromOf used room
+  no-room h = simp (lt-leb _ _ h)
+
+  pub some-room : used + 2 ≤ room → used + 2 ≡ fromOf used room
+  some-room h = simp (le-leb _ _ h)
+
+module _ (c : Cursor) (s : List ℕ) (room : ℕ) where
+  pub no-frame : c .left ≡ 0 → Done ≡ nextFrame c s room
+  unfolding nextFrame
+  no-frame h = rw h
+
+  pub one-frame : {size from : ℕ} → (c .left ≡ 0 → ⊥) → size ≡ word s (c .at) → from ≡ fromOf (c .used) room
+      → Frame (c .at + 2) (c .at + 2 + size) from ≡ nextFrame c s room
+  unfolding nextFrame
+  one-frame h p q = simp (ne-eqb _ _ h) (cc)
+
+-- ---- behind a frame
+
+module _ (e : ArrivalAnswer) where
+  pub added-some : e .verdict ≡ 1 → added e ≡ 2 + e .length
+  added-some h = simp (eq-eqb _ _ h)
+
+  pub added-none : (e .verdict ≡ 1 → ⊥) → added e ≡ 0
+  added-none h = simp (ne-eqb _ _ h)
+
+  module _ (used : ℕ) (out : List ℕ) where
+    pub put-some : e .verdict ≡ 1 → set (set out used (e .length / 256 % 256)) (used + 1) (e .length % 256) ≡ lengthPut used e out
+    unfolding lengthPut
+    put-some h = simp (eq-eqb _ _ h)
+
+    pub put-none : (e .verdict ≡ 1 → ⊥) → out ≡ lengthPut used e out
+    unfolding lengthPut
+    put-none h = simp (ne-eqb _ _ h)
+
+  module _ (c : Cursor) (end : ℕ) {used : ℕ} (p : used ≡ c .used + added e) where
+    pub ends-here : e .refusal ≡ ROOM
+        → _≡_ {A = Cursor} (record { at = end; used = used; left = 0; frames = c .frames; refusal = c .refusal }) (cursorAfter c end e)
+    unfolding cursorAfter
+    ends-here h = rw p (simp (eq-eqb _ _ h))
+
+    pub goes-on : (e .refusal ≡ ROOM → ⊥)
+        → _≡_ {A = Cursor} (record { at = end; used = used; left = c .left - 1; frames = c .frames + 1; refusal = c .refusal }) (cursorAfter c end e)
+    unfolding cursorAfter
+    goes-on h = rw p (simp (ne-eqb _ _ h))
