@@ -26,9 +26,9 @@
 #include <stddef.h>
 #include <stdint.h>
 
-#define NIPPITSUN_VERSION "0.3.0"
+#define NIPPITSUN_VERSION "0.4.0"
 #define NIPPITSUN_VERSION_MAJOR 0
-#define NIPPITSUN_VERSION_MINOR 3
+#define NIPPITSUN_VERSION_MINOR 4
 #define NIPPITSUN_VERSION_PATCH 0
 
 #ifdef __cplusplus
