@@ -1,7 +1,8 @@
 //! The plain side: the same calls in safe Rust, written from documents 01 and 02 alone. Each is kept a call of its own, as the
 //! archive's are, so that both sides pay for one, and has C's convention, by which the answer comes back in registers.
 use crate::record::{
-    ArrivalAnswer, Decided, Stream, TagAnswer, DAMAGED, DUPLICATE, HANDED_UP, ROGUE,
+    ArrivalAnswer, BatchAnswer, Decided, Stream, TagAnswer, DAMAGED, DUPLICATE, FRAMES_MOST,
+    HANDED_UP, ROGUE,
 };
 
 const SLOTS_MOST: usize = 64;
@@ -16,9 +17,10 @@ const SHORT: u8 = 4;
 const UNTAGGED: u8 = 5;
 const UNKNOWN: u8 = 6;
 const HURT: u8 = 7;
-const ROOM: u8 = 8;
+pub const ROOM: u8 = 8;
 const TAGGED: u8 = 13;
 const GROUP: u8 = 14;
+const BATCH: u8 = 15;
 
 /// The first byte of the source; its lowest bit marks a group.
 const SOURCE: usize = 6;
@@ -296,6 +298,12 @@ pub fn arrival_at(
     if network > 1 {
         return not_taken(NETWORK);
     }
+    arrive(table, network, frame, out)
+}
+
+/// The arrival behind 1 and 2, which a batch asks once.
+#[inline(always)]
+fn arrive(table: &mut [Stream], network: u8, frame: &[u8], out: &mut [u8]) -> ArrivalAnswer {
     if frame.len() > FRAME_MOST {
         return not_taken(LONG);
     }
@@ -358,4 +366,63 @@ pub fn arrival_at(
         verdict,
         refusal: 0,
     }
+}
+
+/// Do the lengths run past the buffer?
+fn runs_past(mut frames: &[u8], count: usize) -> bool {
+    for _ in 0..count {
+        if frames.len() < 2 {
+            return true;
+        }
+        let length = word(frames, 0) as usize;
+        match frames.get(2 + length..) {
+            Some(behind) => frames = behind,
+            None => return true,
+        }
+    }
+    false
+}
+
+/// The batch, with the arrival above in its loop.
+#[inline(never)]
+pub fn batch(
+    table: &mut [Stream],
+    network: u8,
+    count: usize,
+    mut frames: &[u8],
+    out: &mut [u8],
+) -> BatchAnswer {
+    let mut b = BatchAnswer {
+        answers: [ArrivalAnswer::default(); FRAMES_MOST],
+        frames: 0,
+        refusal: 0,
+    };
+    if table.len() > SLOTS_MOST {
+        b.refusal = TABLE;
+        return b;
+    }
+    if network > 1 {
+        b.refusal = NETWORK;
+        return b;
+    }
+    if count > FRAMES_MOST || runs_past(frames, count) {
+        b.refusal = BATCH;
+        return b;
+    }
+    let mut used = 0;
+    for answer in &mut b.answers[..count] {
+        let (frame, behind) = frames[2..].split_at(word(frames, 0) as usize);
+        frames = behind;
+        let room = out[used..].get_mut(2..).unwrap_or(&mut []);
+        *answer = arrive(table, network, frame, room);
+        if answer.refusal == ROOM {
+            break;
+        }
+        if answer.verdict == HANDED_UP {
+            out[used..used + 2].copy_from_slice(&(answer.length as u16).to_be_bytes());
+            used += 2 + answer.length;
+        }
+        b.frames += 1;
+    }
+    b
 }

@@ -8,6 +8,10 @@ const SECOND: usize = 2;
 const MEMCPY: usize = 3;
 const BARE: usize = 4;
 
+/// The places of a batch's sides behind the first two.
+const SINGLE: usize = 2;
+const LOOP: usize = 3;
+
 /// What was measured of a cell, side by side: the least time, and the instructions inside the call.
 pub struct Row {
     pub name: String,
@@ -95,9 +99,8 @@ fn most(row: &Row, rows: &[Row]) -> &'static str {
 }
 
 /// How many of the cells meet the aim beside one side, as the ratio is printed, and the range of the ratios.
-fn tell_aim(rows: &[Row], to: usize, beside: &str, aim: f64) {
+fn tell_aim<'a>(rows: impl Iterator<Item = &'a Row>, to: usize, beside: &str, aim: f64) {
     let ratios: Vec<f64> = rows
-        .iter()
         .map(|r| (r.ratio(to) * 100.0).round() / 100.0)
         .collect();
     let met = ratios.iter().filter(|&&r| r <= aim).count();
@@ -110,7 +113,7 @@ fn tell_aim(rows: &[Row], to: usize, beside: &str, aim: f64) {
         largest,
         aim,
         met,
-        rows.len()
+        ratios.len()
     );
 }
 
@@ -157,15 +160,74 @@ pub fn arrivals(rows: &[Row], aim: f64) {
     println!("plain: Rust written for speed. second: the second program's arrival. memcpy: the frame's bytes copied, nothing else.");
     println!("line rate: the time that two full networks of 1 or 10 Gbit/s leave one core for an arrival (frame + 20 bytes),");
     println!("divided by the product's time: above 1 it keeps up. most of it: the search, the copy, or the rest.");
-    tell_aim(rows, PLAIN, "the plain arrival written for speed", aim);
-    tell_aim(rows, SECOND, "the second program's arrival", aim);
+    tell_aim(rows.iter(), PLAIN, "the plain arrival written for speed", aim);
+    tell_aim(rows.iter(), SECOND, "the second program's arrival", aim);
     tell_gap(rows, "arrival-64-1-new", "arrival-64-1-gap63");
-    let bare = rows.iter().map(|r| r.ns[BARE]);
-    let (least, largest) = (
-        bare.clone().fold(f64::MAX, f64::min),
-        bare.fold(0.0, f64::max),
+    println!(
+        "In every time: the loop that writes the frames and a bare call, together {} ns.",
+        range(rows.iter().map(|r| r.ns[BARE]))
     );
-    println!("In every time: the loop that writes the frames and a bare call, together {:.1} to {:.1} ns.", least, largest);
+}
+
+/// The least and the largest of some times.
+fn range(times: impl Iterator<Item = f64> + Clone) -> String {
+    let (least, largest) = (
+        times.clone().fold(f64::MAX, f64::min),
+        times.fold(f64::MIN, f64::max),
+    );
+    format!("{:.1} to {:.1}", least, largest)
+}
+
+/// What a batch's cell is called after: its frames, their size and the streams.
+fn batch_parts(name: &str) -> [usize; 3] {
+    let mut words = name.split('-').skip(1).map(|w| w.parse().unwrap());
+    std::array::from_fn(|_| words.next().unwrap())
+}
+
+pub fn batches(rows: &[Row], aim: f64) {
+    println!("the batches         |      ns a frame      | instructions a frame |   batch to  ");
+    println!("frames size streams |  batch single  plain |  batch single  plain | single plain");
+    println!("--------------------+----------------------+----------------------+-------------");
+    for r in rows {
+        let [frames, size, streams] = batch_parts(&r.name);
+        println!(
+            "{:6} {:4} {:7} | {:6.1} {:6.1} {:6.1} | {:>6} {:>6} {:>6} | {:6.2} {:5.2}",
+            frames,
+            size,
+            streams,
+            r.ns[PRODUCT],
+            r.ns[SINGLE],
+            r.ns[PLAIN],
+            r.count(PRODUCT),
+            r.count(SINGLE),
+            r.count(PLAIN),
+            r.ratio(SINGLE),
+            r.ratio(PLAIN)
+        );
+    }
+    println!();
+    println!("batch: the product's. single: as many single calls of the product. plain: the batch in Rust written for speed.");
+    for frames in [1, 8, 32] {
+        let of = rows
+            .iter()
+            .filter(|r| batch_parts(&r.name)[0] == frames)
+            .collect::<Vec<_>>();
+        if of.is_empty() {
+            continue;
+        }
+        for (to, beside) in [(SINGLE, "single calls"), (PLAIN, "the plain batch")] {
+            let beside = format!("{}, in batches of {}", beside, frames);
+            tell_aim(of.iter().copied(), to, &beside, aim);
+        }
+        if frames == 1 {
+            let more = of.iter().map(|r| r.ns[PRODUCT] - r.ns[SINGLE]);
+            println!("A batch of 1 costs {} ns more than a single call.", range(more));
+        }
+    }
+    println!(
+        "In every time: the loop that writes the frames, {} ns.",
+        range(rows.iter().map(|r| r.ns[LOOP]))
+    );
 }
 
 fn small(what: &str, rows: &[Row], sides: &[&str]) {
@@ -199,12 +261,12 @@ fn small(what: &str, rows: &[Row], sides: &[&str]) {
 
 pub fn tags(rows: &[Row], aim: f64) {
     small("tag calls", rows, &["product", "plain"]);
-    tell_aim(rows, PLAIN, "the plain call", aim);
+    tell_aim(rows.iter(), PLAIN, "the plain call", aim);
 }
 
 pub fn decisions(rows: &[Row], aim: f64) {
     small("decisions", rows, &["product", "plain", "in place"]);
-    tell_aim(rows, PLAIN, "the plain decision by value", aim);
-    tell_aim(rows, SECOND, "the plain decision in place", aim);
+    tell_aim(rows.iter(), PLAIN, "the plain decision by value", aim);
+    tell_aim(rows.iter(), SECOND, "the plain decision in place", aim);
     tell_gap(rows, "row-new", "row-gap63");
 }
