@@ -67,7 +67,11 @@ impl Traffic {
         for f in self.room.ring[self.place..end].chunks_exact_mut(self.step) {
             self.coming.write(&mut f[2..]);
         }
-        self.place = if end == FRAMES_MOST * self.step { 0 } else { end };
+        self.place = if end == FRAMES_MOST * self.step {
+            0
+        } else {
+            end
+        };
     }
 
     /// The last byte of a batch that is handed up.

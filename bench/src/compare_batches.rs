@@ -123,7 +123,11 @@ pub fn batches(cases: u64) -> Result<u64, String> {
         }
     }
     all_seen("a batch's refusal", &calls, &[0, 1, 2, 15])?;
-    all_seen("a refusal in a batch", &refusals, &[0, 3, 4, 5, 6, 7, 8, 14])?;
+    all_seen(
+        "a refusal in a batch",
+        &refusals,
+        &[0, 3, 4, 5, 6, 7, 8, 14],
+    )?;
     all_seen("a verdict in a batch", &verdicts, &[0, 1, 2, 3])?;
     Ok(cases)
 }

@@ -160,7 +160,12 @@ pub fn arrivals(rows: &[Row], aim: f64) {
     println!("plain: Rust written for speed. second: the second program's arrival. memcpy: the frame's bytes copied, nothing else.");
     println!("line rate: the time that two full networks of 1 or 10 Gbit/s leave one core for an arrival (frame + 20 bytes),");
     println!("divided by the product's time: above 1 it keeps up. most of it: the search, the copy, or the rest.");
-    tell_aim(rows.iter(), PLAIN, "the plain arrival written for speed", aim);
+    tell_aim(
+        rows.iter(),
+        PLAIN,
+        "the plain arrival written for speed",
+        aim,
+    );
     tell_aim(rows.iter(), SECOND, "the second program's arrival", aim);
     tell_gap(rows, "arrival-64-1-new", "arrival-64-1-gap63");
     println!(
@@ -221,7 +226,10 @@ pub fn batches(rows: &[Row], aim: f64) {
         }
         if frames == 1 {
             let more = of.iter().map(|r| r.ns[PRODUCT] - r.ns[SINGLE]);
-            println!("A batch of 1 costs {} ns more than a single call.", range(more));
+            println!(
+                "A batch of 1 costs {} ns more than a single call.",
+                range(more)
+            );
         }
     }
     println!(
