@@ -139,8 +139,10 @@ fn run() -> Result<(), String> {
     }
 }
 
+/// A thread's stack begins with a page. The first one's place in a page is another at each run, and what a batch's answers
+/// cost hangs on it.
 fn main() {
-    if let Err(why) = run() {
+    if let Err(why) = std::thread::spawn(run).join().unwrap() {
         eprintln!("bench: {}", why);
         std::process::exit(1);
     }

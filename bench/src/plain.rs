@@ -368,6 +368,14 @@ fn arrive(table: &mut [Stream], network: u8, frame: &[u8], out: &mut [u8]) -> Ar
     }
 }
 
+fn none_taken(refusal: u8) -> BatchAnswer {
+    BatchAnswer {
+        answers: [ArrivalAnswer::default(); FRAMES_MOST],
+        frames: 0,
+        refusal,
+    }
+}
+
 /// Do the lengths run past the buffer?
 fn runs_past(mut frames: &[u8], count: usize) -> bool {
     for _ in 0..count {
@@ -392,37 +400,36 @@ pub fn batch(
     mut frames: &[u8],
     out: &mut [u8],
 ) -> BatchAnswer {
-    let mut b = BatchAnswer {
-        answers: [ArrivalAnswer::default(); FRAMES_MOST],
-        frames: 0,
-        refusal: 0,
-    };
     if table.len() > SLOTS_MOST {
-        b.refusal = TABLE;
-        return b;
+        return none_taken(TABLE);
     }
     if network > 1 {
-        b.refusal = NETWORK;
-        return b;
+        return none_taken(NETWORK);
     }
     if count > FRAMES_MOST || runs_past(frames, count) {
-        b.refusal = BATCH;
-        return b;
+        return none_taken(BATCH);
     }
+    let mut answers = [ArrivalAnswer::default(); FRAMES_MOST];
+    let mut before = 0;
     let mut used = 0;
-    for answer in &mut b.answers[..count] {
+    for answer in &mut answers[..count] {
         let (frame, behind) = frames[2..].split_at(word(frames, 0) as usize);
         frames = behind;
         let room = out[used..].get_mut(2..).unwrap_or(&mut []);
-        *answer = arrive(table, network, frame, room);
-        if answer.refusal == ROOM {
+        let a = arrive(table, network, frame, room);
+        *answer = a;
+        if a.refusal == ROOM {
             break;
         }
-        if answer.verdict == HANDED_UP {
-            out[used..used + 2].copy_from_slice(&(answer.length as u16).to_be_bytes());
-            used += 2 + answer.length;
+        if a.verdict == HANDED_UP {
+            out[used..used + 2].copy_from_slice(&(a.length as u16).to_be_bytes());
+            used += 2 + a.length;
         }
-        b.frames += 1;
+        before += 1;
     }
-    b
+    BatchAnswer {
+        answers,
+        frames: before,
+        refusal: 0,
+    }
 }
