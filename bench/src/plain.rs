@@ -298,12 +298,39 @@ pub fn arrival_at(
     if network > 1 {
         return not_taken(NETWORK);
     }
-    arrive(table, network, frame, out)
+    arrive(by_place, table, network, frame, out)
+}
+
+/// The search for a stream by its VLAN id and destination: its slot, and its record.
+type Search = fn(&mut [Stream], u16, u64) -> Option<(usize, &mut Stream)>;
+
+/// The faster one in a single arrival.
+#[inline(always)]
+fn by_place(table: &mut [Stream], vlan: u16, dest: u64) -> Option<(usize, &mut Stream)> {
+    let slot = table
+        .iter()
+        .position(|s| s.vlan == vlan && s.dest == dest && s.used != 0)?;
+    Some((slot, &mut table[slot]))
+}
+
+/// The faster one in a batch, where fewer registers are free.
+#[inline(always)]
+fn by_record(table: &mut [Stream], vlan: u16, dest: u64) -> Option<(usize, &mut Stream)> {
+    table
+        .iter_mut()
+        .enumerate()
+        .find(|(_, s)| s.vlan == vlan && s.dest == dest && s.used != 0)
 }
 
 /// The arrival behind 1 and 2, which a batch asks once.
 #[inline(always)]
-fn arrive(table: &mut [Stream], network: u8, frame: &[u8], out: &mut [u8]) -> ArrivalAnswer {
+fn arrive(
+    search: Search,
+    table: &mut [Stream],
+    network: u8,
+    frame: &[u8],
+    out: &mut [u8],
+) -> ArrivalAnswer {
     if frame.len() > FRAME_MOST {
         return not_taken(LONG);
     }
@@ -335,14 +362,10 @@ fn arrive(table: &mut [Stream], network: u8, frame: &[u8], out: &mut [u8]) -> Ar
     } else {
         0
     };
-    let slot = match table
-        .iter()
-        .position(|s| s.vlan == vlan && s.dest == dest && s.used != 0)
-    {
-        Some(slot) => slot,
+    let (slot, s) = match search(table, vlan, dest) {
+        Some(found) => found,
         None => return not_taken(UNKNOWN),
     };
-    let s = &mut table[slot];
     if !lawful(s) {
         return not_taken(HURT);
     }
@@ -416,7 +439,7 @@ pub fn batch(
         let (frame, behind) = frames[2..].split_at(word(frames, 0) as usize);
         frames = behind;
         let room = out[used..].get_mut(2..).unwrap_or(&mut []);
-        let a = arrive(table, network, frame, room);
+        let a = arrive(by_record, table, network, frame, room);
         *answer = a;
         if a.refusal == ROOM {
             break;
