@@ -102,9 +102,8 @@ pub fn batches(cases: u64) -> Result<u64, String> {
         let x = proved::batch(&mut t.proved, network, count, &frames, a);
         let y = plain::batch(&mut t.plain, network, count, &frames, b);
         let none = BatchAnswer {
-            answers: [ArrivalAnswer::default(); FRAMES_MOST],
-            frames: 0,
             refusal: refused(&alone, network, count, &frames),
+            ..BatchAnswer::default()
         };
         let (mut z, mut w) = (none, none);
         if none.refusal == 0 {

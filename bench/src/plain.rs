@@ -393,9 +393,8 @@ fn arrive(
 
 fn none_taken(refusal: u8) -> BatchAnswer {
     BatchAnswer {
-        answers: [ArrivalAnswer::default(); FRAMES_MOST],
-        frames: 0,
         refusal,
+        ..BatchAnswer::default()
     }
 }
 
