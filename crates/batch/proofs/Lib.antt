@@ -9,3 +9,18 @@ pub mod Values
 pub mod Enums
 pub mod Tails
 pub mod Rows
+pub mod ThirtyTwo
+pub mod Fields
+-- The steps of the code are the batch: what a single arrival leaves, what is packed, the middle of a batch, and the call.
+pub mod Arriving
+pub mod Packing
+pub mod Middle
+pub mod Comes
+-- Of a batch: its refusals, its turns, what it tells, a batch of one frame, a batch in two parts, the example.
+pub mod Refusing
+pub mod Turns
+pub mod Reading
+pub mod One
+pub mod Parts
+pub mod Splitting
+pub mod Worked

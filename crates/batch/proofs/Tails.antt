@@ -16,7 +16,7 @@ use base.Logic.{ent, sep, ex, guard}
 use base.Fml.{Lft, GName, Share, Fml, flft, fobs, fbor, fres}
 use prog.Wp.{Heap}
 use ghost.Atoms.{Atoms, sem}
-use types.Kit.{Goal, Soaks, Given, Item, ‵, _⊛_, some, later, given, Seq, _$_, move, drop, use1, use2, use3, split, pick, await, learn, fltI, fsplit, fjoin}
+use types.Kit.{Goal, Soaks, Given, Item, ‵, _⊛_, some, later, given, Seq, Step, step, _$_, move, drop, use1, use2, use3, split, pick, await, learn, fltI, fsplit, fjoin}
 use types.Hole.{here}
 use types.Tokens.{lft-new, lft-end}
 use denote.Builtin.{u8}
@@ -63,14 +63,14 @@ module _ {M : Type 1} {𝓤 : URA M} {H : Heap 𝓤} {A : Atoms 𝓤} {K : Type 
           (sl-relendᵐ 𝓤 H A W u8 κ q (ν ∷ []) b o γ us k (length us - k)))
 
   pub tail-back : K → Soaks G → {κ : Lft} {q : Share} {γ : GName} (ν : ℕ) (δ : GName) (us vs : List ℕ) (b o p k : ℕ)
-      → Seq K W (‵ (fobs γ (codedHoleys u8 .code (heres u8 (take k us ++ vs)))) ∷ ‵ (fbor κ (Held u8 (length (take k us ++ vs)) b o γ)) ∷ ‵ (flft κ q) ∷ Γ) G
-      → Seq K W (‵ (fobs δ (codedHoleys u8 .code (heres u8 vs))) ∷ ‵ (fbor (ν ∷ []) (Held u8 (length vs) b p δ)) ∷ ‵ (flft (ν ∷ []) fullShare) ∷ ‵ (Behind κ q ν γ δ us k b o) ∷ Γ) G
-  tail-back t z {κ} {q} {γ} ν δ us vs b o p k then =
+      → Step K W (‵ (fobs γ (codedHoleys u8 .code (heres u8 (take k us ++ vs)))) ∷ ‵ (fbor κ (Held u8 (length (take k us ++ vs)) b o γ)) ∷ ‵ (flft κ q) ∷ Γ) G
+      (‵ (fobs δ (codedHoleys u8 .code (heres u8 vs))) ∷ ‵ (fbor (ν ∷ []) (Held u8 (length vs) b p δ)) ∷ ‵ (flft (ν ∷ []) fullShare) ∷ ‵ (Behind κ q ν γ δ us k b o) ∷ Γ) G
+  tail-back t z {κ} {q} {γ} ν δ us vs b o p k = step (λ then.
       use1 W (‵ (fres δ (codedHoleys u8 .code (heres u8 vs)))) (W .names .obs-res δ (codedHoleys u8 .code (heres u8 vs))) $
       use1 W (‵ (finally u8 δ vs)) (res-finally 𝓤 H A W erased (ν ∷ []) u8 δ vs) $
       move t (1 ∷ []) $ drop t $ move t (1 ∷ []) $ lft-end t z $ move t (0 ∷ 2 ∷ 1 ∷ []) $
       use3 W (later (given (length vs ≡ length (midOf k (length us - k) us)) (‵ (own κ b o γ (take k us ++ vs)) ⊛ ‵ (flft κ q)))) back $ await t z $ learn t (λ _. split t $
-      fsplit t $ drop t $ fsplit t $ then)
+      fsplit t $ drop t $ fsplit t $ then))
     where
       back : ent 𝓤 (sep 𝓤 (A .dead (ν ∷ [])) (sep 𝓤 (sem 𝓤 H A (Behind κ q ν γ δ us k b o)) (sem 𝓤 H A (finally u8 δ vs))))
           (H .⇛ (guard 𝓤 (length vs ≡ length (midOf k (length us - k) us)) (sep 𝓤 (sem 𝓤 H A (own κ b o γ (take k us ++ vs))) (A .lft κ q))))

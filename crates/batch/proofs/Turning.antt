@@ -36,16 +36,17 @@ module _ (network : ℕ) (s : List ℕ) (t zs : Table) (c : Cursor) (us vs : Lis
       subst (λ (e : ArrivalAnswer). c .used + added e ≤ length us) (ap (λ (z : Result). tellArrival (z .said)) (sym same) ∙ sym told)
       (turn-fits t network (take (j - i) (drop i s)) us c s i j k sought h)
 
+  made : (b : Cursor) (us₃ : List ℕ) (cs₂ : List ArrivalAnswer) → us₃ ≡ lengthPut (c .used) v (take k us ++ vs) → cs₂ ≡ set cs (c .frames) v → b ≡ cursorAfter c j v
+      → _≡_ {A = Work} (record { table = zs; cursor = b; out = us₃; answers = cs₂ }) (workAfter w r j k)
+  unfolding workAfter
+  made b us₃ cs₂ put kept moved = rw (put, kept, moved, told)
+
   pub one-frame-more : (b : Cursor) (us₃ : List ℕ) (cs₂ : List ArrivalAnswer)
       → us₃ ≡ lengthPut (c .used) v (take k us ++ vs) → cs₂ ≡ set cs (c .frames) v → b ≡ cursorAfter c j v
       → filledOf network s (record { table = zs; cursor = b; out = us₃; answers = cs₂ }) ≡ filledOf network s w
   one-frame-more b us₃ cs₂ put kept moved =
-      ap (filledOf network s) (made ∙ ap (λ (z : Result). workAfter w z j k) same)
+      ap (filledOf network s) (made b us₃ cs₂ put kept moved ∙ ap (λ (z : Result). workAfter w z j k) same)
       ∙ filled-one network s w i j k sought
-    where
-      made : _≡_ {A = Work} (record { table = zs; cursor = b; out = us₃; answers = cs₂ }) (workAfter w r j k)
-      unfolding workAfter
-      made = rw put, kept, moved, told
 
 -- the output with its end as the arrival left it is as long as it was
 pub tail-length : (k : ℕ) (us vs : List ℕ) → k ≤ length us → length vs ≡ length (drop k us) → length (take k us ++ vs) ≡ length us

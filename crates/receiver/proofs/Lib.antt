@@ -8,6 +8,7 @@ pub mod Again
 pub mod Lending
 pub mod Handing
 pub mod Both
+pub mod Local
 pub mod Parts
 pub mod Pieces
 pub mod Lists

@@ -53,8 +53,8 @@ use Rattle.batch.specs.declared.Next.{Next}
 use Rattle.batch.specs.Batch.{Batch}
 use Rattle.batch.specs.Steps.{begun, nextFrame, added, lengthPut, cursorAfter, Work, filledOf, Fills}
 use Rattle.receiver.proofs.Both.{calls-mut-two}
-use Rattle.receiver.proofs.Calling.{calls-value, calls-with}
-use Rattle.receiver.proofs.Enums.{answer-ty, answer-val, answer-tells, answer-typed, answer-has}
+use Rattle.receiver.proofs.Calling.{told, calls-value, calls-with}
+use Rattle.receiver.proofs.Enums.{answer-ty, answer-val, answer-tells, answer-ok, answer-typed, answer-has}
 use Rattle.receiver.proofs.Handing.{owns-slice}
 use Rattle.receiver.proofs.Lending.{mut-own, calls-mut}
 use Rattle.receiver.proofs.Parts.{slice-part}
@@ -171,7 +171,7 @@ module _ {M : Type 1} (𝓤 : URA M) (H : Heap 𝓤) (A : Atoms 𝓤) (W : Given
   abbrev worked : X → Work
   worked t = work (t .0) (t .1) (t .2) (t .3)
 
-  start : (c : Cursor) → cursor-ok c → c ≡ begun n network count bs → X
+  abbrev start : (c : Cursor) → cursor-ok c → c ≡ begun n network count bs → X
   start c g e =
       (c, ys, us, cs, (g, (refl, (refl, (refl, (subst (Whole bs (length us)) (sym e) (whole-begun n network count bs (length us)), ap (λ (d : Cursor). filledOf network bs (work d ys us cs)) e))))))
 
@@ -234,11 +234,100 @@ module _ {M : Type 1} (𝓤 : URA M) (H : Heap 𝓤) (A : Atoms 𝓤) (W : Given
       abbrev Then : X → Post 𝓤 H
       Then t = anyQ (afterSeq 𝓤 H (Wp 𝓤 H C Λ En (after 3 mir′.turn-1) (post 𝓤 H (Next′ t))) (post 𝓤 H (Next′ t)))
 
-      abbrev Sought : Cursor → List Stream → List ℕ → List ArrivalAnswer → Next → List (Item 𝓤)
-      Sought c zs us′ cs′ v = ‵ (fobs γ (codedHoleys R .code (heres R zs))) ∷ ‵ (fbor κ (Held R (length zs) b o γ)) ∷ ‵ (flft κ q) ∷ ‵ (ShrSlice (named 1) κ₁ u8 .own (record { ptr = (b₁, o₁); name = γ₁; now = bs }) (sliceVal (b₁, o₁) (length bs) ∷ [])) ∷ ‵ (flft κ₁ q₁) ∷ ‵ (fobs γ₂ (codedHoleys u8 .code (heres u8 us′))) ∷ ‵ (fbor κ₂ (Held u8 (length us′) b₂ o₂ γ₂)) ∷ ‵ (flft κ₂ q₂) ∷ ‵ (fobs γ₃ (codedHoleys arrivalanswer-row .code (heres arrivalanswer-row cs′))) ∷ ‵ (fbor κ₃ (Held arrivalanswer-row (length cs′) b₃ o₃ γ₃)) ∷ ‵ (flft κ₃ q₃) ∷ ‵ (froom (sliceTy (tyRef erased mut (pointee (arrivalanswer-row .written)))) l₃₀ 0) ∷ ‵ (fdies (sliceTy (tyRef erased mut (pointee (arrivalanswer-row .written)))) l₃₀) ∷ ‵ (froom (tyRef erased mut (pointee (arrivalanswer-row .written))) l₂₉ 0) ∷ ‵ (fdies (tyRef erased mut (pointee (arrivalanswer-row .written))) l₂₉) ∷ ‵ (froom (sliceTy (tyRef erased mut (pointee (u8 .written)))) l₂₈ 0) ∷ ‵ (fdies (sliceTy (tyRef erased mut (pointee (u8 .written)))) l₂₈) ∷ ‵ (froom (tyRef erased mut (pointee (u8 .written))) l₂₇ 0) ∷ ‵ (fdies (tyRef erased mut (pointee (u8 .written))) l₂₇) ∷ ‵ (froom tyUnit l₂₆ 0) ∷ ‵ (fdies tyUnit l₂₆) ∷ ‵ (froom (sliceTy (tyRef erased mut (pointee (u8 .written)))) l₂₅ 0) ∷ ‵ (fdies (sliceTy (tyRef erased mut (pointee (u8 .written)))) l₂₅) ∷ ‵ (froom (tyRef erased mut (pointee (u8 .written))) l₂₄ 0) ∷ ‵ (fdies (tyRef erased mut (pointee (u8 .written))) l₂₄) ∷ ‵ (froom (tyInt w64) l₂₃ 0) ∷ ‵ (fdies (tyInt w64) l₂₃) ∷ ‵ (froom tyPtr l₂₂ 0) ∷ ‵ (fdies tyPtr l₂₂) ∷ ‵ (froom (sliceTy (tyRef erased imm (pointee (u8 .written)))) l₂₁ 0) ∷ ‵ (fdies (sliceTy (tyRef erased imm (pointee (u8 .written)))) l₂₁) ∷ ‵ (froom (tyRef erased imm (pointee (u8 .written))) l₂₀ 0) ∷ ‵ (fdies (tyRef erased imm (pointee (u8 .written))) l₂₀) ∷ ‵ (froom tyPtr l₁₉ 0) ∷ ‵ (fdies tyPtr l₁₉) ∷ ‵ (froom (sliceTy (tyRef erased mut (pointee (R .written)))) l₁₈ 0) ∷ ‵ (fdies (sliceTy (tyRef erased mut (pointee (R .written)))) l₁₈) ∷ ‵ (froom (tyRef erased mut (pointee (R .written))) l₁₇ 0) ∷ ‵ (fdies (tyRef erased mut (pointee (R .written))) l₁₇) ∷ ‵ (froom (tyInt w64) l₁₆ 0) ∷ ‵ (fdies (tyInt w64) l₁₆) ∷ ‵ (fat fullShare next-ty l₁₅ 0 (next-val v)) ∷ ‵ (fdies next-ty l₁₅) ∷ ‵ (froom (tyInt w64) l₁₄ 0) ∷ ‵ (fdies (tyInt w64) l₁₄) ∷ ‵ (froom cursor-ty l₁₃ 0) ∷ ‵ (fdies cursor-ty l₁₃) ∷ ‵ (froom arrivalanswer-ty l₁₂ 0) ∷ ‵ (fdies arrivalanswer-ty l₁₂) ∷ ‵ (froom answer-ty l₁₁ 0) ∷ ‵ (fdies answer-ty l₁₁) ∷ ‵ (froom (tyInt w64) l₁₀ 0) ∷ ‵ (fdies (tyInt w64) l₁₀) ∷ ‵ (froom (tyInt w64) l₉ 0) ∷ ‵ (fdies (tyInt w64) l₉) ∷ ‵ (froom (tyInt w64) l₈ 0) ∷ ‵ (fdies (tyInt w64) l₈) ∷ ‵ (fat fullShare cursor-ty l₇ 0 (cursor-val c)) ∷ ‵ (fdies cursor-ty l₇) ∷ ‵ (fat fullShare (sliceTy (tyRef (named 3) mut (pointee (arrivalanswer-row .written)))) l₆ 0 (sliceVal (b₃, o₃) (length cs′))) ∷ ‵ (fdies (sliceTy (tyRef (named 3) mut (pointee (arrivalanswer-row .written)))) l₆) ∷ ‵ (fat fullShare (sliceTy (tyRef (named 2) mut (pointee (u8 .written)))) l₅ 0 (sliceVal (b₂, o₂) (length us′))) ∷ ‵ (fdies (sliceTy (tyRef (named 2) mut (pointee (u8 .written)))) l₅) ∷ ‵ (fat fullShare (sliceTy (tyRef (named 1) imm (pointee (u8 .written)))) l₄ 0 (sliceVal (b₁, o₁) (length bs))) ∷ ‵ (fdies (sliceTy (tyRef (named 1) imm (pointee (u8 .written)))) l₄) ∷ ‵ (fat fullShare (tyInt w64) l₃ 0 (vint w64 count)) ∷ ‵ (fdies (tyInt w64) l₃) ∷ ‵ (fat fullShare (tyInt w8) l₂ 0 (vint w8 network)) ∷ ‵ (fdies (tyInt w8) l₂) ∷ ‵ (fat fullShare mutTy l₁ 0 (sliceVal (b, o) (length zs))) ∷ ‵ (fdies mutTy l₁) ∷ ‵ (froom cursor-ty l₀ 0) ∷ ‵ (fdies cursor-ty l₀) ∷ []
+      -- the same with what a turn has found: each part of it is a lemma by itself
+      abbrev There : Cursor → List Stream → List ℕ → List ArrivalAnswer → Next → List (Item 𝓤)
+      There c zs us′ cs′ v = ‵ (fobs γ (codedHoleys R .code (heres R zs))) ∷ ‵ (fbor κ (Held R (length zs) b o γ)) ∷ ‵ (flft κ q) ∷ ‵ (ShrSlice (named 1) κ₁ u8 .own (record { ptr = (b₁, o₁); name = γ₁; now = bs }) (sliceVal (b₁, o₁) (length bs) ∷ [])) ∷ ‵ (flft κ₁ q₁) ∷ ‵ (fobs γ₂ (codedHoleys u8 .code (heres u8 us′))) ∷ ‵ (fbor κ₂ (Held u8 (length us′) b₂ o₂ γ₂)) ∷ ‵ (flft κ₂ q₂) ∷ ‵ (fobs γ₃ (codedHoleys arrivalanswer-row .code (heres arrivalanswer-row cs′))) ∷ ‵ (fbor κ₃ (Held arrivalanswer-row (length cs′) b₃ o₃ γ₃)) ∷ ‵ (flft κ₃ q₃) ∷ ‵ (froom (sliceTy (tyRef erased mut (pointee (arrivalanswer-row .written)))) l₃₀ 0) ∷ ‵ (fdies (sliceTy (tyRef erased mut (pointee (arrivalanswer-row .written)))) l₃₀) ∷ ‵ (froom (tyRef erased mut (pointee (arrivalanswer-row .written))) l₂₉ 0) ∷ ‵ (fdies (tyRef erased mut (pointee (arrivalanswer-row .written))) l₂₉) ∷ ‵ (froom (sliceTy (tyRef erased mut (pointee (u8 .written)))) l₂₈ 0) ∷ ‵ (fdies (sliceTy (tyRef erased mut (pointee (u8 .written)))) l₂₈) ∷ ‵ (froom (tyRef erased mut (pointee (u8 .written))) l₂₇ 0) ∷ ‵ (fdies (tyRef erased mut (pointee (u8 .written))) l₂₇) ∷ ‵ (froom tyUnit l₂₆ 0) ∷ ‵ (fdies tyUnit l₂₆) ∷ ‵ (froom (sliceTy (tyRef erased mut (pointee (u8 .written)))) l₂₅ 0) ∷ ‵ (fdies (sliceTy (tyRef erased mut (pointee (u8 .written)))) l₂₅) ∷ ‵ (froom (tyRef erased mut (pointee (u8 .written))) l₂₄ 0) ∷ ‵ (fdies (tyRef erased mut (pointee (u8 .written))) l₂₄) ∷ ‵ (froom (tyInt w64) l₂₃ 0) ∷ ‵ (fdies (tyInt w64) l₂₃) ∷ ‵ (froom tyPtr l₂₂ 0) ∷ ‵ (fdies tyPtr l₂₂) ∷ ‵ (froom (sliceTy (tyRef erased imm (pointee (u8 .written)))) l₂₁ 0) ∷ ‵ (fdies (sliceTy (tyRef erased imm (pointee (u8 .written)))) l₂₁) ∷ ‵ (froom (tyRef erased imm (pointee (u8 .written))) l₂₀ 0) ∷ ‵ (fdies (tyRef erased imm (pointee (u8 .written))) l₂₀) ∷ ‵ (froom tyPtr l₁₉ 0) ∷ ‵ (fdies tyPtr l₁₉) ∷ ‵ (froom (sliceTy (tyRef erased mut (pointee (R .written)))) l₁₈ 0) ∷ ‵ (fdies (sliceTy (tyRef erased mut (pointee (R .written)))) l₁₈) ∷ ‵ (froom (tyRef erased mut (pointee (R .written))) l₁₇ 0) ∷ ‵ (fdies (tyRef erased mut (pointee (R .written))) l₁₇) ∷ ‵ (froom (tyInt w64) l₁₆ 0) ∷ ‵ (fdies (tyInt w64) l₁₆) ∷ ‵ (fat fullShare next-ty l₁₅ 0 (next-val v)) ∷ ‵ (fdies next-ty l₁₅) ∷ ‵ (froom (tyInt w64) l₁₄ 0) ∷ ‵ (fdies (tyInt w64) l₁₄) ∷ ‵ (froom cursor-ty l₁₃ 0) ∷ ‵ (fdies cursor-ty l₁₃) ∷ ‵ (froom arrivalanswer-ty l₁₂ 0) ∷ ‵ (fdies arrivalanswer-ty l₁₂) ∷ ‵ (froom answer-ty l₁₁ 0) ∷ ‵ (fdies answer-ty l₁₁) ∷ ‵ (froom (tyInt w64) l₁₀ 0) ∷ ‵ (fdies (tyInt w64) l₁₀) ∷ ‵ (froom (tyInt w64) l₉ 0) ∷ ‵ (fdies (tyInt w64) l₉) ∷ ‵ (froom (tyInt w64) l₈ 0) ∷ ‵ (fdies (tyInt w64) l₈) ∷ ‵ (fat fullShare cursor-ty l₇ 0 (cursor-val c)) ∷ ‵ (fdies cursor-ty l₇) ∷ ‵ (fat fullShare (sliceTy (tyRef (named 3) mut (pointee (arrivalanswer-row .written)))) l₆ 0 (sliceVal (b₃, o₃) (length cs′))) ∷ ‵ (fdies (sliceTy (tyRef (named 3) mut (pointee (arrivalanswer-row .written)))) l₆) ∷ ‵ (fat fullShare (sliceTy (tyRef (named 2) mut (pointee (u8 .written)))) l₅ 0 (sliceVal (b₂, o₂) (length us′))) ∷ ‵ (fdies (sliceTy (tyRef (named 2) mut (pointee (u8 .written)))) l₅) ∷ ‵ (fat fullShare (sliceTy (tyRef (named 1) imm (pointee (u8 .written)))) l₄ 0 (sliceVal (b₁, o₁) (length bs))) ∷ ‵ (fdies (sliceTy (tyRef (named 1) imm (pointee (u8 .written)))) l₄) ∷ ‵ (fat fullShare (tyInt w64) l₃ 0 (vint w64 count)) ∷ ‵ (fdies (tyInt w64) l₃) ∷ ‵ (fat fullShare (tyInt w8) l₂ 0 (vint w8 network)) ∷ ‵ (fdies (tyInt w8) l₂) ∷ ‵ (fat fullShare mutTy l₁ 0 (sliceVal (b, o) (length zs))) ∷ ‵ (fdies mutTy l₁) ∷ ‵ (froom cursor-ty l₀ 0) ∷ ‵ (fdies cursor-ty l₀) ∷ []
+
+      abbrev Found : Cursor → List Stream → List ℕ → List ArrivalAnswer → (i j k : ℕ) → List (Item 𝓤)
+      Found c zs us′ cs′ i j k = ‵ (fobs γ (codedHoleys R .code (heres R zs))) ∷ ‵ (fbor κ (Held R (length zs) b o γ)) ∷ ‵ (flft κ q) ∷ ‵ (ShrSlice (named 1) κ₁ u8 .own (record { ptr = (b₁, o₁); name = γ₁; now = bs }) (sliceVal (b₁, o₁) (length bs) ∷ [])) ∷ ‵ (flft κ₁ q₁) ∷ ‵ (fobs γ₂ (codedHoleys u8 .code (heres u8 us′))) ∷ ‵ (fbor κ₂ (Held u8 (length us′) b₂ o₂ γ₂)) ∷ ‵ (flft κ₂ q₂) ∷ ‵ (fobs γ₃ (codedHoleys arrivalanswer-row .code (heres arrivalanswer-row cs′))) ∷ ‵ (fbor κ₃ (Held arrivalanswer-row (length cs′) b₃ o₃ γ₃)) ∷ ‵ (flft κ₃ q₃) ∷ ‵ (froom (sliceTy (tyRef erased mut (pointee (arrivalanswer-row .written)))) l₃₀ 0) ∷ ‵ (fdies (sliceTy (tyRef erased mut (pointee (arrivalanswer-row .written)))) l₃₀) ∷ ‵ (froom (tyRef erased mut (pointee (arrivalanswer-row .written))) l₂₉ 0) ∷ ‵ (fdies (tyRef erased mut (pointee (arrivalanswer-row .written))) l₂₉) ∷ ‵ (froom (sliceTy (tyRef erased mut (pointee (u8 .written)))) l₂₈ 0) ∷ ‵ (fdies (sliceTy (tyRef erased mut (pointee (u8 .written)))) l₂₈) ∷ ‵ (froom (tyRef erased mut (pointee (u8 .written))) l₂₇ 0) ∷ ‵ (fdies (tyRef erased mut (pointee (u8 .written))) l₂₇) ∷ ‵ (froom tyUnit l₂₆ 0) ∷ ‵ (fdies tyUnit l₂₆) ∷ ‵ (froom (sliceTy (tyRef erased mut (pointee (u8 .written)))) l₂₅ 0) ∷ ‵ (fdies (sliceTy (tyRef erased mut (pointee (u8 .written)))) l₂₅) ∷ ‵ (froom (tyRef erased mut (pointee (u8 .written))) l₂₄ 0) ∷ ‵ (fdies (tyRef erased mut (pointee (u8 .written))) l₂₄) ∷ ‵ (froom (tyInt w64) l₂₃ 0) ∷ ‵ (fdies (tyInt w64) l₂₃) ∷ ‵ (froom tyPtr l₂₂ 0) ∷ ‵ (fdies tyPtr l₂₂) ∷ ‵ (froom (sliceTy (tyRef erased imm (pointee (u8 .written)))) l₂₁ 0) ∷ ‵ (fdies (sliceTy (tyRef erased imm (pointee (u8 .written)))) l₂₁) ∷ ‵ (froom (tyRef erased imm (pointee (u8 .written))) l₂₀ 0) ∷ ‵ (fdies (tyRef erased imm (pointee (u8 .written))) l₂₀) ∷ ‵ (froom tyPtr l₁₉ 0) ∷ ‵ (fdies tyPtr l₁₉) ∷ ‵ (froom (sliceTy (tyRef erased mut (pointee (R .written)))) l₁₈ 0) ∷ ‵ (fdies (sliceTy (tyRef erased mut (pointee (R .written)))) l₁₈) ∷ ‵ (froom (tyRef erased mut (pointee (R .written))) l₁₇ 0) ∷ ‵ (fdies (tyRef erased mut (pointee (R .written))) l₁₇) ∷ ‵ (froom (tyInt w64) l₁₆ 0) ∷ ‵ (fdies (tyInt w64) l₁₆) ∷ ‵ (froom next-ty l₁₅ 0) ∷ ‵ (fdies next-ty l₁₅) ∷ ‵ (froom (tyInt w64) l₁₄ 0) ∷ ‵ (fdies (tyInt w64) l₁₄) ∷ ‵ (froom cursor-ty l₁₃ 0) ∷ ‵ (fdies cursor-ty l₁₃) ∷ ‵ (froom arrivalanswer-ty l₁₂ 0) ∷ ‵ (fdies arrivalanswer-ty l₁₂) ∷ ‵ (froom answer-ty l₁₁ 0) ∷ ‵ (fdies answer-ty l₁₁) ∷ ‵ (fat fullShare (tyInt w64) l₁₀ 0 (vint w64 k)) ∷ ‵ (fdies (tyInt w64) l₁₀) ∷ ‵ (fat fullShare (tyInt w64) l₉ 0 (vint w64 j)) ∷ ‵ (fdies (tyInt w64) l₉) ∷ ‵ (fat fullShare (tyInt w64) l₈ 0 (vint w64 i)) ∷ ‵ (fdies (tyInt w64) l₈) ∷ ‵ (fat fullShare cursor-ty l₇ 0 (cursor-val c)) ∷ ‵ (fdies cursor-ty l₇) ∷ ‵ (fat fullShare (sliceTy (tyRef (named 3) mut (pointee (arrivalanswer-row .written)))) l₆ 0 (sliceVal (b₃, o₃) (length cs′))) ∷ ‵ (fdies (sliceTy (tyRef (named 3) mut (pointee (arrivalanswer-row .written)))) l₆) ∷ ‵ (fat fullShare (sliceTy (tyRef (named 2) mut (pointee (u8 .written)))) l₅ 0 (sliceVal (b₂, o₂) (length us′))) ∷ ‵ (fdies (sliceTy (tyRef (named 2) mut (pointee (u8 .written)))) l₅) ∷ ‵ (fat fullShare (sliceTy (tyRef (named 1) imm (pointee (u8 .written)))) l₄ 0 (sliceVal (b₁, o₁) (length bs))) ∷ ‵ (fdies (sliceTy (tyRef (named 1) imm (pointee (u8 .written)))) l₄) ∷ ‵ (fat fullShare (tyInt w64) l₃ 0 (vint w64 count)) ∷ ‵ (fdies (tyInt w64) l₃) ∷ ‵ (fat fullShare (tyInt w8) l₂ 0 (vint w8 network)) ∷ ‵ (fdies (tyInt w8) l₂) ∷ ‵ (fat fullShare mutTy l₁ 0 (sliceVal (b, o) (length zs))) ∷ ‵ (fdies mutTy l₁) ∷ ‵ (froom cursor-ty l₀ 0) ∷ ‵ (fdies cursor-ty l₀) ∷ []
+
+      abbrev Arrived : Cursor → List Stream → List ℕ → List ArrivalAnswer → (j : ℕ) → Answer → List (Item 𝓤)
+      Arrived c zs us′ cs′ j a = ‵ (fobs γ (codedHoleys R .code (heres R zs))) ∷ ‵ (fbor κ (Held R (length zs) b o γ)) ∷ ‵ (flft κ q) ∷ ‵ (ShrSlice (named 1) κ₁ u8 .own (record { ptr = (b₁, o₁); name = γ₁; now = bs }) (sliceVal (b₁, o₁) (length bs) ∷ [])) ∷ ‵ (flft κ₁ q₁) ∷ ‵ (fobs γ₂ (codedHoleys u8 .code (heres u8 us′))) ∷ ‵ (fbor κ₂ (Held u8 (length us′) b₂ o₂ γ₂)) ∷ ‵ (flft κ₂ q₂) ∷ ‵ (fobs γ₃ (codedHoleys arrivalanswer-row .code (heres arrivalanswer-row cs′))) ∷ ‵ (fbor κ₃ (Held arrivalanswer-row (length cs′) b₃ o₃ γ₃)) ∷ ‵ (flft κ₃ q₃) ∷ ‵ (froom (sliceTy (tyRef erased mut (pointee (arrivalanswer-row .written)))) l₃₀ 0) ∷ ‵ (fdies (sliceTy (tyRef erased mut (pointee (arrivalanswer-row .written)))) l₃₀) ∷ ‵ (froom (tyRef erased mut (pointee (arrivalanswer-row .written))) l₂₉ 0) ∷ ‵ (fdies (tyRef erased mut (pointee (arrivalanswer-row .written))) l₂₉) ∷ ‵ (froom (sliceTy (tyRef erased mut (pointee (u8 .written)))) l₂₈ 0) ∷ ‵ (fdies (sliceTy (tyRef erased mut (pointee (u8 .written)))) l₂₈) ∷ ‵ (froom (tyRef erased mut (pointee (u8 .written))) l₂₇ 0) ∷ ‵ (fdies (tyRef erased mut (pointee (u8 .written))) l₂₇) ∷ ‵ (froom tyUnit l₂₆ 0) ∷ ‵ (fdies tyUnit l₂₆) ∷ ‵ (froom (sliceTy (tyRef erased mut (pointee (u8 .written)))) l₂₅ 0) ∷ ‵ (fdies (sliceTy (tyRef erased mut (pointee (u8 .written)))) l₂₅) ∷ ‵ (froom (tyRef erased mut (pointee (u8 .written))) l₂₄ 0) ∷ ‵ (fdies (tyRef erased mut (pointee (u8 .written))) l₂₄) ∷ ‵ (froom (tyInt w64) l₂₃ 0) ∷ ‵ (fdies (tyInt w64) l₂₃) ∷ ‵ (froom tyPtr l₂₂ 0) ∷ ‵ (fdies tyPtr l₂₂) ∷ ‵ (froom (sliceTy (tyRef erased imm (pointee (u8 .written)))) l₂₁ 0) ∷ ‵ (fdies (sliceTy (tyRef erased imm (pointee (u8 .written)))) l₂₁) ∷ ‵ (froom (tyRef erased imm (pointee (u8 .written))) l₂₀ 0) ∷ ‵ (fdies (tyRef erased imm (pointee (u8 .written))) l₂₀) ∷ ‵ (froom tyPtr l₁₉ 0) ∷ ‵ (fdies tyPtr l₁₉) ∷ ‵ (froom (sliceTy (tyRef erased mut (pointee (R .written)))) l₁₈ 0) ∷ ‵ (fdies (sliceTy (tyRef erased mut (pointee (R .written)))) l₁₈) ∷ ‵ (froom (tyRef erased mut (pointee (R .written))) l₁₇ 0) ∷ ‵ (fdies (tyRef erased mut (pointee (R .written))) l₁₇) ∷ ‵ (froom (tyInt w64) l₁₆ 0) ∷ ‵ (fdies (tyInt w64) l₁₆) ∷ ‵ (froom next-ty l₁₅ 0) ∷ ‵ (fdies next-ty l₁₅) ∷ ‵ (froom (tyInt w64) l₁₄ 0) ∷ ‵ (fdies (tyInt w64) l₁₄) ∷ ‵ (froom cursor-ty l₁₃ 0) ∷ ‵ (fdies cursor-ty l₁₃) ∷ ‵ (froom arrivalanswer-ty l₁₂ 0) ∷ ‵ (fdies arrivalanswer-ty l₁₂) ∷ ‵ (fat fullShare answer-ty l₁₁ 0 (answer-val a)) ∷ ‵ (fdies answer-ty l₁₁) ∷ ‵ (froom (tyInt w64) l₁₀ 0) ∷ ‵ (fdies (tyInt w64) l₁₀) ∷ ‵ (fat fullShare (tyInt w64) l₉ 0 (vint w64 j)) ∷ ‵ (fdies (tyInt w64) l₉) ∷ ‵ (froom (tyInt w64) l₈ 0) ∷ ‵ (fdies (tyInt w64) l₈) ∷ ‵ (fat fullShare cursor-ty l₇ 0 (cursor-val c)) ∷ ‵ (fdies cursor-ty l₇) ∷ ‵ (fat fullShare (sliceTy (tyRef (named 3) mut (pointee (arrivalanswer-row .written)))) l₆ 0 (sliceVal (b₃, o₃) (length cs′))) ∷ ‵ (fdies (sliceTy (tyRef (named 3) mut (pointee (arrivalanswer-row .written)))) l₆) ∷ ‵ (fat fullShare (sliceTy (tyRef (named 2) mut (pointee (u8 .written)))) l₅ 0 (sliceVal (b₂, o₂) (length us′))) ∷ ‵ (fdies (sliceTy (tyRef (named 2) mut (pointee (u8 .written)))) l₅) ∷ ‵ (fat fullShare (sliceTy (tyRef (named 1) imm (pointee (u8 .written)))) l₄ 0 (sliceVal (b₁, o₁) (length bs))) ∷ ‵ (fdies (sliceTy (tyRef (named 1) imm (pointee (u8 .written)))) l₄) ∷ ‵ (fat fullShare (tyInt w64) l₃ 0 (vint w64 count)) ∷ ‵ (fdies (tyInt w64) l₃) ∷ ‵ (fat fullShare (tyInt w8) l₂ 0 (vint w8 network)) ∷ ‵ (fdies (tyInt w8) l₂) ∷ ‵ (fat fullShare mutTy l₁ 0 (sliceVal (b, o) (length zs))) ∷ ‵ (fdies mutTy l₁) ∷ ‵ (froom cursor-ty l₀ 0) ∷ ‵ (fdies cursor-ty l₀) ∷ []
+
+      module _ (t : X) (i j k : ℕ) (e : Next.Frame i j k ≡ nextFrame (t .0) bs (length (t .2))) where
+        g-zs : Room R (length (t .1))
+        g-zs = subst (Room R) (sym (t .4 .1 .0)) g-ys
+
+        g-us′ : Room u8 (length (t .2))
+        g-us′ = subst (Room u8) (sym (t .4 .1 .1 .0)) g-us
+
+        g-cs′ : Room arrivalanswer-row (length (t .3))
+        g-cs′ = subst (Room arrivalanswer-row) (sym (t .4 .1 .1 .1 .0)) g-cs
+
+        j-fits : j < 2 ^ 64
+        j-fits = lt-of-le-of-lt (f t i j k e .end) (g-bs .0)
+
+        i-fits : i < 2 ^ 64
+        i-fits = lt-of-le-of-lt (f t i j k e .start) j-fits
+
+        k-fits : k < 2 ^ 64
+        k-fits = lt-of-le-of-lt (f t i j k e .from) (g-us′ .0)
+
+        u-fits : t .0 .used < 2 ^ 64
+        u-fits = lt-of-le-of-lt (whole′ t i j k e .used) (g-us′ .0)
+
+        n-fits : t .0 .frames < 2 ^ 64
+        n-fits = let h : t .0 .frames < 32 = f t i j k e .few in omega (arith, h)
+
+        -- the frame has arrived: its answer is told and noted
+        noted : (zs : List Stream) (vs : List ℕ) (a : Answer) → answer-ok a → length zs ≡ length (t .1) → length (take k (t .2) ++ vs) ≡ length (t .2)
+            → CallMeets (t .1) (arriving network (take (j - i) (drop i bs)) (drop k (t .2))) (record { said = saidArrival a; table = zs; output = vs })
+            → Sq W (Arrived (t .0) zs (take k (t .2) ++ vs) (t .3) j a) (runs C Λ En (after 14 mir′.turn-1) (Next′ t))
+        unfolding afterTurn
+        noted zs vs a g-a len-zs len-us₂ met =
+            let c : Cursor = t .0 in let us′ : List ℕ = t .2 in let cs′ : List ArrivalAnswer = t .3 in
+            let us₂ : List ℕ = take k us′ ++ vs in
+            let g-us₂ : Room u8 (length us₂) = subst (Room u8) (sym len-us₂) g-us′ in
+            calls-value {𝓤 = 𝓤} {H = H} {A = A} ! fm fn-tell-arrival.ended (fn-tell-arrival.clauses 𝓤 H A mem run) (known .tell-arrival′) ((tt, tt, tt, (a, tt), (answer-val a ∷ [], tt)), tt) (qed W [] ∵ nothing ! $ answer-has ! a g-a $ fjoin ! $ nothing ! $ join ! $ frame ! $ done !) arrivalanswer-val (λ v vs p. arrivalanswer-tells v vs p) (λ (v : ArrivalAnswer). v ≡ tellArrival (saidArrival a)) (λ v ws. id⊢ 𝓤 _) (and-then ! (load ! (from ! (stop !)) (look-cell ! 50 refl)) (no-more !)) (λ v g-v heard.
+            land ! (from ! (stop !)) (init ! 47 refl (arrivalanswer-typed 𝓤 H A W v g-v)) $
+            let fit : c .used + added v ≤ length us′ = fits′ t i j k e zs vs a v met heard in
+            assigns ! (addr ! (from ! (fld ! refl (hop ! (look-in ! 61 (sub ! 0 refl (whole !))) (stop !))))) (from ! (stop !)) (init ! 17 refl (tt, tt)) $
+            assigns ! (agg ! (and-then ! (load ! (from ! (stop !)) (look-cell ! 17 refl)) (and-then ! (load ! (from ! (fld ! refl (stop !))) (look-in ! 61 (sub ! 1 refl (whole !)))) (no-more !)))) (from ! (stop !)) (init ! 15 refl (tt, (tt, (record { fits = g-us₂ .0 }, tt)))) $
+            move ! (5 ∷ 6 ∷ 7 ∷ 0 ∷ 1 ∷ 2 ∷ 3 ∷ 4 ∷ 8 ∷ 9 ∷ 10 ∷ []) $ calls-mut {𝓤 = 𝓤} {H = H} {A = A} ! fm u8 us₂ b₂ o₂ g-us₂ fn-put-length.ended (fn-put-length.clauses 𝓤 H A mem run) (known .put-length′) (λ ν δ. (((ν ∷ [], tt), (fullShare, tt), tt, (record { ptr = (b₂, o₂); name = δ; now = us₂ }, ((c .used), (v, tt))), (sliceVal (b₂, o₂) (length us₂) ∷ [], (vint w64 (c .used) ∷ [], (arrivalanswer-val v ∷ [], tt)))), tt)) (λ ν δ. qed W (‵ (flft (ν ∷ []) fullShare) ∷ ‵ (mut-own u8 b₂ o₂ ν δ us₂) ∷ []) ∵ says ! (subst (λ (m : ℕ). c .used + added v ≤ m) (sym len-us₂) fit) $ nothing ! $ arrivalanswer-has ! v g-v $ fjoin ! $ owned ! usize (Is usize) (uint-makes 𝓤 H A W w64) (c .used) _ (refl, u-fits) $ fjoin ! $ move ! (2 ∷ 0 ∷ []) $ fjoin ! $ nothing ! $ move ! (2 ∷ 0 ∷ []) $ join ! $ frame ! $ done !) (λ ν δ. fst∗ 𝓤 _ (emp 𝓤)) (λ ν δ. λ _. vunit) (λ ν δ z vs p. nothing-tells z vs p) (λ ν δ ws. ws .0) (λ ν δ ws. qed W (‵ (fsep (fsep (finally u8 δ (ws .0)) (feq ℕ (length (ws .0)) (length us₂))) (fsep ftrue (fsep ftrue (ftrue)))) ∷ []) ∵ fsplit ! $ move ! (1 ∷ []) $ lose ! $ done !) (λ ν δ (z : Unit {0}) (us₃ : List ℕ). us₃ ≡ lengthPut (c .used) v us₂) (λ ν δ z ws. id⊢ 𝓤 _) (λ ν δ. (and-then ! (load ! (from ! (stop !)) (look-cell ! 14 refl)) (and-then ! (load ! (from ! (fld ! refl (stop !))) (look-in ! 56 (sub ! 1 refl (whole !)))) (and-then ! (load ! (from ! (stop !)) (look-cell ! 46 refl)) (no-more !))))) (λ ν δ z us₃ g-z len-us₃ put. move ! (3 ∷ 4 ∷ 5 ∷ 6 ∷ 7 ∷ 0 ∷ 1 ∷ 2 ∷ 8 ∷ 9 ∷ 10 ∷ []) $
+            land ! (from ! (stop !)) (init ! 19 refl (tt, tt)) $
+            assigns ! (addr ! (from ! (fld ! refl (hop ! (look-in ! 59 (sub ! 0 refl (whole !))) (stop !))))) (from ! (stop !)) (init ! 13 refl (tt, tt)) $
+            assigns ! (agg ! (and-then ! (load ! (from ! (stop !)) (look-cell ! 13 refl)) (and-then ! (load ! (from ! (fld ! refl (stop !))) (look-in ! 59 (sub ! 1 refl (whole !)))) (no-more !)))) (from ! (stop !)) (init ! 11 refl (tt, (tt, (record { fits = g-cs′ .0 }, tt)))) $
+            move ! (8 ∷ 9 ∷ 10 ∷ 0 ∷ 1 ∷ 2 ∷ 3 ∷ 4 ∷ 5 ∷ 6 ∷ 7 ∷ []) $ calls-mut {𝓤 = 𝓤} {H = H} {A = A} ! fm arrivalanswer-row cs′ b₃ o₃ g-cs′ fn-keep.ended (fn-keep.clauses 𝓤 H A mem run) (known .keep′) (λ ν δ. (((ν ∷ [], tt), (fullShare, tt), tt, (record { ptr = (b₃, o₃); name = δ; now = cs′ }, ((c .frames), (v, tt))), (sliceVal (b₃, o₃) (length cs′) ∷ [], (vint w64 (c .frames) ∷ [], (arrivalanswer-val v ∷ [], tt)))), tt)) (λ ν δ. qed W (‵ (flft (ν ∷ []) fullShare) ∷ ‵ (mut-own arrivalanswer-row b₃ o₃ ν δ cs′) ∷ []) ∵ nothing ! $ arrivalanswer-has ! v g-v $ fjoin ! $ owned ! usize (Is usize) (uint-makes 𝓤 H A W w64) (c .frames) _ (refl, n-fits) $ fjoin ! $ move ! (2 ∷ 0 ∷ []) $ fjoin ! $ nothing ! $ move ! (2 ∷ 0 ∷ []) $ join ! $ join ! $ frame ! $ done !) (λ ν δ. fst∗ 𝓤 _ (emp 𝓤)) (λ ν δ. λ _. vunit) (λ ν δ z₂ vs p. nothing-tells z₂ vs p) (λ ν δ ws. ws .0) (λ ν δ ws. qed W (‵ (fsep (fsep (finally arrivalanswer-row δ (ws .0)) (feq ℕ (length (ws .0)) (length cs′))) (fsep ftrue (fsep ftrue (ftrue)))) ∷ []) ∵ fsplit ! $ move ! (1 ∷ []) $ lose ! $ done !) (λ ν δ (z₂ : Unit {0}) (cs₂ : List ArrivalAnswer). cs₂ ≡ set cs′ (c .frames) v) (λ ν δ z₂ ws. id⊢ 𝓤 _) (λ ν δ. (and-then ! (load ! (from ! (stop !)) (look-cell ! 10 refl)) (and-then ! (load ! (from ! (fld ! refl (stop !))) (look-in ! 56 (sub ! 3 refl (whole !)))) (and-then ! (load ! (from ! (stop !)) (look-cell ! 46 refl)) (no-more !))))) (λ ν δ z₂ cs₂ g-z₂ len-cs₂ kept. move ! (3 ∷ 4 ∷ 5 ∷ 6 ∷ 7 ∷ 8 ∷ 9 ∷ 10 ∷ 0 ∷ 1 ∷ 2 ∷ []) $
+            land ! (from ! (stop !)) (store-cell ! 19 refl (tt, tt)) $
+            calls-value {𝓤 = 𝓤} {H = H} {A = A} ! fm fn-advance.ended (fn-advance.clauses 𝓤 H A mem run) (known .advance′) ((tt, tt, tt, (c, (j, (v, tt))), (cursor-val c ∷ [], (vint w64 j ∷ [], (arrivalanswer-val v ∷ [], tt)))), tt) (qed W [] ∵ says ! (lt-of-le-of-lt fit (g-us′ .0), (f t i j k e .some, f t i j k e .few)) $ nothing ! $ arrivalanswer-has ! v g-v $ fjoin ! $ owned ! usize (Is usize) (uint-makes 𝓤 H A W w64) j _ (refl, j-fits) $ fjoin ! $ cursor-has ! c (t .4 .0) $ fjoin ! $ nothing ! $ frame ! $ done !) cursor-val (λ d vs p. cursor-tells d vs p) (λ (d : Cursor). d ≡ cursorAfter c j v) (λ d ws. id⊢ 𝓤 _) (and-then ! (load ! (from ! (stop !)) (look-cell ! 58 refl)) (and-then ! (load ! (from ! (stop !)) (look-cell ! 54 refl)) (and-then ! (load ! (from ! (stop !)) (look-cell ! 48 refl)) (no-more !)))) (λ d g-d moved.
+            land ! (from ! (stop !)) (init ! 45 refl (cursor-typed 𝓤 H A W d g-d)) $
+            assigns-last ! (of-opd ! (load ! (from ! (stop !)) (look-cell ! 45 refl))) (from ! (stop !)) (store-cell ! 57 refl (cursor-typed 𝓤 H A W d g-d)) $
+            forget ! 53 refl $ forget ! 49 refl $ forget ! 47 refl $ forget ! 45 refl $ forget ! 19 refl $ forget ! 17 refl $ forget ! 15 refl $ forget ! 13 refl $ forget ! 11 refl $
+            rewrite ! 61 (λ (m : ℕ). ‵ (fat fullShare (sliceTy (tyRef (named 2) mut (pointee (u8 .written)))) l₅ 0 (sliceVal (b₂, o₂) m))) (sym len-us₃) refl $
+            rewrite ! 59 (λ (m : ℕ). ‵ (fat fullShare (sliceTy (tyRef (named 3) mut (pointee (arrivalanswer-row .written)))) l₆ 0 (sliceVal (b₃, o₃) m))) (sym len-cs₂) refl $
+            again ! ≺ I t (d, zs, us₃, cs₂, went-on t i j k e zs vs a v met heard us₃ cs₂ d g-d len-zs (len-us₃ ∙ len-us₂) len-cs₂ put kept moved) (later t i j k e d v moved)))))
+
+        -- the frame was found: it arrives, with the end of the output
+        arrives : Sq W (Found (t .0) (t .1) (t .2) (t .3) i j k) (runs C Λ En (after 3 mir′.turn-1) (Next′ t))
+        arrives =
+            let zs : List Stream = t .1 in let us′ : List ℕ = t .2 in
+            let within : (i ≤ j) × (j ≤ length bs) = (f t i j k e .start, f t i j k e .end) in
+            let inside : k ≤ length us′ = f t i j k e .from in
+            let g-end : Room u8 (length (drop k us′)) = tail-room k us′ g-us′ in
+            assigns ! (addr ! (from ! (fld ! refl (hop ! (look-in ! 69 (sub ! 0 refl (whole !))) (stop !))))) (from ! (stop !)) (init ! 37 refl (tt, tt)) $
+            assigns ! (agg ! (and-then ! (load ! (from ! (stop !)) (look-cell ! 37 refl)) (and-then ! (load ! (from ! (fld ! refl (stop !))) (look-in ! 69 (sub ! 1 refl (whole !)))) (no-more !)))) (from ! (stop !)) (init ! 35 refl (tt, (tt, (record { fits = g-zs .0 }, tt)))) $
+            assigns ! (bin ! (load ! (from ! (fld ! refl (stop !))) (look-in ! 63 (sub ! 0 refl (whole !)))) (load ! (from ! (stop !)) (look-cell ! 55 refl)) tt) (from ! (stop !)) (init ! 33 refl (tt, tt)) $
+            assigns ! (bin ! (load ! (from ! (stop !)) (look-cell ! 53 refl)) (load ! (from ! (stop !)) (look-cell ! 55 refl)) (within .0)) (from ! (stop !)) (init ! 39 refl (tt, record { fits = lt-of-le-of-lt (sub-le j i) j-fits })) $
+            assigns ! (addr ! (from ! (hop ! (look-cell ! 33 refl) (stop !)))) (from ! (stop !)) (init ! 31 refl (tt, tt)) $
+            assigns ! (agg ! (and-then ! (load ! (from ! (stop !)) (look-cell ! 31 refl)) (and-then ! (load ! (from ! (stop !)) (look-cell ! 39 refl)) (no-more !)))) (from ! (stop !)) (init ! 29 refl (tt, (tt, (record { fits = lt-of-le-of-lt (sub-le j i) j-fits }, tt)))) $
+            rewrite ! 29 (λ (m : ℕ). ‵ (fat fullShare (sliceTy (tyRef erased imm (pointee (u8 .written)))) l₂₁ 0 (sliceVal (b₁, i + o₁) m))) (part-count bs i j within) refl $
+            assigns ! (bin ! (load ! (from ! (fld ! refl (stop !))) (look-in ! 61 (sub ! 0 refl (whole !)))) (load ! (from ! (stop !)) (look-cell ! 51 refl)) tt) (from ! (stop !)) (init ! 27 refl (tt, tt)) $
+            assigns ! (bin ! (load ! (from ! (fld ! refl (stop !))) (look-in ! 61 (sub ! 1 refl (whole !)))) (load ! (from ! (stop !)) (look-cell ! 51 refl)) inside) (from ! (stop !)) (init ! 25 refl (tt, record { fits = lt-of-le-of-lt (sub-le (length us′) k) (g-us′ .0) })) $
+            assigns ! (addr ! (from ! (hop ! (look-cell ! 27 refl) (stop !)))) (from ! (stop !)) (init ! 23 refl (tt, tt)) $
+            assigns ! (agg ! (and-then ! (load ! (from ! (stop !)) (look-cell ! 23 refl)) (and-then ! (load ! (from ! (stop !)) (look-cell ! 25 refl)) (no-more !)))) (from ! (stop !)) (init ! 21 refl (tt, (tt, (record { fits = lt-of-le-of-lt (sub-le (length us′) k) (g-us′ .0) }, tt)))) $
+            rewrite ! 21 (λ (m : ℕ). ‵ (fat fullShare (sliceTy (tyRef erased mut (pointee (u8 .written)))) l₂₅ 0 (sliceVal (b₂, k + o₂) m))) (sym (length-drop k us′)) refl $
+            move ! (5 ∷ 6 ∷ 7 ∷ []) $ lends-tail ! tt us′ b₂ o₂ k g-us′ inside (λ ε-ν ε-δ. move ! (4 ∷ 5 ∷ 6 ∷ 7 ∷ 8 ∷ 0 ∷ 1 ∷ 2 ∷ 9 ∷ 10 ∷ 11 ∷ 3 ∷ []) $
+            move ! (3 ∷ []) $ use1 W (‵ (ShrSlice (named 1) κ₁ u8 .own (record { ptr = (b₁, o₁); name = γ₁; now = bs }) (sliceVal (b₁, o₁) (length bs) ∷ [])) ⊛ ‵ (ShrSlice (named 1) κ₁ u8 .own (record { ptr = (b₁, o₁); name = γ₁; now = bs }) (sliceVal (b₁, o₁) (length bs) ∷ []))) (shr-slice-copy 𝓤 H A W (named 1) κ₁ u8 .twice (record { ptr = (b₁, o₁); name = γ₁; now = bs }) (sliceVal (b₁, o₁) (length bs) ∷ [])) $ split ! $ move ! (0 ∷ 5 ∷ []) $ slice-part ! tt bs b₁ o₁ i j within (λ ε. join ! $ move ! (2 ∷ 3 ∷ 4 ∷ 5 ∷ 6 ∷ 7 ∷ 0 ∷ 1 ∷ 8 ∷ 9 ∷ 10 ∷ []) $ calls-mut-two {𝓤 = 𝓤} {H = H} {A = A} ! fm R zs b o g-zs u8 (drop k us′) b₂ (k + o₂) g-end fn-arrival.ended (fn-arrival.clauses 𝓤 H A mem run) (known .arrival′) (λ ν ν′ δ δ′. (((ν ∷ [], (κ₁, (ν′ ∷ [], tt))), (fullShare, (q₁, (fullShare, tt))), tt, (record { ptr = (b, o); name = δ; now = zs }, (network, (record { ptr = (b₁, i + o₁); name = ε; now = take (j - i) (drop i bs) }, (record { ptr = (b₂, (k + o₂)); name = δ′; now = (drop k us′) }, tt)))), (sliceVal (b, o) (length zs) ∷ [], (vint w8 network ∷ [], (sliceVal (b₁, i + o₁) (length (take (j - i) (drop i bs))) ∷ [], (sliceVal (b₂, (k + o₂)) (length (drop k us′)) ∷ [], tt))))), tt)) (λ ν ν′ δ δ′. qed W ((‵ (flft (ν ∷ []) fullShare) ⊛ ‵ (mut-own R b o ν δ zs)) ∷ (‵ (flft (ν′ ∷ []) fullShare) ⊛ ‵ (mut-own u8 b₂ (k + o₂) ν′ δ′ (drop k us′))) ∷ (‵ (ShrSlice (named 1) κ₁ u8 .own (record { ptr = (b₁, i + o₁); name = ε; now = take (j - i) (drop i bs) }) (sliceVal (b₁, i + o₁) (length (take (j - i) (drop i bs))) ∷ [])) ⊛ ‵ (flft κ₁ q₁)) ∷ []) ∵ split ! $ move ! (2 ∷ []) $ split ! $ move ! (4 ∷ []) $ split ! $ nothing ! $ move ! (4 ∷ 0 ∷ []) $ fjoin ! $ move ! (1 ∷ 0 ∷ []) $ fjoin ! $ owned ! u8 (Is u8) (uint-makes 𝓤 H A W w8) network _ (refl, g-network) $ fjoin ! $ move ! (4 ∷ 0 ∷ []) $ fjoin ! $ nothing ! $ move ! (3 ∷ 0 ∷ []) $ join ! $ move ! (2 ∷ 0 ∷ []) $ join ! $ move ! (2 ∷ 0 ∷ []) $ join ! $ join ! $ frame ! $ done !) (‵ (flft κ₁ q₁)) (λ ν ν′ δ δ′. qed W ((‵ (flft (ν ∷ []) fullShare) ⊛ (‵ (flft (κ₁) q₁) ⊛ (‵ (flft (ν′ ∷ []) fullShare) ⊛ ‵ ftrue))) ∷ []) ∵ split ! $ frame ! $ split ! $ move ! (1 ∷ []) $ split ! $ frame ! $ lose ! $ done !) (λ ν ν′ δ δ′. answer-val) (λ ν ν′ δ δ′ a vs p. answer-tells a vs p) (λ ν ν′ δ δ′ ws. ws .0) (λ ν ν′ δ δ′ ws. ws .1 .1 .1 .0) (λ ν ν′ δ δ′ ws. qed W (‵ (fsep (fsep (finally R δ (ws .0)) (feq ℕ (length (ws .0)) (length zs))) (fsep ftrue (fsep ftrue (fsep (fsep (finally u8 δ′ (ws .1 .1 .1 .0)) (feq ℕ (length (ws .1 .1 .1 .0)) (length (drop k us′)))) (ftrue))))) ∷ []) ∵ fsplit ! $ move ! (1 ∷ []) $ fsplit ! $ lose ! $ fsplit ! $ lose ! $ fsplit ! $ move ! (1 ∷ []) $ lose ! $ move ! (1 ∷ 0 ∷ []) $ fjoin ! $ done !) (λ ν ν′ δ δ′ (a : Answer) (zs₂ : List Stream) (vs₂ : List ℕ). CallMeets zs (arriving network (take (j - i) (drop i bs)) (drop k us′)) (record { said = saidArrival a; table = zs₂; output = vs₂ })) (λ ν ν′ δ δ′ a ws. id⊢ 𝓤 _) (λ ν ν′ δ δ′. (and-then ! (load ! (from ! (stop !)) (look-cell ! 32 refl)) (and-then ! (load ! (from ! (stop !)) (look-cell ! 64 refl)) (and-then ! (load ! (from ! (stop !)) (look-cell ! 26 refl)) (and-then ! (load ! (from ! (stop !)) (look-cell ! 18 refl)) (no-more !)))))) (λ ν ν′ δ δ′ a zs₂ vs₂ g-a len-zs₂ len-vs₂ met. move ! (0 ∷ 1 ∷ 2 ∷ 7 ∷ 6 ∷ 3 ∷ 4 ∷ 5 ∷ 8 ∷ 9 ∷ 10 ∷ []) $
+            land ! (from ! (stop !)) (init ! 50 refl (answer-typed 𝓤 H A W a g-a)) $
+            move ! (5 ∷ 6 ∷ 7 ∷ 11 ∷ []) $ tail-back ! tt ε-ν ε-δ us′ vs₂ b₂ o₂ (k + o₂) k $ move ! (3 ∷ 4 ∷ 5 ∷ 6 ∷ 7 ∷ 0 ∷ 1 ∷ 2 ∷ 8 ∷ 9 ∷ 10 ∷ []) $
+            let len-us₂ : length (take k us′ ++ vs₂) ≡ length us′ = tail-length k us′ vs₂ inside len-vs₂ in
+            forget ! 55 refl $ forget ! 51 refl $ forget ! 39 refl $ forget ! 37 refl $ forget ! 35 refl $ forget ! 33 refl $ forget ! 31 refl $ forget ! 29 refl $ forget ! 27 refl $ forget ! 25 refl $ forget ! 23 refl $ forget ! 21 refl $
+            rewrite ! 69 (λ (m : ℕ). ‵ (fat fullShare mutTy l₁ 0 (sliceVal (b, o) m))) (sym len-zs₂) refl $
+            rewrite ! 61 (λ (m : ℕ). ‵ (fat fullShare (sliceTy (tyRef (named 2) mut (pointee (u8 .written)))) l₅ 0 (sliceVal (b₂, o₂) m))) (sym len-us₂) refl $
+            noted zs₂ vs₂ a g-a len-zs₂ len-us₂ met)))
 
       -- a frame was sought: the `let .. else` and what follows
-      sought : (t : X) (v : Next) → next-ok v → v ≡ nextFrame (t .0) bs (length (t .2)) → Sq W (Sought (t .0) (t .1) (t .2) (t .3) v) (runs C Λ En (after 2 mir′.turn-1) (Next′ t))
+      sought : (t : X) (v : Next) → next-ok v → v ≡ nextFrame (t .0) bs (length (t .2)) → Sq W (There (t .0) (t .1) (t .2) (t .3) v) (runs C Λ En (after 2 mir′.turn-1) (Next′ t))
       unfolding afterTurn
       sought t Next.Done g e =
           first ! $ switches-on ! (load ! (from ! (vrt ! refl (fld ! refl (stop !)))) (look-tag ! 41 (whole !))) $ exec ! C Λ En (arm-of 1 (after 2 mir′.turn-1)) (Then t) $
@@ -247,62 +336,11 @@ module _ {M : Type 1} (𝓤 : URA M) (H : Heap 𝓤) (A : Atoms 𝓤) (W : Given
           returns ! (look-cell ! 71 refl) $ forget ! 71 refl $ forget ! 69 refl $ forget ! 67 refl $ forget ! 65 refl $ forget ! 63 refl $ forget ! 61 refl $ forget ! 59 refl $ forget ! 57 refl $ forget ! 41 refl $
           move ! (71 ∷ 72 ∷ []) $ free1 ! $ move ! (69 ∷ 70 ∷ []) $ free1 ! $ move ! (67 ∷ 68 ∷ []) $ free1 ! $ move ! (65 ∷ 66 ∷ []) $ free1 ! $ move ! (63 ∷ 64 ∷ []) $ free1 ! $ move ! (61 ∷ 62 ∷ []) $ free1 ! $ move ! (59 ∷ 60 ∷ []) $ free1 ! $ move ! (57 ∷ 58 ∷ []) $ free1 ! $ move ! (55 ∷ 56 ∷ []) $ free1 ! $ move ! (53 ∷ 54 ∷ []) $ free1 ! $ move ! (51 ∷ 52 ∷ []) $ free1 ! $ move ! (49 ∷ 50 ∷ []) $ free1 ! $ move ! (47 ∷ 48 ∷ []) $ free1 ! $ move ! (45 ∷ 46 ∷ []) $ free1 ! $ move ! (43 ∷ 44 ∷ []) $ free1 ! $ move ! (41 ∷ 42 ∷ []) $ free1 ! $ move ! (39 ∷ 40 ∷ []) $ free1 ! $ move ! (37 ∷ 38 ∷ []) $ free1 ! $ move ! (35 ∷ 36 ∷ []) $ free1 ! $ move ! (33 ∷ 34 ∷ []) $ free1 ! $ move ! (31 ∷ 32 ∷ []) $ free1 ! $ move ! (29 ∷ 30 ∷ []) $ free1 ! $ move ! (27 ∷ 28 ∷ []) $ free1 ! $ move ! (25 ∷ 26 ∷ []) $ free1 ! $ move ! (23 ∷ 24 ∷ []) $ free1 ! $ move ! (21 ∷ 22 ∷ []) $ free1 ! $ move ! (19 ∷ 20 ∷ []) $ free1 ! $ move ! (17 ∷ 18 ∷ []) $ free1 ! $ move ! (15 ∷ 16 ∷ []) $ free1 ! $ move ! (13 ∷ 14 ∷ []) $ free1 ! $ move ! (11 ∷ 12 ∷ []) $ free1 ! $ free0 ! $ keep ! (0 ∷ 1 ∷ 2 ∷ 4 ∷ 5 ∷ 6 ∷ 7 ∷ 8 ∷ 9 ∷ 10 ∷ []) $ by ! (exits g-ys (t .1) (t .4 .1 .0) g-us (t .2) (t .4 .1 .1 .0) g-cs (t .3) (t .4 .1 .1 .1 .0) (t .0) (t .4 .0) (ended t e))
       sought t (Next.Frame i j k) g e =
-          let c : Cursor = t .0 in let zs : List Stream = t .1 in let us′ : List ℕ = t .2 in let cs′ : List ArrivalAnswer = t .3 in
-          let g-zs : Room R (length zs) = subst (Room R) (sym (t .4 .1 .0)) g-ys in
-          let g-us′ : Room u8 (length us′) = subst (Room u8) (sym (t .4 .1 .1 .0)) g-us in
-          let g-cs′ : Room arrivalanswer-row (length cs′) = subst (Room arrivalanswer-row) (sym (t .4 .1 .1 .1 .0)) g-cs in
-          let j-fits : j < 2 ^ 64 = lt-of-le-of-lt (f t i j k e .end) (g-bs .0) in
-          let i-fits : i < 2 ^ 64 = lt-of-le-of-lt (f t i j k e .start) j-fits in
-          let k-fits : k < 2 ^ 64 = lt-of-le-of-lt (f t i j k e .from) (g-us′ .0) in
-          let u-fits : c .used < 2 ^ 64 = lt-of-le-of-lt (whole′ t i j k e .used) (g-us′ .0) in
-          let n-fits : c .frames < 2 ^ 64 = (let h : c .frames < 32 = f t i j k e .few in omega (arith, h)) in
-          let within : (i ≤ j) × (j ≤ length bs) = (f t i j k e .start, f t i j k e .end) in
-          let inside : k ≤ length us′ = f t i j k e .from in
-          let g-end : Room u8 (length (drop k us′)) = tail-room k us′ g-us′ in
           first ! $ switches-on ! (load ! (from ! (vrt ! refl (fld ! refl (stop !)))) (look-tag ! 41 (whole !))) $ exec ! C Λ En (arm-of 0 (after 2 mir′.turn-1)) (Then t) $
-          assigns ! (of-opd ! (load ! (from ! (vrt ! refl (fld ! refl (stop !)))) (look-in ! 41 (in-variant ! 1 0 refl refl (whole !))))) (from ! (stop !)) (init ! 55 refl (tt, record { fits = i-fits })) $
-          assigns ! (of-opd ! (load ! (from ! (vrt ! refl (fld ! refl (stop !)))) (look-in ! 41 (in-variant ! 1 1 refl refl (whole !))))) (from ! (stop !)) (init ! 53 refl (tt, record { fits = j-fits })) $
-          assigns-last ! (of-opd ! (load ! (from ! (vrt ! refl (fld ! refl (stop !)))) (look-in ! 41 (in-variant ! 1 2 refl refl (whole !))))) (from ! (stop !)) (init ! 51 refl (tt, record { fits = k-fits })) $
-          exec ! C Λ En (after 3 mir′.turn-1) (Next′ t) $
-          assigns ! (addr ! (from ! (fld ! refl (hop ! (look-in ! 69 (sub ! 0 refl (whole !))) (stop !))))) (from ! (stop !)) (init ! 37 refl (tt, tt)) $
-          assigns ! (agg ! (and-then ! (load ! (from ! (stop !)) (look-cell ! 37 refl)) (and-then ! (load ! (from ! (fld ! refl (stop !))) (look-in ! 69 (sub ! 1 refl (whole !)))) (no-more !)))) (from ! (stop !)) (init ! 35 refl (tt, (tt, (record { fits = g-zs .0 }, tt)))) $
-          assigns ! (bin ! (load ! (from ! (fld ! refl (stop !))) (look-in ! 63 (sub ! 0 refl (whole !)))) (load ! (from ! (stop !)) (look-cell ! 55 refl)) tt) (from ! (stop !)) (init ! 33 refl (tt, tt)) $
-          assigns ! (bin ! (load ! (from ! (stop !)) (look-cell ! 53 refl)) (load ! (from ! (stop !)) (look-cell ! 55 refl)) (within .0)) (from ! (stop !)) (init ! 39 refl (tt, record { fits = lt-of-le-of-lt (sub-le j i) j-fits })) $
-          assigns ! (addr ! (from ! (hop ! (look-cell ! 33 refl) (stop !)))) (from ! (stop !)) (init ! 31 refl (tt, tt)) $
-          assigns ! (agg ! (and-then ! (load ! (from ! (stop !)) (look-cell ! 31 refl)) (and-then ! (load ! (from ! (stop !)) (look-cell ! 39 refl)) (no-more !)))) (from ! (stop !)) (init ! 29 refl (tt, (tt, (record { fits = lt-of-le-of-lt (sub-le j i) j-fits }, tt)))) $
-          rewrite ! 29 (λ (m : ℕ). ‵ (fat fullShare (sliceTy (tyRef erased imm (pointee (u8 .written)))) l₂₁ 0 (sliceVal (b₁, i + o₁) m))) (part-count bs i j within) refl $
-          assigns ! (bin ! (load ! (from ! (fld ! refl (stop !))) (look-in ! 61 (sub ! 0 refl (whole !)))) (load ! (from ! (stop !)) (look-cell ! 51 refl)) tt) (from ! (stop !)) (init ! 27 refl (tt, tt)) $
-          assigns ! (bin ! (load ! (from ! (fld ! refl (stop !))) (look-in ! 61 (sub ! 1 refl (whole !)))) (load ! (from ! (stop !)) (look-cell ! 51 refl)) inside) (from ! (stop !)) (init ! 25 refl (tt, record { fits = lt-of-le-of-lt (sub-le (length us′) k) (g-us′ .0) })) $
-          assigns ! (addr ! (from ! (hop ! (look-cell ! 27 refl) (stop !)))) (from ! (stop !)) (init ! 23 refl (tt, tt)) $
-          assigns ! (agg ! (and-then ! (load ! (from ! (stop !)) (look-cell ! 23 refl)) (and-then ! (load ! (from ! (stop !)) (look-cell ! 25 refl)) (no-more !)))) (from ! (stop !)) (init ! 21 refl (tt, (tt, (record { fits = lt-of-le-of-lt (sub-le (length us′) k) (g-us′ .0) }, tt)))) $
-          rewrite ! 21 (λ (m : ℕ). ‵ (fat fullShare (sliceTy (tyRef erased mut (pointee (u8 .written)))) l₂₅ 0 (sliceVal (b₂, k + o₂) m))) (sym (length-drop k us′)) refl $
-          move ! (5 ∷ 6 ∷ 7 ∷ []) $ lends-tail ! tt us′ b₂ o₂ k g-us′ inside (λ ε-ν ε-δ. move ! (4 ∷ 5 ∷ 6 ∷ 7 ∷ 8 ∷ 0 ∷ 1 ∷ 2 ∷ 9 ∷ 10 ∷ 11 ∷ 3 ∷ []) $
-          move ! (3 ∷ []) $ use1 W (‵ (ShrSlice (named 1) κ₁ u8 .own (record { ptr = (b₁, o₁); name = γ₁; now = bs }) (sliceVal (b₁, o₁) (length bs) ∷ [])) ⊛ ‵ (ShrSlice (named 1) κ₁ u8 .own (record { ptr = (b₁, o₁); name = γ₁; now = bs }) (sliceVal (b₁, o₁) (length bs) ∷ []))) (shr-slice-copy 𝓤 H A W (named 1) κ₁ u8 .twice (record { ptr = (b₁, o₁); name = γ₁; now = bs }) (sliceVal (b₁, o₁) (length bs) ∷ [])) $ split ! $ move ! (0 ∷ 5 ∷ []) $ slice-part ! tt bs b₁ o₁ i j within (λ ε. join ! $ move ! (2 ∷ 3 ∷ 4 ∷ 5 ∷ 6 ∷ 7 ∷ 0 ∷ 1 ∷ 8 ∷ 9 ∷ 10 ∷ []) $ calls-mut-two {𝓤 = 𝓤} {H = H} {A = A} ! fm R zs b o g-zs u8 (drop k us′) b₂ (k + o₂) g-end fn-arrival.ended (fn-arrival.clauses 𝓤 H A mem run) (known .arrival′) (λ ν ν′ δ δ′. (((ν ∷ [], (κ₁, (ν′ ∷ [], tt))), (fullShare, (q₁, (fullShare, tt))), tt, (record { ptr = (b, o); name = δ; now = zs }, (network, (record { ptr = (b₁, i + o₁); name = ε; now = take (j - i) (drop i bs) }, (record { ptr = (b₂, (k + o₂)); name = δ′; now = (drop k us′) }, tt)))), (sliceVal (b, o) (length zs) ∷ [], (vint w8 network ∷ [], (sliceVal (b₁, i + o₁) (length (take (j - i) (drop i bs))) ∷ [], (sliceVal (b₂, (k + o₂)) (length (drop k us′)) ∷ [], tt))))), tt)) (λ ν ν′ δ δ′. qed W ((‵ (flft (ν ∷ []) fullShare) ⊛ ‵ (mut-own R b o ν δ zs)) ∷ (‵ (flft (ν′ ∷ []) fullShare) ⊛ ‵ (mut-own u8 b₂ (k + o₂) ν′ δ′ (drop k us′))) ∷ (‵ (ShrSlice (named 1) κ₁ u8 .own (record { ptr = (b₁, i + o₁); name = ε; now = take (j - i) (drop i bs) }) (sliceVal (b₁, i + o₁) (length (take (j - i) (drop i bs))) ∷ [])) ⊛ ‵ (flft κ₁ q₁)) ∷ []) ∵ split ! $ move ! (2 ∷ []) $ split ! $ move ! (4 ∷ []) $ split ! $ nothing ! $ move ! (4 ∷ 0 ∷ []) $ fjoin ! $ move ! (1 ∷ 0 ∷ []) $ fjoin ! $ owned ! u8 (Is u8) (uint-makes 𝓤 H A W w8) network _ (refl, g-network) $ fjoin ! $ move ! (4 ∷ 0 ∷ []) $ fjoin ! $ nothing ! $ move ! (3 ∷ 0 ∷ []) $ join ! $ move ! (2 ∷ 0 ∷ []) $ join ! $ move ! (2 ∷ 0 ∷ []) $ join ! $ join ! $ frame ! $ done !) (‵ (flft κ₁ q₁)) (λ ν ν′ δ δ′. qed W ((‵ (flft (ν ∷ []) fullShare) ⊛ (‵ (flft (κ₁) q₁) ⊛ (‵ (flft (ν′ ∷ []) fullShare) ⊛ ‵ ftrue))) ∷ []) ∵ split ! $ frame ! $ split ! $ move ! (1 ∷ []) $ split ! $ frame ! $ lose ! $ done !) (λ ν ν′ δ δ′. answer-val) (λ ν ν′ δ δ′ a vs p. answer-tells a vs p) (λ ν ν′ δ δ′ ws. ws .0) (λ ν ν′ δ δ′ ws. ws .1 .1 .1 .0) (λ ν ν′ δ δ′ ws. qed W (‵ (fsep (fsep (finally R δ (ws .0)) (feq ℕ (length (ws .0)) (length zs))) (fsep ftrue (fsep ftrue (fsep (fsep (finally u8 δ′ (ws .1 .1 .1 .0)) (feq ℕ (length (ws .1 .1 .1 .0)) (length (drop k us′)))) (ftrue))))) ∷ []) ∵ fsplit ! $ move ! (1 ∷ []) $ fsplit ! $ lose ! $ fsplit ! $ lose ! $ fsplit ! $ move ! (1 ∷ []) $ lose ! $ move ! (1 ∷ 0 ∷ []) $ fjoin ! $ done !) (λ ν ν′ δ δ′ (a : Answer) (zs₂ : List Stream) (vs₂ : List ℕ). CallMeets zs (arriving network (take (j - i) (drop i bs)) (drop k us′)) (record { said = saidArrival a; table = zs₂; output = vs₂ })) (λ ν ν′ δ δ′ a ws. id⊢ 𝓤 _) (λ ν ν′ δ δ′. (and-then ! (load ! (from ! (stop !)) (look-cell ! 32 refl)) (and-then ! (load ! (from ! (stop !)) (look-cell ! 64 refl)) (and-then ! (load ! (from ! (stop !)) (look-cell ! 26 refl)) (and-then ! (load ! (from ! (stop !)) (look-cell ! 18 refl)) (no-more !)))))) (λ ν ν′ δ δ′ a zs₂ vs₂ g-a len-zs₂ len-vs₂ met. move ! (0 ∷ 1 ∷ 2 ∷ 7 ∷ 6 ∷ 3 ∷ 4 ∷ 5 ∷ 8 ∷ 9 ∷ 10 ∷ []) $
-          land ! (from ! (stop !)) (init ! 50 refl (answer-typed 𝓤 H A W a g-a)) $
-          move ! (5 ∷ 6 ∷ 7 ∷ 11 ∷ []) $ tail-back ! tt ε-ν ε-δ us′ vs₂ b₂ o₂ (k + o₂) k $ move ! (3 ∷ 4 ∷ 5 ∷ 6 ∷ 7 ∷ 0 ∷ 1 ∷ 2 ∷ 8 ∷ 9 ∷ 10 ∷ []) $
-          let us₂ : List ℕ = take k us′ ++ vs₂ in
-          let len-us₂ : length us₂ ≡ length us′ = tail-length k us′ vs₂ inside len-vs₂ in
-          let g-us₂ : Room u8 (length us₂) = subst (Room u8) (sym len-us₂) g-us′ in
-          calls-value {𝓤 = 𝓤} {H = H} {A = A} ! fm fn-tell-arrival.ended (fn-tell-arrival.clauses 𝓤 H A mem run) (known .tell-arrival′) ((tt, tt, tt, (a, tt), (answer-val a ∷ [], tt)), tt) (qed W [] ∵ nothing ! $ answer-has ! a g-a $ fjoin ! $ nothing ! $ join ! $ frame ! $ done !) arrivalanswer-val (λ v vs p. arrivalanswer-tells v vs p) (λ (v : ArrivalAnswer). v ≡ tellArrival (saidArrival a)) (λ v ws. id⊢ 𝓤 _) (and-then ! (load ! (from ! (stop !)) (look-cell ! 50 refl)) (no-more !)) (λ v g-v heard.
-          land ! (from ! (stop !)) (init ! 47 refl (arrivalanswer-typed 𝓤 H A W v g-v)) $
-          let fit : c .used + added v ≤ length us′ = fits′ t i j k e zs₂ vs₂ a v met heard in
-          rewrite ! 61 (λ (m : ℕ). ‵ (fat fullShare (sliceTy (tyRef (named 2) mut (pointee (u8 .written)))) l₅ 0 (sliceVal (b₂, o₂) m))) (sym len-us₂) refl $
-          assigns ! (addr ! (from ! (fld ! refl (hop ! (look-in ! 61 (sub ! 0 refl (whole !))) (stop !))))) (from ! (stop !)) (init ! 17 refl (tt, tt)) $
-          assigns ! (agg ! (and-then ! (load ! (from ! (stop !)) (look-cell ! 17 refl)) (and-then ! (load ! (from ! (fld ! refl (stop !))) (look-in ! 61 (sub ! 1 refl (whole !)))) (no-more !)))) (from ! (stop !)) (init ! 15 refl (tt, (tt, (record { fits = g-us₂ .0 }, tt)))) $
-          move ! (5 ∷ 6 ∷ 7 ∷ 0 ∷ 1 ∷ 2 ∷ 3 ∷ 4 ∷ 8 ∷ 9 ∷ 10 ∷ []) $ calls-mut {𝓤 = 𝓤} {H = H} {A = A} ! fm u8 us₂ b₂ o₂ g-us₂ fn-put-length.ended (fn-put-length.clauses 𝓤 H A mem run) (known .put-length′) (λ ν δ. (((ν ∷ [], tt), (fullShare, tt), tt, (record { ptr = (b₂, o₂); name = δ; now = us₂ }, ((c .used), (v, tt))), (sliceVal (b₂, o₂) (length us₂) ∷ [], (vint w64 (c .used) ∷ [], (arrivalanswer-val v ∷ [], tt)))), tt)) (λ ν δ. qed W (‵ (flft (ν ∷ []) fullShare) ∷ ‵ (mut-own u8 b₂ o₂ ν δ us₂) ∷ []) ∵ says ! (subst (λ (m : ℕ). c .used + added v ≤ m) (sym len-us₂) fit) $ nothing ! $ arrivalanswer-has ! v g-v $ fjoin ! $ owned ! usize (Is usize) (uint-makes 𝓤 H A W w64) (c .used) _ (refl, u-fits) $ fjoin ! $ move ! (2 ∷ 0 ∷ []) $ fjoin ! $ nothing ! $ move ! (2 ∷ 0 ∷ []) $ join ! $ frame ! $ done !) (λ ν δ. fst∗ 𝓤 _ (emp 𝓤)) (λ ν δ. λ _. vunit) (λ ν δ z vs p. nothing-tells z vs p) (λ ν δ ws. ws .0) (λ ν δ ws. qed W (‵ (fsep (fsep (finally u8 δ (ws .0)) (feq ℕ (length (ws .0)) (length us₂))) (fsep ftrue (fsep ftrue (ftrue)))) ∷ []) ∵ fsplit ! $ move ! (1 ∷ []) $ lose ! $ done !) (λ ν δ (z : Unit {0}) (us₃ : List ℕ). us₃ ≡ lengthPut (c .used) v us₂) (λ ν δ z ws. id⊢ 𝓤 _) (λ ν δ. (and-then ! (load ! (from ! (stop !)) (look-cell ! 14 refl)) (and-then ! (load ! (from ! (fld ! refl (stop !))) (look-in ! 56 (sub ! 1 refl (whole !)))) (and-then ! (load ! (from ! (stop !)) (look-cell ! 46 refl)) (no-more !))))) (λ ν δ z us₃ g-z len-us₃ put. move ! (3 ∷ 4 ∷ 5 ∷ 6 ∷ 7 ∷ 0 ∷ 1 ∷ 2 ∷ 8 ∷ 9 ∷ 10 ∷ []) $
-          land ! (from ! (stop !)) (init ! 19 refl (tt, tt)) $
-          assigns ! (addr ! (from ! (fld ! refl (hop ! (look-in ! 59 (sub ! 0 refl (whole !))) (stop !))))) (from ! (stop !)) (init ! 13 refl (tt, tt)) $
-          assigns ! (agg ! (and-then ! (load ! (from ! (stop !)) (look-cell ! 13 refl)) (and-then ! (load ! (from ! (fld ! refl (stop !))) (look-in ! 59 (sub ! 1 refl (whole !)))) (no-more !)))) (from ! (stop !)) (init ! 11 refl (tt, (tt, (record { fits = g-cs′ .0 }, tt)))) $
-          move ! (8 ∷ 9 ∷ 10 ∷ 0 ∷ 1 ∷ 2 ∷ 3 ∷ 4 ∷ 5 ∷ 6 ∷ 7 ∷ []) $ calls-mut {𝓤 = 𝓤} {H = H} {A = A} ! fm arrivalanswer-row cs′ b₃ o₃ g-cs′ fn-keep.ended (fn-keep.clauses 𝓤 H A mem run) (known .keep′) (λ ν δ. (((ν ∷ [], tt), (fullShare, tt), tt, (record { ptr = (b₃, o₃); name = δ; now = cs′ }, ((c .frames), (v, tt))), (sliceVal (b₃, o₃) (length cs′) ∷ [], (vint w64 (c .frames) ∷ [], (arrivalanswer-val v ∷ [], tt)))), tt)) (λ ν δ. qed W (‵ (flft (ν ∷ []) fullShare) ∷ ‵ (mut-own arrivalanswer-row b₃ o₃ ν δ cs′) ∷ []) ∵ nothing ! $ arrivalanswer-has ! v g-v $ fjoin ! $ owned ! usize (Is usize) (uint-makes 𝓤 H A W w64) (c .frames) _ (refl, n-fits) $ fjoin ! $ move ! (2 ∷ 0 ∷ []) $ fjoin ! $ nothing ! $ move ! (2 ∷ 0 ∷ []) $ join ! $ join ! $ frame ! $ done !) (λ ν δ. fst∗ 𝓤 _ (emp 𝓤)) (λ ν δ. λ _. vunit) (λ ν δ z₂ vs p. nothing-tells z₂ vs p) (λ ν δ ws. ws .0) (λ ν δ ws. qed W (‵ (fsep (fsep (finally arrivalanswer-row δ (ws .0)) (feq ℕ (length (ws .0)) (length cs′))) (fsep ftrue (fsep ftrue (ftrue)))) ∷ []) ∵ fsplit ! $ move ! (1 ∷ []) $ lose ! $ done !) (λ ν δ (z₂ : Unit {0}) (cs₂ : List ArrivalAnswer). cs₂ ≡ set cs′ (c .frames) v) (λ ν δ z₂ ws. id⊢ 𝓤 _) (λ ν δ. (and-then ! (load ! (from ! (stop !)) (look-cell ! 10 refl)) (and-then ! (load ! (from ! (fld ! refl (stop !))) (look-in ! 56 (sub ! 3 refl (whole !)))) (and-then ! (load ! (from ! (stop !)) (look-cell ! 46 refl)) (no-more !))))) (λ ν δ z₂ cs₂ g-z₂ len-cs₂ kept. move ! (3 ∷ 4 ∷ 5 ∷ 6 ∷ 7 ∷ 8 ∷ 9 ∷ 10 ∷ 0 ∷ 1 ∷ 2 ∷ []) $
-          land ! (from ! (stop !)) (store-cell ! 19 refl (tt, tt)) $
-          calls-value {𝓤 = 𝓤} {H = H} {A = A} ! fm fn-advance.ended (fn-advance.clauses 𝓤 H A mem run) (known .advance′) ((tt, tt, tt, (c, (j, (v, tt))), (cursor-val c ∷ [], (vint w64 j ∷ [], (arrivalanswer-val v ∷ [], tt)))), tt) (qed W [] ∵ says ! (lt-of-le-of-lt fit (g-us′ .0), (f t i j k e .some, f t i j k e .few)) $ nothing ! $ arrivalanswer-has ! v g-v $ fjoin ! $ owned ! usize (Is usize) (uint-makes 𝓤 H A W w64) j _ (refl, j-fits) $ fjoin ! $ cursor-has ! c (t .4 .0) $ fjoin ! $ nothing ! $ frame ! $ done !) cursor-val (λ d vs p. cursor-tells d vs p) (λ (d : Cursor). d ≡ cursorAfter c j v) (λ d ws. id⊢ 𝓤 _) (and-then ! (load ! (from ! (stop !)) (look-cell ! 58 refl)) (and-then ! (load ! (from ! (stop !)) (look-cell ! 54 refl)) (and-then ! (load ! (from ! (stop !)) (look-cell ! 48 refl)) (no-more !)))) (λ d g-d moved.
-          land ! (from ! (stop !)) (init ! 45 refl (cursor-typed 𝓤 H A W d g-d)) $
-          assigns-last ! (of-opd ! (load ! (from ! (stop !)) (look-cell ! 45 refl))) (from ! (stop !)) (store-cell ! 57 refl (cursor-typed 𝓤 H A W d g-d)) $
-          forget ! 55 refl $ forget ! 53 refl $ forget ! 51 refl $ forget ! 49 refl $ forget ! 47 refl $ forget ! 45 refl $ forget ! 41 refl $ forget ! 39 refl $ forget ! 37 refl $ forget ! 35 refl $ forget ! 33 refl $ forget ! 31 refl $ forget ! 29 refl $ forget ! 27 refl $ forget ! 25 refl $ forget ! 23 refl $ forget ! 21 refl $ forget ! 19 refl $ forget ! 17 refl $ forget ! 15 refl $ forget ! 13 refl $ forget ! 11 refl $
-          rewrite ! 69 (λ (m : ℕ). ‵ (fat fullShare mutTy l₁ 0 (sliceVal (b, o) m))) (sym len-zs₂) refl $
-          rewrite ! 61 (λ (m : ℕ). ‵ (fat fullShare (sliceTy (tyRef (named 2) mut (pointee (u8 .written)))) l₅ 0 (sliceVal (b₂, o₂) m))) (sym len-us₃) refl $
-          rewrite ! 59 (λ (m : ℕ). ‵ (fat fullShare (sliceTy (tyRef (named 3) mut (pointee (arrivalanswer-row .written)))) l₆ 0 (sliceVal (b₃, o₃) m))) (sym len-cs₂) refl $
-          again ! ≺ I t (d, zs₂, us₃, cs₂, went-on t i j k e zs₂ vs₂ a v met heard us₃ cs₂ d g-d len-zs₂ (len-us₃ ∙ len-us₂) len-cs₂ put kept moved) (later t i j k e d v moved))))))))
+          assigns ! (of-opd ! (load ! (from ! (vrt ! refl (fld ! refl (stop !)))) (look-in ! 41 (in-variant ! 1 0 refl refl (whole !))))) (from ! (stop !)) (init ! 55 refl (tt, record { fits = i-fits t i j k e })) $
+          assigns ! (of-opd ! (load ! (from ! (vrt ! refl (fld ! refl (stop !)))) (look-in ! 41 (in-variant ! 1 1 refl refl (whole !))))) (from ! (stop !)) (init ! 53 refl (tt, record { fits = j-fits t i j k e })) $
+          assigns-last ! (of-opd ! (load ! (from ! (vrt ! refl (fld ! refl (stop !)))) (look-in ! 41 (in-variant ! 1 2 refl refl (whole !))))) (from ! (stop !)) (init ! 51 refl (tt, record { fits = k-fits t i j k e })) $
+          exec ! C Λ En (after 3 mir′.turn-1) (Next′ t) $ forget ! 41 refl $ arrives t i j k e
 
       turn : (t : X) → Sq W (I t) (runs C Λ En mir′.turn-1 (Next′ t))
       turn t =

@@ -44,10 +44,10 @@ use Rattle.event_run.specs.declared.Round.{Round}
 use Rattle.event_run.specs.Run.{Drains}
 use Rattle.receiver.proofs.Calling.{calls-with}
 use Rattle.receiver.proofs.Lending.{mut-own}
+use Rattle.receiver.proofs.Local.{lends-array, array-back}
 use Rattle.receiver.proofs.Rows.{R, val, tells}
 use Rattle.event_run.proofs.Draining.{left}
 use Rattle.event_run.proofs.Eight.{Eight, eight-row, eight-ty, eight-val, eight-spells, eight-tells, eight-ok, eight-typed, eight-has, eight-same, round-made}
-use Rattle.event_run.proofs.Local.{lends-array, array-back}
 use Rattle.event_run.proofs.Values.{place-row, place-val, place-spells, place-tells, place-ok, place-typed, round-val, round-ok, round-typed, round-has}
 use Rattle.event_run.proofs.drain as fn-drain
 use Rattle.event_run.proofs.drain.Symbol as fn-drain-def

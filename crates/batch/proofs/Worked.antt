@@ -1,0 +1,20 @@
+-- The two batches of the example, by computation. Assumes nothing.
+use mathlib.Core.Path.{refl}
+use Rattle.record.specs.Words.{yes}
+use Rattle.frame.specs.Bytes.{overlay}
+use Rattle.frame.specs.Frame.{groupSource, hasVlan, vlanOf, typeAt, isTagged, headShort, tagShort, headerOf, readOf, cutAt}
+use Rattle.stream.specs.History.{bitOf, bit, within, isEmpty}
+use Rattle.stream.specs.Record.{isFresh, settled, shaped, lawful}
+use Rattle.stream.specs.Decisions.{signed, difference, vectorCase, caseOf, stateAfter, outOfOrder, losses, tally, countsAfter, verdict, decided}
+use Rattle.calls.specs.Table.{search, someSlot, hasKey, isFree}
+use Rattle.calls.specs.Calls.{admitted, arrivalAt, arrival, open-call, checked, act, after, answer, output}
+use Rattle.batch.specs.Batch.{runsPast, framesIn, addsFor, ends, turnsIn, comesTo, tableAfter, packed, before, answersOf, bundle, batchOf}
+use Rattle.batch.specs.Example.{FourReached, EndsWithRoom}
+
+pub four-reached : FourReached
+unfolding batchOf bundle comesTo runsPast framesIn turnsIn addsFor ends tableAfter packed before answersOf overlay act checked open-call admitted arrival arrivalAt answer after output search someSlot hasKey isFree yes groupSource hasVlan vlanOf typeAt isTagged headShort tagShort headerOf readOf cutAt bitOf bit within isEmpty isFresh settled shaped lawful signed difference vectorCase caseOf stateAfter outOfOrder losses tally countsAfter verdict decided
+four-reached = (refl, refl, refl)
+
+pub ends-with-room : EndsWithRoom
+unfolding batchOf bundle comesTo runsPast framesIn turnsIn addsFor ends tableAfter packed before answersOf overlay act checked open-call admitted arrival arrivalAt answer after output search someSlot hasKey isFree yes groupSource hasVlan vlanOf typeAt isTagged headShort tagShort headerOf readOf cutAt bitOf bit within isEmpty isFresh settled shaped lawful signed difference vectorCase caseOf stateAfter outOfOrder losses tally countsAfter verdict decided
+ends-with-room = (refl, refl, refl)
