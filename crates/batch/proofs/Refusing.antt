@@ -3,7 +3,7 @@
 use Prim.Native.Nat.{ℕ, zero, suc, _≤_}
 use mathlib.Core.Path.{_≡_, refl, sym, ap, _∙_}
 use mathlib.Core.Logic.{_↔_}
-use mathlib.Core.Bool.{Bool, true, false, _||_}
+use mathlib.Core.Bool.{false}
 use mathlib.Core.Option.{none}
 use mathlib.Core.List.{List}
 use native.Mathlib.Omega.{arith}
@@ -20,6 +20,7 @@ use Rattle.calls.specs.Refusals.{noNetwork}
 use Rattle.batch.specs.Batch.{Batch, framesMost, runsPast, framesIn, Turn, turnsIn, comesTo, answersOf, bundle, batchOf}
 use Rattle.batch.specs.Refusals.{badFrames, batchChecks, RefusedExactly}
 use Rattle.batch.specs.Laws.{Coincide, RefusedChangesNothing}
+use Rattle.batch.proofs.Lengths.{neither}
 
 pub no-network : (n : ℕ) → ltb 1 n ≡ noNetwork n
 no-network zero = refl
@@ -65,10 +66,6 @@ pub record Good (t : Table) (b : Batch) : Type 0 where
   pub network : b .network ≤ 1
   pub few : b .count ≤ framesMost
   pub within : runsPast (b .count) (b .frames) ≡ false
-
-pub neither : (a b : Bool) → a || b ≡ false → (a ≡ false) × (b ≡ false)
-neither false b e = (refl, e)
-neither true b e = absurd (let z : _≡_ {A = ℕ} 0 1 = cc in omega arith)
 
 -- its turns are those of its frames,
 pub good-comes : (t : Table) (b : Batch) → Good t b → comesTo t b ≡ answers (turns t b)
