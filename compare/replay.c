@@ -85,6 +85,14 @@ static void decision(u8 kind) {
 }
 #endif
 
+/* The answer to one frame of a batch. */
+static int same_answer(const nippitsun_arrival_answer *a) {
+    u64 slot = number(8), length = number(8);
+    u16 told = number(2);
+    u8 verdict = number(1), refusal = number(1);
+    return a->slot == slot && a->length == length && a->number == told && a->verdict == verdict && a->refusal == refusal;
+}
+
 static u8 frame[1 << 16], out[1 << 16], wanted[1 << 16];
 static stream table[256], after[256];
 
@@ -94,14 +102,15 @@ static void call(u8 kind) {
     take(table, slots * sizeof *table);
     take(frame, n);
     take(out, room);
-    u64 slot = number(8);
+    u64 slot = number(8), count = number(8);
     u16 tag = number(2), vlan = number(2), window = number(2), time = number(2);
     u8 network = number(1), rule = number(1), dest[6];
     take(dest, 6);
 
-    u64 slot_told = 0, length = 0, resets = 0, damaged = 0;
+    u64 slot_told = 0, length = 0, resets = 0, damaged = 0, frames = 0;
     u16 number_told = 0;
     u8 verdict = 0, refusal = 0;
+    nippitsun_batch_answer batch;
     if (kind == 1 || kind == 2) {
         nippitsun_tag_answer a = kind == 1 ? nippitsun_take_tag(frame, n, out, room) : nippitsun_write_tag(frame, n, tag, out, room);
         length = a.length, number_told = a.number, refusal = a.refusal;
@@ -118,13 +127,18 @@ static void call(u8 kind) {
     } else if (kind == 9) {
         nippitsun_tick_answer a = nippitsun_tick(table, slots);
         resets = a.resets, damaged = a.damaged, refusal = a.refusal;
+    } else if (kind == 10) {
+        batch = nippitsun_batch(table, slots, network, count, frame, n, out, room);
+        frames = batch.frames, refusal = batch.refusal;
     } else {
         stop("no such kind of case");
     }
 
-    if (slot_told != number(8) || length != number(8) || resets != number(8) || damaged != number(8) || number_told != number(2)
-        || verdict != number(1) || refusal != number(1))
+    if (slot_told != number(8) || length != number(8) || resets != number(8) || damaged != number(8) || frames != number(8)
+        || number_told != number(2) || verdict != number(1) || refusal != number(1))
         stop("DIFFERENT: an answer");
+    for (u64 i = 0; kind == 10 && i < NIPPITSUN_FRAMES_MOST; i++)
+        if (!same_answer(batch.answers + i)) stop("DIFFERENT: the answer to a frame of a batch");
     take(after, slots * sizeof *after);
     take(wanted, room);
     for (u64 i = 0; i < slots; i++)

@@ -100,6 +100,7 @@ static const char *const refusals[] = {
     [NIPPITSUN_REFUSED_SLOT] = "slot beyond the table or free",
     [NIPPITSUN_REFUSED_TAGGED] = "frame already carries F1C1",
     [NIPPITSUN_REFUSED_GROUP] = "group source address",
+    [NIPPITSUN_REFUSED_BATCH] = "count above 32, or lengths that run past the buffer",
 };
 
 int is_refusal(unsigned number)

@@ -1,13 +1,13 @@
 //! What is timed and counted: each cell is the same calls on several sides.
 use crate::record::{State, Stream};
-use crate::{cells_arrivals, plain, proved};
+use crate::{cells_arrivals, cells_batches, plain, proved};
 
 /// Makes so many calls and gives a sum of what they answered.
 pub type Work = Box<dyn FnMut(u64) -> u64>;
 
 pub struct Cell {
     pub name: String,
-    /// How many decisions, tag calls or arrivals one call is.
+    /// How many decisions, tag calls, arrivals or frames one call is.
     pub each: u64,
     /// The work of each of the group's sides.
     pub works: Vec<Work>,
@@ -257,6 +257,11 @@ fn decisions() -> Group {
 }
 
 /// The arrivals first: they are the one table.
-pub fn all() -> [Group; 3] {
-    [cells_arrivals::arrivals(), tags(), decisions()]
+pub fn all() -> [Group; 4] {
+    [
+        cells_arrivals::arrivals(),
+        cells_batches::batches(),
+        tags(),
+        decisions(),
+    ]
 }

@@ -42,7 +42,7 @@ impl Keys {
 /// What comes. `ahead` is how far the first number of each stream is ahead of its anchor, `step` how the number goes on when
 /// every stream has had its turn, and `pair` whether each frame comes on network 0 and then on network 1.
 #[derive(Clone, Copy)]
-struct Mix {
+pub struct Mix {
     name: &'static str,
     ahead: u16,
     step: u16,
@@ -62,9 +62,12 @@ const fn mix(name: &'static str, ahead: u16, step: u16) -> Mix {
     }
 }
 
+/// Every frame is new.
+pub const NEW: Mix = mix("new", 1, 1);
+
 /// Those that are timed in every size and with every number of streams.
 const MIXES: [Mix; 3] = [
-    mix("new", 1, 1),
+    NEW,
     Mix {
         pair: true,
         ..mix("pair", 1, 1)
@@ -100,45 +103,36 @@ const ANCHOR: u16 = 65000;
 /// What stands above the VLAN id in a VLAN tag. It is no part of the key.
 const PRIORITY: u16 = 0x2000;
 
-/// The frames to come. One that was used is written anew for its next turn, so no frame is read just after it is written.
-struct Traffic {
-    room: Box<Room>,
-    place: usize,
+/// The frame that comes next.
+pub struct Coming {
     mix: Mix,
     streams: u8,
-    // The frame that is written next.
     stream: u8,
     number: u16,
     second: bool,
 }
 
-impl Traffic {
-    fn new(size: usize, streams: u8, mix: Mix) -> Traffic {
-        let mut room = Room::new();
-        for f in room.ring.iter_mut() {
-            f[..size].copy_from_slice(&frame(size, mix.keys.tagged(), true));
-            f[..6].copy_from_slice(&[2, 0, 0, 0, 0, 0]);
-        }
-        let number = ANCHOR.wrapping_add(mix.ahead);
-        let mut t = Traffic {
-            room,
-            place: 0,
+impl Coming {
+    pub fn new(streams: u8, mix: Mix) -> Coming {
+        Coming {
             mix,
             streams,
             stream: 0,
-            number,
+            number: ANCHOR.wrapping_add(mix.ahead),
             second: false,
-        };
-        for _ in 0..RING {
-            t.renew();
         }
-        t
     }
 
-    /// Writes the next frame to its place, and goes on to the next place.
+    /// A frame of the mix, but for what `write` puts into it.
+    pub fn shape(&self, size: usize) -> Vec<u8> {
+        let mut f = frame(size, self.mix.keys.tagged(), true);
+        f[..6].copy_from_slice(&[2, 0, 0, 0, 0, 0]);
+        f
+    }
+
+    /// Writes the frame's key and number, and goes on to the next.
     #[inline(always)]
-    fn renew(&mut self) {
-        let f = &mut self.room.ring[self.place];
+    pub fn write(&mut self, f: &mut [u8]) {
         let keys = self.mix.keys;
         f[5] = keys.last(self.stream);
         let mut at = 16;
@@ -147,7 +141,6 @@ impl Traffic {
             at = 20;
         }
         f[at..at + 2].copy_from_slice(&self.number.to_be_bytes());
-        self.place = (self.place + 1) % RING;
         if self.mix.pair && !self.second {
             self.second = true;
             return;
@@ -159,20 +152,52 @@ impl Traffic {
             self.number = self.number.wrapping_add(self.mix.step);
         }
     }
+}
+
+/// The frames to come. One that was used is written anew for its next turn, so no frame is read just after it is written.
+struct Traffic {
+    room: Box<Room>,
+    place: usize,
+    coming: Coming,
+}
+
+impl Traffic {
+    fn new(size: usize, streams: u8, mix: Mix) -> Traffic {
+        let mut t = Traffic {
+            room: Room::new(),
+            place: 0,
+            coming: Coming::new(streams, mix),
+        };
+        for f in t.room.ring.iter_mut() {
+            f[..size].copy_from_slice(&t.coming.shape(size));
+        }
+        for _ in 0..RING {
+            t.renew();
+        }
+        t
+    }
+
+    /// Writes the next frame to its place, and goes on to the next place.
+    #[inline(always)]
+    fn renew(&mut self) {
+        self.coming.write(&mut self.room.ring[self.place]);
+        self.place = (self.place + 1) % RING;
+    }
 
     #[inline(always)]
     fn network(&self) -> u8 {
-        if self.mix.pair {
+        let mix = &self.coming.mix;
+        if mix.pair {
             (self.place % 2) as u8
         } else {
-            self.mix.network
+            mix.network
         }
     }
 }
 
 /// A table begins with a page, on every side.
 #[repr(align(4096))]
-struct Slots<T>([T; 64]);
+pub struct Slots<T>(pub [T; 64]);
 
 /// The streams, each in the middle of its life: vector rule, L = 64, the whole window came.
 fn table(mix: Mix) -> Box<Slots<second::Stream>> {
@@ -191,13 +216,13 @@ fn table(mix: Mix) -> Box<Slots<second::Stream>> {
     })))
 }
 
-fn records(mix: Mix) -> Box<Slots<Stream>> {
+pub fn records(mix: Mix) -> Box<Slots<Stream>> {
     let table = table(mix);
     Box::new(Slots(std::array::from_fn(|i| record_of(&table.0[i]))))
 }
 
 /// What is summed of an answer, the same for both sides.
-trait Sum {
+pub trait Sum {
     fn sum(&self) -> u64;
 }
 

@@ -38,7 +38,7 @@ pub fn record_of(s: &second::Stream) -> Stream {
 }
 
 /// The second program's answer as the archive tells it.
-fn answer_of(r: Result<Arrival, Refusal>) -> ArrivalAnswer {
+pub fn answer_of(r: Result<Arrival, Refusal>) -> ArrivalAnswer {
     match r {
         Err(why) => ArrivalAnswer {
             refusal: why.number(),
@@ -62,14 +62,14 @@ fn answer_of(r: Result<Arrival, Refusal>) -> ArrivalAnswer {
 }
 
 /// The same table three times.
-struct Tables {
-    second: Vec<second::Stream>,
-    proved: Vec<Stream>,
-    plain: Vec<Stream>,
+pub struct Tables {
+    pub second: Vec<second::Stream>,
+    pub proved: Vec<Stream>,
+    pub plain: Vec<Stream>,
 }
 
 impl Tables {
-    fn equal(&self) -> bool {
+    pub fn equal(&self) -> bool {
         self.plain == self.proved
             && self
                 .second
@@ -99,7 +99,7 @@ fn vlan(dice: &mut Dice) -> u16 {
 }
 
 /// A table of 1 to 64 slots, rarely of 65, with a stream opened in nearly each by both sides' open.
-fn tables(dice: &mut Dice, case: u64) -> Result<Tables, String> {
+pub fn tables(dice: &mut Dice, case: u64) -> Result<Tables, String> {
     let slots = match dice.below(20) {
         0 => 65,
         n if n < 10 => 1 + dice.below(8) as usize,
@@ -152,7 +152,7 @@ fn tables(dice: &mut Dice, case: u64) -> Result<Tables, String> {
 }
 
 /// Something that the caller's memory may come to hold: free, damaged, or with counters about to wrap.
-fn stir(dice: &mut Dice, t: &mut Tables) {
+pub fn stir(dice: &mut Dice, t: &mut Tables) {
     let slot = dice.below(t.second.len() as u64) as usize;
     let mut s = t.second[slot];
     match dice.below(10) {
@@ -192,7 +192,7 @@ fn stir(dice: &mut Dice, t: &mut Tables) {
 }
 
 /// A frame for a slot of the table, most often one that arrives: its number is near the anchor.
-fn frame(dice: &mut Dice, pool: &[u8], t: &Tables) -> Vec<u8> {
+pub fn frame(dice: &mut Dice, pool: &[u8], t: &Tables) -> Vec<u8> {
     let s = t.second[dice.below(t.second.len() as u64) as usize];
     let length = match dice.below(24) {
         0 => dice.below(27),

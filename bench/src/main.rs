@@ -6,8 +6,10 @@
 //! each that was counted.
 mod cells;
 mod cells_arrivals;
+mod cells_batches;
 mod compare;
 mod compare_arrivals;
+mod compare_batches;
 mod plain;
 mod proved;
 mod record;
@@ -51,6 +53,8 @@ fn compared() -> Result<(), String> {
     println!("{} tag calls and {} decisions and rows of them on random inputs: answers, records and output bytes equal", tags, decisions);
     let arrivals = compare_arrivals::arrivals(400_000)?;
     println!("{} arrivals on random tables, beside two plain arrivals: answers, records and output bytes equal", arrivals);
+    let batches = compare_batches::batches(40_000)?;
+    println!("{} batches on random tables, beside a plain batch and single calls in turn: answers, records and output bytes equal", batches);
     Ok(())
 }
 
@@ -93,11 +97,12 @@ fn count() {
 
 fn tables(counts: &str, names: &[&str]) -> Result<(), String> {
     let counts = table::Counts::read(counts)?;
-    for (mut group, print) in
-        cells::all()
-            .into_iter()
-            .zip([table::arrivals, table::tags, table::decisions])
-    {
+    for (mut group, print) in cells::all().into_iter().zip([
+        table::arrivals,
+        table::batches,
+        table::tags,
+        table::decisions,
+    ]) {
         let mut cells = std::mem::take(&mut group.cells);
         cells.retain(|c| names.iter().any(|n| c.name.starts_with(n)));
         let mut rows = Vec::new();
@@ -134,8 +139,10 @@ fn run() -> Result<(), String> {
     }
 }
 
+/// A thread's stack begins with a page. The first one's place in a page is another at each run, and what a batch's answers
+/// cost hangs on it.
 fn main() {
-    if let Err(why) = run() {
+    if let Err(why) = std::thread::spawn(run).join().unwrap() {
         eprintln!("bench: {}", why);
         std::process::exit(1);
     }

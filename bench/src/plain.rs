@@ -1,7 +1,8 @@
 //! The plain side: the same calls in safe Rust, written from documents 01 and 02 alone. Each is kept a call of its own, as the
 //! archive's are, so that both sides pay for one, and has C's convention, by which the answer comes back in registers.
 use crate::record::{
-    ArrivalAnswer, Decided, Stream, TagAnswer, DAMAGED, DUPLICATE, HANDED_UP, ROGUE,
+    ArrivalAnswer, BatchAnswer, Decided, Stream, TagAnswer, DAMAGED, DUPLICATE, FRAMES_MOST,
+    HANDED_UP, ROGUE,
 };
 
 const SLOTS_MOST: usize = 64;
@@ -16,9 +17,10 @@ const SHORT: u8 = 4;
 const UNTAGGED: u8 = 5;
 const UNKNOWN: u8 = 6;
 const HURT: u8 = 7;
-const ROOM: u8 = 8;
+pub const ROOM: u8 = 8;
 const TAGGED: u8 = 13;
 const GROUP: u8 = 14;
+const BATCH: u8 = 15;
 
 /// The first byte of the source; its lowest bit marks a group.
 const SOURCE: usize = 6;
@@ -296,6 +298,39 @@ pub fn arrival_at(
     if network > 1 {
         return not_taken(NETWORK);
     }
+    arrive(by_place, table, network, frame, out)
+}
+
+/// The search for a stream by its VLAN id and destination: its slot, and its record.
+type Search = fn(&mut [Stream], u16, u64) -> Option<(usize, &mut Stream)>;
+
+/// The faster one in a single arrival.
+#[inline(always)]
+fn by_place(table: &mut [Stream], vlan: u16, dest: u64) -> Option<(usize, &mut Stream)> {
+    let slot = table
+        .iter()
+        .position(|s| s.vlan == vlan && s.dest == dest && s.used != 0)?;
+    Some((slot, &mut table[slot]))
+}
+
+/// The faster one in a batch, where fewer registers are free.
+#[inline(always)]
+fn by_record(table: &mut [Stream], vlan: u16, dest: u64) -> Option<(usize, &mut Stream)> {
+    table
+        .iter_mut()
+        .enumerate()
+        .find(|(_, s)| s.vlan == vlan && s.dest == dest && s.used != 0)
+}
+
+/// The arrival behind 1 and 2, which a batch asks once.
+#[inline(always)]
+fn arrive(
+    search: Search,
+    table: &mut [Stream],
+    network: u8,
+    frame: &[u8],
+    out: &mut [u8],
+) -> ArrivalAnswer {
     if frame.len() > FRAME_MOST {
         return not_taken(LONG);
     }
@@ -327,14 +362,10 @@ pub fn arrival_at(
     } else {
         0
     };
-    let slot = match table
-        .iter()
-        .position(|s| s.vlan == vlan && s.dest == dest && s.used != 0)
-    {
-        Some(slot) => slot,
+    let (slot, s) = match search(table, vlan, dest) {
+        Some(found) => found,
         None => return not_taken(UNKNOWN),
     };
-    let s = &mut table[slot];
     if !lawful(s) {
         return not_taken(HURT);
     }
@@ -356,6 +387,71 @@ pub fn arrival_at(
         length,
         number,
         verdict,
+        refusal: 0,
+    }
+}
+
+fn none_taken(refusal: u8) -> BatchAnswer {
+    BatchAnswer {
+        refusal,
+        ..BatchAnswer::default()
+    }
+}
+
+/// Do the lengths run past the buffer?
+fn runs_past(mut frames: &[u8], count: usize) -> bool {
+    for _ in 0..count {
+        if frames.len() < 2 {
+            return true;
+        }
+        let length = word(frames, 0) as usize;
+        match frames.get(2 + length..) {
+            Some(behind) => frames = behind,
+            None => return true,
+        }
+    }
+    false
+}
+
+/// The batch, with the arrival above in its loop.
+#[inline(never)]
+pub fn batch(
+    table: &mut [Stream],
+    network: u8,
+    count: usize,
+    mut frames: &[u8],
+    out: &mut [u8],
+) -> BatchAnswer {
+    if table.len() > SLOTS_MOST {
+        return none_taken(TABLE);
+    }
+    if network > 1 {
+        return none_taken(NETWORK);
+    }
+    if count > FRAMES_MOST || runs_past(frames, count) {
+        return none_taken(BATCH);
+    }
+    let mut answers = [ArrivalAnswer::default(); FRAMES_MOST];
+    let mut before = 0;
+    let mut used = 0;
+    for answer in &mut answers[..count] {
+        let (frame, behind) = frames[2..].split_at(word(frames, 0) as usize);
+        frames = behind;
+        let room = out[used..].get_mut(2..).unwrap_or(&mut []);
+        let a = arrive(by_record, table, network, frame, room);
+        *answer = a;
+        if a.refusal == ROOM {
+            break;
+        }
+        if a.verdict == HANDED_UP {
+            out[used..used + 2].copy_from_slice(&(a.length as u16).to_be_bytes());
+            used += 2 + a.length;
+        }
+        before += 1;
+    }
+    BatchAnswer {
+        answers,
+        frames: before,
         refusal: 0,
     }
 }

@@ -8,6 +8,10 @@ const SECOND: usize = 2;
 const MEMCPY: usize = 3;
 const BARE: usize = 4;
 
+/// The places of a batch's sides behind the first two.
+const SINGLE: usize = 2;
+const LOOP: usize = 3;
+
 /// What was measured of a cell, side by side: the least time, and the instructions inside the call.
 pub struct Row {
     pub name: String,
@@ -94,23 +98,28 @@ fn most(row: &Row, rows: &[Row]) -> &'static str {
     }
 }
 
+/// The least and the largest of some numbers.
+fn range(numbers: &[f64], digits: usize) -> String {
+    let least = numbers.iter().copied().fold(f64::MAX, f64::min);
+    let largest = numbers.iter().copied().fold(f64::MIN, f64::max);
+    format!("{:.*} to {:.*}", digits, least, digits, largest)
+}
+
+/// The ratios to one side, as they are printed.
+fn ratios<'a>(rows: impl Iterator<Item = &'a Row>, to: usize) -> Vec<f64> {
+    rows.map(|r| (r.ratio(to) * 100.0).round() / 100.0)
+        .collect()
+}
+
 /// How many of the cells meet the aim beside one side, as the ratio is printed, and the range of the ratios.
-fn tell_aim(rows: &[Row], to: usize, beside: &str, aim: f64) {
-    let ratios: Vec<f64> = rows
-        .iter()
-        .map(|r| (r.ratio(to) * 100.0).round() / 100.0)
-        .collect();
-    let met = ratios.iter().filter(|&&r| r <= aim).count();
-    let least = ratios.iter().copied().fold(f64::MAX, f64::min);
-    let largest = ratios.iter().copied().fold(f64::MIN, f64::max);
+fn tell_aim(ratios: &[f64], beside: &str, aim: f64) {
     println!(
-        "Beside {}: {:.2} to {:.2}; the aim, at most {:.1}, is met in {} of {} cells.",
+        "Beside {}: {}; the aim, at most {:.1}, is met in {} of {} cells.",
         beside,
-        least,
-        largest,
+        range(ratios, 2),
         aim,
-        met,
-        rows.len()
+        ratios.iter().filter(|&&r| r <= aim).count(),
+        ratios.len()
     );
 }
 
@@ -157,15 +166,76 @@ pub fn arrivals(rows: &[Row], aim: f64) {
     println!("plain: Rust written for speed. second: the second program's arrival. memcpy: the frame's bytes copied, nothing else.");
     println!("line rate: the time that two full networks of 1 or 10 Gbit/s leave one core for an arrival (frame + 20 bytes),");
     println!("divided by the product's time: above 1 it keeps up. most of it: the search, the copy, or the rest.");
-    tell_aim(rows, PLAIN, "the plain arrival written for speed", aim);
-    tell_aim(rows, SECOND, "the second program's arrival", aim);
+    let tell = |to, beside| tell_aim(&ratios(rows.iter(), to), beside, aim);
+    tell(PLAIN, "the plain arrival written for speed");
+    tell(SECOND, "the second program's arrival");
     tell_gap(rows, "arrival-64-1-new", "arrival-64-1-gap63");
-    let bare = rows.iter().map(|r| r.ns[BARE]);
-    let (least, largest) = (
-        bare.clone().fold(f64::MAX, f64::min),
-        bare.fold(0.0, f64::max),
+    let bare: Vec<f64> = rows.iter().map(|r| r.ns[BARE]).collect();
+    println!(
+        "In every time: the loop that writes the frames and a bare call, together {} ns.",
+        range(&bare, 1)
     );
-    println!("In every time: the loop that writes the frames and a bare call, together {:.1} to {:.1} ns.", least, largest);
+}
+
+/// What a batch's cell is called after: its frames, their size and the streams.
+fn batch_parts(name: &str) -> [usize; 3] {
+    let mut words = name.split('-').skip(1).map(|w| w.parse().unwrap());
+    std::array::from_fn(|_| words.next().unwrap())
+}
+
+pub fn batches(rows: &[Row], aim: f64) {
+    println!("the batches         |      ns a frame      | instructions a frame |   batch to");
+    println!("frames size streams |  batch single  plain |  batch single  plain | single plain");
+    println!("--------------------+----------------------+----------------------+-------------");
+    for r in rows {
+        let [frames, size, streams] = batch_parts(&r.name);
+        println!(
+            "{:6} {:4} {:7} | {:6.1} {:6.1} {:6.1} | {:>6} {:>6} {:>6} | {:6.2} {:5.2}",
+            frames,
+            size,
+            streams,
+            r.ns[PRODUCT],
+            r.ns[SINGLE],
+            r.ns[PLAIN],
+            r.count(PRODUCT),
+            r.count(SINGLE),
+            r.count(PLAIN),
+            r.ratio(SINGLE),
+            r.ratio(PLAIN)
+        );
+    }
+    println!();
+    println!("batch: the product's. single: as many single calls of the product. plain: the batch in Rust written for speed.");
+    for frames in [1, 8, 32] {
+        let of = || {
+            rows.iter()
+                .filter(move |r| batch_parts(&r.name)[0] == frames)
+        };
+        let (single, plain) = (ratios(of(), SINGLE), ratios(of(), PLAIN));
+        if single.is_empty() {
+            continue;
+        }
+        if frames == 32 {
+            tell_aim(&single, "single calls, batches of 32", aim);
+            tell_aim(&plain, "the plain batch, batches of 32", aim);
+            continue;
+        }
+        let more: Vec<f64> = of()
+            .map(|r| (r.ns[PRODUCT] - r.ns[SINGLE]) * frames as f64)
+            .collect();
+        println!(
+            "Batches of {}: {} beside single calls, {} beside the plain batch. One costs {} ns more than single calls.",
+            frames,
+            range(&single, 2),
+            range(&plain, 2),
+            range(&more, 0)
+        );
+    }
+    let bare: Vec<f64> = rows.iter().map(|r| r.ns[LOOP]).collect();
+    println!(
+        "In every time: the loop that writes the frames, {} ns.",
+        range(&bare, 1)
+    );
 }
 
 fn small(what: &str, rows: &[Row], sides: &[&str]) {
@@ -199,12 +269,13 @@ fn small(what: &str, rows: &[Row], sides: &[&str]) {
 
 pub fn tags(rows: &[Row], aim: f64) {
     small("tag calls", rows, &["product", "plain"]);
-    tell_aim(rows, PLAIN, "the plain call", aim);
+    tell_aim(&ratios(rows.iter(), PLAIN), "the plain call", aim);
 }
 
 pub fn decisions(rows: &[Row], aim: f64) {
     small("decisions", rows, &["product", "plain", "in place"]);
-    tell_aim(rows, PLAIN, "the plain decision by value", aim);
-    tell_aim(rows, SECOND, "the plain decision in place", aim);
+    let tell = |to, beside| tell_aim(&ratios(rows.iter(), to), beside, aim);
+    tell(PLAIN, "the plain decision by value");
+    tell(SECOND, "the plain decision in place");
     tell_gap(rows, "row-new", "row-gap63");
 }

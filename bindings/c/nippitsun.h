@@ -1,16 +1,17 @@
 /* Nippitsun for C and C++: a receiver for frames that arrive on two networks, and the redundancy tag in and out.
  *
- * The calls are the exported functions of the crate `port`, proved to do what document 01 says, with order 1 of document 02
- * (order 2 changes no answer). This header is written by hand: bindings/c/test.c holds it to the compiled code, and
- * bindings/check to the sources. C11 or C++11, x86-64; link with libport.a, which is called libnippitsun.a once it is
- * installed (docs/LINKING.md).
+ * The calls are the exported functions of the crates `port` and `port_batch`, proved to do what document 01 says, with orders 1
+ * and 3 of document 02 (order 2 changes no answer). This header is written by hand: bindings/c/test.c holds it to the compiled
+ * code, and bindings/check to the sources. C11 or C++11, x86-64; link with libport.a, which is called libnippitsun.a once it
+ * is installed (docs/LINKING.md).
  *
  * What the caller owes. The proof takes it for granted, and no call can test it:
  *
- * - An area is a pointer and a number of ELEMENTS: records for a table, bytes for a frame and an output. So many are there,
- *   and a table is aligned for its records. The pointer may be NULL where the number is 0. The destination of an open has
- *   no number: its six bytes are always there, and its pointer is never NULL.
- * - The areas of one call lie apart: no byte of the table, the frame, the output or the destination belongs to another.
+ * - An area is a pointer and a number of ELEMENTS: records for a table, bytes for a frame, the frames of a batch and an output.
+ *   So many are there, and a table is aligned for its records. The pointer may be NULL where the number is 0. The
+ *   destination of an open has no number: its six bytes are always there, and its pointer is never NULL.
+ * - The areas of one call lie apart: no byte of the table, the frame or frames, the output or the destination belongs to
+ *   another.
  * - They are lent for the call alone. No call keeps a pointer, and nobody else reads a table or an output, or writes to any
  *   of the areas, while the call runs.
  * - So a table has one caller at a time. Two ports that share a table share a lock too, held for the whole call: the verdict
@@ -25,9 +26,9 @@
 #include <stddef.h>
 #include <stdint.h>
 
-#define NIPPITSUN_VERSION "0.3.0"
+#define NIPPITSUN_VERSION "0.4.0"
 #define NIPPITSUN_VERSION_MAJOR 0
-#define NIPPITSUN_VERSION_MINOR 3
+#define NIPPITSUN_VERSION_MINOR 4
 #define NIPPITSUN_VERSION_PATCH 0
 
 #ifdef __cplusplus
@@ -52,6 +53,7 @@ extern "C" {
 #define NIPPITSUN_TIME_MOST 65535
 #define NIPPITSUN_VLAN_MOST 4094 /* the VLAN id in a key; 0 is a frame with no VLAN tag */
 #define NIPPITSUN_TAG_LENGTH 6   /* bytes of the redundancy tag */
+#define NIPPITSUN_FRAMES_MOST 32 /* frames in a batch (document 02, order 3); 0 is allowed */
 
 /* The rule of a stream. */
 enum nippitsun_rule {
@@ -61,14 +63,14 @@ enum nippitsun_rule {
 
 /* The verdict on an arrival. */
 enum nippitsun_verdict {
-    NIPPITSUN_VERDICT_NONE = 0, /* the call was refused */
+    NIPPITSUN_VERDICT_NONE = 0, /* the call was refused; or, in a batch, the frame was refused or not reached */
     NIPPITSUN_VERDICT_HANDED_UP = 1,
     NIPPITSUN_VERDICT_DUPLICATE = 2,
     NIPPITSUN_VERDICT_ROGUE = 3
 };
 
-/* Why a call was refused (document 01, "Calls and the order of checks"; 14 is of order 1). Where several hold, a call answers
- * the first in its own order, which stands beside its declaration. */
+/* Why a call was refused (document 01, "Calls and the order of checks"; 14 is of order 1, 15 of order 3). Where several hold,
+ * a call answers the first in its own order, which stands beside its declaration. */
 enum nippitsun_refusal {
     NIPPITSUN_REFUSED_NOT = 0,
     NIPPITSUN_REFUSED_TABLE = 1,    /* the table has more than 64 slots */
@@ -84,7 +86,8 @@ enum nippitsun_refusal {
     NIPPITSUN_REFUSED_FULL = 11,    /* no free slot */
     NIPPITSUN_REFUSED_SLOT = 12,    /* slot beyond the table or free */
     NIPPITSUN_REFUSED_TAGGED = 13,  /* the frame already carries F1C1 */
-    NIPPITSUN_REFUSED_GROUP = 14    /* group source address: the lowest bit of the first source byte is set */
+    NIPPITSUN_REFUSED_GROUP = 14,   /* group source address: the lowest bit of the first source byte is set */
+    NIPPITSUN_REFUSED_BATCH = 15    /* a batch: count above 32, or lengths that run past the buffer */
 };
 
 /* ---- the stream record
@@ -140,6 +143,13 @@ typedef struct nippitsun_arrival_answer {
     uint8_t refusal;
 } nippitsun_arrival_answer;
 
+/* Of a batch. */
+typedef struct nippitsun_batch_answer {
+    nippitsun_arrival_answer answers[NIPPITSUN_FRAMES_MOST]; /* of each frame in its place; all 0 where it was not reached */
+    size_t frames; /* how many frames came before one that was refused with 8, else the count */
+    uint8_t refusal;
+} nippitsun_batch_answer;
+
 /* Of an open. */
 typedef struct nippitsun_slot_answer {
     size_t slot; /* the slot that was filled */
@@ -169,6 +179,29 @@ typedef struct nippitsun_tag_answer {
 nippitsun_arrival_answer nippitsun_arrival(nippitsun_stream *NIPPITSUN_APART table, size_t slots, uint8_t network,
                                            const uint8_t *NIPPITSUN_APART frame, size_t frame_bytes,
                                            uint8_t *NIPPITSUN_APART out, size_t out_bytes);
+
+/* Several frames came in on a network: `count` of them, NIPPITSUN_FRAMES_MOST at most, in one buffer. Each stands behind its
+ * length in two bytes, high byte first; what stands behind the last is ignored. Refusals 1, 2, 15: the call looks at no frame
+ * then and changes nothing, and 0 stands in `frames` and in all answers. A count of 0 is a good call, and does nothing.
+ *
+ * Each frame is an arrival in its turn, with the same verdict, record, counters and refusal as if it had come alone, and its
+ * answer stands in answers[] at its place. What is handed up is packed into the output from its start, in the order in which
+ * it came and in the form of the input: two length bytes, then the frame without its tag, `length` bytes. Duplicates, rogues
+ * and refused frames take no byte of the output, not even for a length. The bytes after the last frame keep their values.
+ *
+ * The room of a frame is what is left of the output behind its two length bytes, and none if fewer than two are left. A frame
+ * that is refused with 3, 4, 5, 14, 6 or 7 is answered and the rest go on, room or not. A frame that is refused with 8 ends
+ * the call, a duplicate and a rogue too: they need the room as in a single arrival. That frame is answers[frames], and those
+ * behind it were not reached: their answers are all 0, which no arrival answers. What the frames before it changed stays. So,
+ * where `frames` is below `count`, make room and call again with the buffer from the frame at `frames` on (the lengths of those
+ * before it lead there) and `count - frames`: together that is the batch with room enough.
+ *
+ * NIPPITSUN_FRAMES_MOST * (2 + NIPPITSUN_UNTAGGED_MOST) = 63872 bytes of output are always enough. With 1996 bytes, one such
+ * frame, each call gets on by a frame at least. No byte of the output is one of the frames' buffer: no frame is handed up in
+ * its own place. The answer has 784 bytes and comes back by value. */
+nippitsun_batch_answer nippitsun_batch(nippitsun_stream *NIPPITSUN_APART table, size_t slots, uint8_t network, size_t count,
+                                       const uint8_t *NIPPITSUN_APART frames, size_t frames_bytes,
+                                       uint8_t *NIPPITSUN_APART out, size_t out_bytes);
 
 /* Opens a stream: fills the lowest free slot with a fresh record, counters zero. Refusals 1, 9, 10, 11.
  * `dest` points to the destination's six bytes, as they stand in a frame. It is never NULL. */
@@ -200,7 +233,7 @@ nippitsun_tag_answer nippitsun_take_tag(const uint8_t *NIPPITSUN_APART frame, si
 nippitsun_tag_answer nippitsun_write_tag(const uint8_t *NIPPITSUN_APART frame, size_t frame_bytes, uint16_t number,
                                          uint8_t *NIPPITSUN_APART out, size_t out_bytes);
 
-/* ---- the layout, as crates/record/src/lib.rt and crates/port/src/lib.rt have it */
+/* ---- the layout, as the crates record, calls, batch and port have it */
 
 #define NIPPITSUN_TYPE(type, size) \
     NIPPITSUN_ASSERT(sizeof(type) == (size) && NIPPITSUN_ALIGNOF(type) == 8, "layout of " #type)
@@ -241,6 +274,11 @@ NIPPITSUN_FIELD(nippitsun_arrival_answer, length, 8, 8);
 NIPPITSUN_FIELD(nippitsun_arrival_answer, number, 16, 2);
 NIPPITSUN_FIELD(nippitsun_arrival_answer, verdict, 18, 1);
 NIPPITSUN_FIELD(nippitsun_arrival_answer, refusal, 19, 1);
+
+NIPPITSUN_TYPE(nippitsun_batch_answer, 784);
+NIPPITSUN_FIELD(nippitsun_batch_answer, answers, 0, 768);
+NIPPITSUN_FIELD(nippitsun_batch_answer, frames, 768, 8);
+NIPPITSUN_FIELD(nippitsun_batch_answer, refusal, 776, 1);
 
 NIPPITSUN_TYPE(nippitsun_slot_answer, 16);
 NIPPITSUN_FIELD(nippitsun_slot_answer, slot, 0, 8);

@@ -1,5 +1,6 @@
 /* Holds nippitsun.h to the compiled calls: every function, verdict and refusal number, and every field of a record in both
- * directions. A refused call must leave every byte of table and output as it was, and answer 0 but for the number.
+ * directions. A refused call must leave every byte of table and output as it was, and answer 0 but for the number. A batch must
+ * do what single arrivals in turn do.
  *
  * All areas are blocks of the heap of their exact size, so that bindings/c/memcheck sees an access behind their end. */
 #include "nippitsun.h"
@@ -254,6 +255,77 @@ static const uint8_t *from(uint8_t first, const uint8_t *made) {
 static int without(size_t n, size_t at) {
     return equal(out, frame_bytes, at) && equal(out + at, frame_bytes + at + 6, n - at - 6);
 }
+
+/* ---- a batch */
+
+/* The frames of a batch, each behind its length. */
+static uint8_t packed[70000];
+static size_t packed_bytes, packed_count;
+
+static void pack_none(void) { packed_bytes = packed_count = 0; }
+
+static void pack(const uint8_t *frame, size_t n) {
+    packed[packed_bytes] = (uint8_t)(n >> 8);
+    packed[packed_bytes + 1] = (uint8_t)n;
+    copy(packed + packed_bytes + 2, frame, n);
+    packed_bytes += 2 + n;
+    packed_count++;
+}
+
+static int same_answer(nippitsun_arrival_answer a, nippitsun_arrival_answer b) {
+    return a.slot == b.slot && a.length == b.length && a.number == b.number && a.verdict == b.verdict && a.refusal == b.refusal;
+}
+
+/* Order 3 with single arrivals, on the table and the output as they were before the call: each has the room then left after
+ * its two length bytes, or none if fewer than two are left, and 8 ends them. */
+static nippitsun_batch_answer in_turn(uint8_t network, size_t count, const uint8_t *frames) {
+    nippitsun_batch_answer b = {.frames = count};
+    size_t at = 0, used = 0;
+    for (size_t i = 0; i < count; i++) {
+        size_t n = (size_t)frames[at] << 8 | frames[at + 1];
+        int lengths_fit = room - used >= 2;
+        nippitsun_arrival_answer a = nippitsun_arrival(table_before, slots, network, frames + at + 2, n,
+                                                       lengths_fit ? out_before + used + 2 : NULL, lengths_fit ? room - used - 2 : 0);
+        b.answers[i] = a;
+        if (a.refusal == NIPPITSUN_REFUSED_ROOM) {
+            b.frames = i;
+            break;
+        }
+        if (a.verdict == NIPPITSUN_VERDICT_HANDED_UP) {
+            out_before[used] = (uint8_t)(a.length >> 8);
+            out_before[used + 1] = (uint8_t)a.length;
+            used += 2 + a.length;
+        }
+        at += 2 + n;
+    }
+    return b;
+}
+
+static nippitsun_batch_answer batched_from(uint8_t network, size_t count, const uint8_t *frames, size_t n) {
+    uint8_t *f = block(n);
+    copy(f, frames, n);
+    begin();
+    nippitsun_batch_answer b = nippitsun_batch(table, slots, network, count, f, n, out, room), want = {.refusal = b.refusal};
+    end(b.refusal);
+    CHECK(equal(f, frames, n));
+    if (b.refusal == NIPPITSUN_REFUSED_NOT) {
+        want = in_turn(network, count, f);
+        int tables = 1;
+        for (size_t i = 0; i < slots; i++) tables &= same(table[i], table_before[i]);
+        CHECK(tables && out_same_from(0));
+    }
+    int answers = 1;
+    for (size_t i = 0; i < NIPPITSUN_FRAMES_MOST; i++) {
+        answers &= same_answer(b.answers[i], want.answers[i]);
+        if (i < b.frames) refused[b.answers[i].refusal]++;
+    }
+    CHECK(answers && b.frames == want.frames);
+    free(f);
+    return b;
+}
+
+/* The frames that are packed, and nothing behind them. */
+static nippitsun_batch_answer batched(uint8_t network) { return batched_from(network, packed_count, packed, packed_bytes); }
 
 /* ---- the tests */
 
@@ -515,13 +587,190 @@ static void sources(void) {
     CHECK(arrive(0, from(0xFE, frame_bytes), 60).verdict == NIPPITSUN_VERDICT_HANDED_UP);
 }
 
-/* 1 comes before anything else: a table of more than 64 slots is refused and not read, and an open's settings are refused
- * before the table is read. No contract can say that, so here the table lies where a read or a store ends this program. */
+static int unreached_from(const nippitsun_batch_answer *b, size_t from) {
+    static const nippitsun_arrival_answer mark;
+    for (size_t i = from; i < NIPPITSUN_FRAMES_MOST; i++)
+        if (!same_answer(b->answers[i], mark)) return 0;
+    return 1;
+}
+
+static void one_running(size_t n) {
+    make_table(1);
+    table[0] = running();
+    make_out(n);
+}
+
+static void batches(void) {
+    nippitsun_batch_answer b;
+
+    /* Every verdict in its place, and the frames handed up one behind the other. */
+    static const uint16_t numbers[] = {100, 101, 101, 110, 99};
+    static const uint8_t verdict[] = {2, 1, 2, 3, 1};
+    one_running(200);
+    pack_none();
+    for (size_t i = 0; i < 5; i++) pack(tagged(60, 0, numbers[i]), 60);
+    b = batched(1);
+    CHECK(b.refusal == 0 && b.frames == 5 && unreached_from(&b, 5));
+    for (size_t i = 0; i < 5; i++) CHECK(b.answers[i].verdict == verdict[i] && b.answers[i].number == numbers[i]);
+    CHECK(out[0] == 0 && out[1] == 54 && out[56] == 0 && out[57] == 54);
+    CHECK(equal(out + 2, frame_bytes, 12) && equal(out + 58 + 12, frame_bytes + 18, 42));
+    fill(out_before, room, 201);
+    CHECK(out_same_from(112));
+
+    /* 8 ends the call and is answered too: for a twin that lacks room, for a rogue, for the last frame. */
+    one_running(56);
+    pack_none();
+    for (size_t i = 0; i < 3; i++) pack(tagged(60, 0, 101), 60);
+    b = batched(0);
+    CHECK(b.frames == 1 && b.answers[0].verdict == 1 && b.answers[1].refusal == NIPPITSUN_REFUSED_ROOM && unreached_from(&b, 2));
+    one_running(100);
+    pack_none();
+    pack(tagged(60, 0, 101), 60);
+    pack(tagged(60, 0, 500), 60);
+    b = batched(0);
+    CHECK(b.frames == 1 && b.answers[1].refusal == NIPPITSUN_REFUSED_ROOM && unreached_from(&b, 2));
+    /* A smaller one behind it is not reached. */
+    one_running(55);
+    pack_none();
+    pack(tagged(60, 0, 101), 60);
+    pack(tagged(20, 0, 102), 20);
+    b = batched(0);
+    CHECK(b.frames == 0 && b.answers[0].refusal == NIPPITSUN_REFUSED_ROOM && unreached_from(&b, 1));
+
+    /* Small outputs, and two frames that need 16 bytes each. */
+    static const struct { size_t room, fits; } rooms[] = {{0, 0}, {1, 0}, {2, 0}, {15, 0}, {16, 1}, {17, 1}, {18, 1}, {31, 1}, {32, 2}};
+    for (size_t i = 0; i < sizeof rooms / sizeof *rooms; i++) {
+        one_running(rooms[i].room);
+        pack_none();
+        pack(tagged(20, 0, 101), 20);
+        pack(tagged(20, 0, 102), 20);
+        CHECK(batched(1).frames == rooms[i].fits);
+    }
+
+    /* The other refusals go on with no room at all. Lengths of 0 and above 2000 are refused in their places. */
+    static const uint8_t why[] = {3, 3, 4, 4, 5, 14, 6, 7};
+    static uint8_t longest[65535];
+    pack_none();
+    pack(untagged(2001), 2001);
+    pack(longest, sizeof longest);
+    pack(NULL, 0);
+    pack(tagged(19, 0, 1), 19);
+    pack(untagged(60), 60);
+    pack(from(1, tagged(60, 0, 101)), 60);
+    pack(tagged(60, 5, 101), 60);
+    pack(tagged(60, 0, 101), 60);
+    for (size_t bytes = 0; bytes < 3; bytes++) {
+        one_running(bytes);
+        table[0].rule = 3;
+        b = batched(0);
+        CHECK(b.frames == 8 && unreached_from(&b, 8));
+        for (size_t i = 0; i < 8; i++) CHECK(b.answers[i].refusal == why[i]);
+        table[0].rule = 1;
+        b = batched(0);
+        CHECK(b.frames == 7 && b.answers[7].refusal == NIPPITSUN_REFUSED_ROOM);
+    }
+
+    /* No frames are a good call, whatever the buffer holds; and what stands behind the last is ignored. */
+    one_running(100);
+    b = batched_from(0, 0, packed, 100);
+    CHECK(b.refusal == 0 && b.frames == 0 && unreached_from(&b, 0));
+    pack_none();
+    pack(tagged(60, 0, 101), 60);
+    fill(packed + packed_bytes, 7, 255);
+    b = batched_from(0, 1, packed, packed_bytes + 7);
+    CHECK(b.frames == 1 && b.answers[0].verdict == NIPPITSUN_VERDICT_HANDED_UP && unreached_from(&b, 1));
+
+    /* 1, 2, 15, in this order and before any frame: the first is good each time. */
+    make_table(NIPPITSUN_SLOTS_MOST + 1);
+    CHECK(batched_from(2, 33, packed, packed_bytes).refusal == NIPPITSUN_REFUSED_TABLE);
+    one_running(100);
+    CHECK(batched_from(2, 33, packed, packed_bytes).refusal == NIPPITSUN_REFUSED_NETWORK);
+    CHECK(batched_from(255, 1, packed, packed_bytes).refusal == NIPPITSUN_REFUSED_NETWORK);
+    CHECK(batched_from(0, SIZE_MAX, packed, packed_bytes).refusal == NIPPITSUN_REFUSED_BATCH);
+    CHECK(batched_from(0, (size_t)1 << 32, packed, packed_bytes).refusal == NIPPITSUN_REFUSED_BATCH);
+    for (size_t cut = 0; cut < packed_bytes; cut++) CHECK(batched_from(0, 1, packed, cut).refusal == NIPPITSUN_REFUSED_BATCH);
+    /* The second has no length, half a length, no bytes, too few. */
+    memcpy(packed + packed_bytes, (uint8_t[]){0, 4, 1, 2, 3}, 5);
+    for (size_t more = 0; more <= 5; more++) CHECK(batched_from(0, 2, packed, packed_bytes + more).refusal == NIPPITSUN_REFUSED_BATCH);
+    pack_none();
+    for (size_t i = 0; i < 33; i++) pack(NULL, 0);
+    CHECK(batched(0).refusal == NIPPITSUN_REFUSED_BATCH);
+    CHECK(batched_from(0, 32, packed, packed_bytes).frames == 32);
+
+    /* 32 of the longest frames, into the room that is always enough, and one byte less. */
+    size_t enough = NIPPITSUN_FRAMES_MOST * (2 + NIPPITSUN_UNTAGGED_MOST);
+    CHECK(enough == 63872);
+    pack_none();
+    for (uint16_t i = 0; i < NIPPITSUN_FRAMES_MOST; i++) pack(tagged(2000, 0, (uint16_t)(101 + i)), 2000);
+    one_running(enough);
+    b = batched(0);
+    CHECK(b.frames == 32 && b.answers[31].verdict == NIPPITSUN_VERDICT_HANDED_UP && out[0] == 0x07 && out[1] == 0xCA);
+    one_running(enough - 1);
+    b = batched(0);
+    CHECK(b.frames == 31 && b.answers[31].refusal == NIPPITSUN_REFUSED_ROOM);
+
+    /* The rest is called again with a new output: in the end that is the one batch. */
+    one_running(enough);
+    b = batched(0);
+    nippitsun_stream at_once = table[0];
+    one_running(5 * 1996 + 1000);
+    size_t count = packed_count, at = 0;
+    while (count > 0) {
+        b = batched_from(0, count, packed + at, packed_bytes - at);
+        CHECK(b.frames > 0);
+        if (b.frames == 0) break;
+        count -= b.frames;
+        at += b.frames * 2002;
+        fill(out, room, 201);
+    }
+    CHECK(at == packed_bytes && same(table[0], at_once));
+}
+
+/* A number below n, the same ones in every run. */
+static unsigned below(unsigned n) {
+    static uint64_t dice = 3;
+    dice = dice * 6364136223846793005u + 1;
+    return (unsigned)(dice >> 33) % n;
+}
+
+/* Batches of all kinds, each held to single arrivals in turn. */
+static void batches_in_turn(void) {
+    static const size_t lengths[] = {0, 13, 19, 20, 24, 64, 300, 2001};
+    static const unsigned rooms[] = {20, 100, 4000};
+    unsigned ended = 0, whole = 0;
+    for (size_t i = 0; i < 3000; i++) {
+        make_table(3);
+        make_out(below(rooms[below(3)]));
+        for (size_t s = 0; s < 3; s++) table[s] = running();
+        table[0].vlan = 7;
+        table[1].vlan = 5;
+        table[2].window = below(2) ? 4 : 64;
+        if (below(3) == 0) table[2].state = distinct.state;
+        pack_none();
+        for (size_t n = below(NIPPITSUN_FRAMES_MOST + 1); n > 0; n--) {
+            size_t length = lengths[below(8)];
+            uint16_t vlan = below(2) ? 5 : 0;
+            tagged(length, vlan, (uint16_t)(90 + below(40)));
+            if (below(12) == 0) frame_bytes[13] = 0;
+            if (below(12) == 0) frame_bytes[6] |= 1;
+            if (below(12) == 0) frame_bytes[5] ^= 1;
+            pack(frame_bytes, length);
+        }
+        if (batched((uint8_t)below(2)).frames < packed_count) ended++;
+        else whole++;
+    }
+    CHECK(ended > 300 && whole > 300);
+}
+
+/* 1 comes before anything else: a table of more than 64 slots is refused and not read, and an open's settings and a batch's
+ * network, count and lengths are refused before the table is read, the first two before the frames are. No contract can say
+ * that, so here the table lies where a read or a store ends this program, and so do these frames. */
 static void unread(void) {
     enum { no_access = 0, own_and_blank = 0x22 }; /* PROT_NONE; MAP_PRIVATE and MAP_ANONYMOUS, on Linux */
     static const size_t lengths[] = {65, 65 * sizeof(nippitsun_stream), 4160000, SIZE_MAX / sizeof(nippitsun_stream)};
     nippitsun_stream *t = mmap(NULL, 65536, no_access, own_and_blank, -1, 0);
-    CHECK(t != (void *)-1);
+    const uint8_t *frames = mmap(NULL, 65536, no_access, own_and_blank, -1, 0);
+    CHECK(t != (void *)-1 && frames != (void *)-1);
     make_out(100);
     for (size_t i = 0; i < sizeof lengths / sizeof *lengths; i++) {
         size_t n = lengths[i];
@@ -530,7 +779,12 @@ static void unread(void) {
         CHECK(nippitsun_close(t, n, 64) == NIPPITSUN_REFUSED_TABLE);
         CHECK(nippitsun_reset(t, n, 64) == NIPPITSUN_REFUSED_TABLE);
         CHECK(nippitsun_tick(t, n).refusal == NIPPITSUN_REFUSED_TABLE);
+        CHECK(nippitsun_batch(t, n, 2, 33, frames, 65536, out, room).refusal == NIPPITSUN_REFUSED_TABLE);
     }
+    CHECK(nippitsun_batch(t, 64, 2, 33, frames, 65536, out, room).refusal == NIPPITSUN_REFUSED_NETWORK);
+    CHECK(nippitsun_batch(t, 64, 0, 33, frames, 65536, out, room).refusal == NIPPITSUN_REFUSED_BATCH);
+    CHECK(nippitsun_batch(t, 64, 0, 1, (uint8_t[]){0, 9}, 2, out, room).refusal == NIPPITSUN_REFUSED_BATCH);
+    CHECK(nippitsun_batch(t, 64, 0, 0, frames, 65536, out, room).refusal == NIPPITSUN_REFUSED_NOT);
     CHECK(nippitsun_open(t, 64, running_dest, 0, 3, 4, 3).refusal == NIPPITSUN_REFUSED_SETTING);
 }
 
@@ -550,8 +804,14 @@ static void nothing(void) {
     CHECK(taken(tagged(60, 0, 1), 60).refusal == NIPPITSUN_REFUSED_ROOM);
     CHECK(written(NULL, 0, 1).refusal == NIPPITSUN_REFUSED_SHORT);
     CHECK(written(untagged(60), 60, 1).refusal == NIPPITSUN_REFUSED_ROOM);
+    CHECK(batched_from(0, 0, NULL, 0).refusal == NIPPITSUN_REFUSED_NOT);
+    CHECK(batched_from(0, 1, NULL, 0).refusal == NIPPITSUN_REFUSED_BATCH);
+    pack_none();
+    pack(tagged(60, 0, 101), 60);
+    CHECK(batched(0).answers[0].refusal == NIPPITSUN_REFUSED_UNKNOWN);
     make_table(1);
     table[0] = running();
+    CHECK(batched(0).answers[0].refusal == NIPPITSUN_REFUSED_ROOM);
     CHECK(arrive(0, tagged(60, 0, 101), 60).refusal == NIPPITSUN_REFUSED_ROOM);
 }
 
@@ -561,13 +821,15 @@ int main(void) {
     closes_resets_and_ticks();
     refusals();
     sources();
+    batches();
+    batches_in_turn();
     unread();
     nothing();
     make_table(0);
     make_out(0);
-    for (int n = 1; n <= NIPPITSUN_REFUSED_GROUP; n++) CHECK(refused[n] > 0);
+    for (int n = 1; n <= NIPPITSUN_REFUSED_BATCH; n++) CHECK(refused[n] > 0);
     for (int v = 1; v <= 3; v++) CHECK(verdicts[v] > 0);
     printf("%u checks of the C calls, %u failed: every verdict, refusals 1 to %d, every field of a record\n", checks, failures,
-           NIPPITSUN_REFUSED_GROUP);
+           NIPPITSUN_REFUSED_BATCH);
     return failures != 0;
 }

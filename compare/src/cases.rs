@@ -2,6 +2,7 @@
 //! emulator.
 
 use crate::{Answer, Call};
+use nippitsun::archive::BatchAnswer;
 use nippitsun::Stream;
 
 /// What a call starts from or leaves: the table and the output.
@@ -19,6 +20,7 @@ struct Arguments<'a> {
     network: u8,
     number: u16,
     slot: u64,
+    count: u64,
     dest: [u8; 6],
     vlan: u16,
     rule: u8,
@@ -33,6 +35,7 @@ struct Fields {
     length: u64,
     resets: u64,
     damaged: u64,
+    frames: u64,
     number: u16,
     verdict: u8,
     refusal: u8,
@@ -72,13 +75,23 @@ fn arguments(call: Call) -> Arguments {
             a.frame = frame;
             a.number = number;
         }
+        Call::Batch {
+            network,
+            count,
+            frames,
+        } => {
+            a.kind = 10;
+            a.network = network;
+            a.count = count as u64;
+            a.frame = frames;
+        }
     }
     a
 }
 
-fn fields(answer: Answer) -> Fields {
+fn fields(answer: &Answer) -> Fields {
     let mut f = Fields::default();
-    match answer {
+    match *answer {
         Answer::Refused(n) => f.refusal = n,
         Answer::HandedUp {
             slot,
@@ -110,12 +123,31 @@ fn fields(answer: Answer) -> Fields {
             f.number = number;
             f.length = length as u64;
         }
+        Answer::Batch(ref told) => {
+            f.frames = told.frames as u64;
+            f.refusal = told.refusal;
+        }
     }
     f
 }
 
+/// The answers of a batch's frames. A refused batch has marks alone.
+fn add_frames(to: &mut Vec<u8>, answer: &Answer) {
+    let told = match answer {
+        Answer::Batch(told) => **told,
+        _ => BatchAnswer::default(),
+    };
+    for a in told.answers {
+        for x in [a.slot, a.length] {
+            to.extend_from_slice(&(x as u64).to_le_bytes());
+        }
+        to.extend_from_slice(&a.number.to_le_bytes());
+        to.extend_from_slice(&[a.verdict, a.refusal]);
+    }
+}
+
 /// Adds one case.
-pub fn add(to: &mut Vec<u8>, call: Call, before: Areas, answer: Answer, after: Areas) {
+pub fn add(to: &mut Vec<u8>, call: Call, before: Areas, answer: &Answer, after: Areas) {
     let a = arguments(call);
     to.extend_from_slice(&[a.kind, before.table.len() as u8]);
     to.extend_from_slice(&(a.frame.len() as u16).to_le_bytes());
@@ -125,18 +157,23 @@ pub fn add(to: &mut Vec<u8>, call: Call, before: Areas, answer: Answer, after: A
     }
     to.extend_from_slice(a.frame);
     to.extend_from_slice(before.out);
-    to.extend_from_slice(&a.slot.to_le_bytes());
+    for x in [a.slot, a.count] {
+        to.extend_from_slice(&x.to_le_bytes());
+    }
     for x in [a.number, a.vlan, a.window, a.time] {
         to.extend_from_slice(&x.to_le_bytes());
     }
     to.extend_from_slice(&[a.network, a.rule]);
     to.extend_from_slice(&a.dest);
     let f = fields(answer);
-    for x in [f.slot, f.length, f.resets, f.damaged] {
+    for x in [f.slot, f.length, f.resets, f.damaged, f.frames] {
         to.extend_from_slice(&x.to_le_bytes());
     }
     to.extend_from_slice(&f.number.to_le_bytes());
     to.extend_from_slice(&[f.verdict, f.refusal]);
+    if let Call::Batch { .. } = call {
+        add_frames(to, answer);
+    }
     for s in after.table {
         to.extend_from_slice(&s.to_bytes());
     }

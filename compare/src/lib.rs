@@ -7,6 +7,7 @@
 
 pub mod cases;
 
+use nippitsun::archive::{self, ArrivalAnswer, BatchAnswer};
 use nippitsun::{tag, Counts, Receiver, State, Stream};
 use second::Verdict;
 
@@ -15,18 +16,32 @@ pub use nippitsun::Settings;
 /// One call. The output and the table stand beside it.
 #[derive(Clone, Copy, Debug)]
 pub enum Call<'a> {
-    Arrival { network: u8, frame: &'a [u8] },
+    Arrival {
+        network: u8,
+        frame: &'a [u8],
+    },
     Open(Settings),
     Close(usize),
     Reset(usize),
     Tick,
-    TakeTag { frame: &'a [u8] },
-    WriteTag { frame: &'a [u8], number: u16 },
+    TakeTag {
+        frame: &'a [u8],
+    },
+    WriteTag {
+        frame: &'a [u8],
+        number: u16,
+    },
+    Batch {
+        network: u8,
+        count: usize,
+        frames: &'a [u8],
+    },
 }
 
 /// What a call answers, in one form for both sides.
-#[derive(Clone, Copy, Debug, PartialEq, Eq)]
+#[derive(Clone, Debug, PartialEq, Eq)]
 pub enum Answer {
+    /// The number, and nothing beside it.
     Refused(u8),
     HandedUp {
         slot: usize,
@@ -51,6 +66,40 @@ pub enum Answer {
         number: u16,
         length: usize,
     },
+    /// Field by field as the archive has it, marks and all.
+    Batch(Box<BatchAnswer>),
+}
+
+impl Answer {
+    /// The answer to one frame of a batch; none, where it was not reached.
+    pub fn of_frame(a: &ArrivalAnswer) -> Option<Answer> {
+        let (slot, number, length) = (a.slot, a.number, a.length);
+        match (a.verdict, a.refusal) {
+            (0, 0) => None,
+            (archive::HANDED_UP, 0) => Some(Answer::HandedUp {
+                slot,
+                number,
+                length,
+            }),
+            (archive::DUPLICATE, 0) => Some(Answer::Duplicate { slot, number }),
+            (archive::ROGUE, 0) => Some(Answer::Rogue { slot, number }),
+            (_, refusal) => Some(Answer::Refused(refusal)),
+        }
+    }
+
+    /// A refused batch that has more than its number is no refusal here, so that it differs from one.
+    fn of_batch(told: BatchAnswer) -> Answer {
+        let refusal = told.refusal;
+        let alone = BatchAnswer {
+            refusal,
+            ..BatchAnswer::default()
+        };
+        if refusal != 0 && told == alone {
+            Answer::Refused(refusal)
+        } else {
+            Answer::Batch(Box::new(told))
+        }
+    }
 }
 
 /// One of the two programs, with a table.
@@ -109,6 +158,15 @@ impl Side for Product {
             Call::WriteTag { frame, number } => {
                 tag::put(frame, number, out).map(|length| Answer::Tag { number, length })
             }
+            // The crate's own answer leaves the marks out, so the archive's is taken.
+            Call::Batch {
+                network,
+                count,
+                frames,
+            } => {
+                let told = archive::batch(r.records_mut(), network, count, frames, out);
+                Ok(Answer::of_batch(told))
+            }
         };
         answer.unwrap_or_else(|why| Answer::Refused(why.number()))
     }
@@ -127,6 +185,25 @@ const NOBODY: [u8; 6] = [0xFF; 6];
 
 fn window_of(window: u16) -> u8 {
     window.try_into().unwrap_or(u8::MAX)
+}
+
+/// What the second program answers to one frame of a batch, as the archive has it. The mark is all zeros.
+fn plain(answer: Option<Result<second::Arrival, second::Refusal>>) -> ArrivalAnswer {
+    let mut told = ArrivalAnswer::default();
+    match answer {
+        Some(Ok(a)) => {
+            told.slot = a.slot;
+            told.number = a.number;
+            (told.verdict, told.length) = match a.verdict {
+                Verdict::HandedUp { length } => (archive::HANDED_UP, length),
+                Verdict::Duplicate => (archive::DUPLICATE, 0),
+                Verdict::Rogue => (archive::ROGUE, 0),
+            };
+        }
+        Some(Err(why)) => told.refusal = why.number(),
+        None => {}
+    }
+    told
 }
 
 impl Side for Second {
@@ -246,6 +323,17 @@ impl Side for Second {
                 }),
                 Call::WriteTag { frame, number } => second::write_tag(frame, number, out)
                     .map(|length| Answer::Tag { number, length }),
+                Call::Batch {
+                    network,
+                    count,
+                    frames,
+                } => second::batch(table, network, count, frames, out).map(|done| {
+                    Answer::Batch(Box::new(BatchAnswer {
+                        answers: done.answers.map(plain),
+                        frames: done.frames,
+                        refusal: 0,
+                    }))
+                }),
             };
         answer.unwrap_or_else(|why| Answer::Refused(why.number()))
     }

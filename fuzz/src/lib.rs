@@ -3,7 +3,7 @@
 //! fuzzer's counters in it, so its branches guide the fuzzer.
 //!
 //! An input is an event file (document 01, "Event file and the program `events`"), read as `events` reads it, so every event
-//! file is a seed. A first byte other than 1 is no end but the number of slots, and five kinds are added for what `events`
+//! file is a seed. A first byte other than 1 is no end but the number of slots, and six kinds are added for what `events`
 //! can't reach:
 //!
 //! | kind | body |
@@ -13,6 +13,7 @@
 //! | 242 take a tag out | room 2, frame |
 //! | 243 set a record | slot 1, its 96 bytes as they lie in memory, low bytes first |
 //! | 244 change one byte of a record | slot 1, place 1, value 1 |
+//! | 245 batch | room 2, network 1, count 1, frames with their lengths |
 
 use compare::{Call, Product, Second, Settings, Side};
 use nippitsun::{Counts, State, Stream};
@@ -23,6 +24,7 @@ const WRITE_TAG: u8 = 241;
 const TAKE_TAG: u8 = 242;
 const SET_RECORD: u8 = 243;
 const CHANGE_RECORD: u8 = 244;
+const BATCH: u8 = 245;
 
 /// Bytes of a record.
 const RECORD: usize = std::mem::size_of::<Stream>();
@@ -104,6 +106,15 @@ fn call_of(body: &[u8]) -> Option<(usize, Call<'_>)> {
             (room(r0, r1), Call::WriteTag { frame, number })
         }
         [TAKE_TAG, r0, r1, ref frame @ ..] => (room(r0, r1), Call::TakeTag { frame }),
+        [BATCH, r0, r1, network, count, ref frames @ ..] => {
+            let count = count.into();
+            let call = Call::Batch {
+                network,
+                count,
+                frames,
+            };
+            (room(r0, r1), call)
+        }
         _ => return None,
     })
 }

@@ -2,12 +2,13 @@
 //! redundancy tag.
 //!
 //! This is a second implementation. It was written from document 01 ("Exact
-//! rules and what to build") and orders 1 and 2 of document 02 alone, so that
-//! its answers can be compared with those of the first one. Section names in
-//! the comments are those of document 01.
+//! rules and what to build") and orders 1 to 3 of document 02 alone, so that its
+//! answers can be compared with those of the first one. Section names in the
+//! comments are those of document 01.
 
 #![forbid(unsafe_code)]
 
+pub mod batch;
 pub mod event_file;
 pub mod frame;
 pub mod generate;
@@ -16,12 +17,13 @@ pub mod stream;
 pub mod table;
 pub mod wrong;
 
+pub use batch::{batch, Batch};
 pub use frame::{take_tag, write_tag, Taken};
 pub use stream::Stream;
 pub use table::{arrival, close, open, reset, tick, Arrival, Settings, Ticked, Verdict};
 
 /// Why a call was refused. The values are the numbers of the table in
-/// "Calls and the order of checks", and that of order 1.
+/// "Calls and the order of checks", and those of orders 1 and 3.
 #[derive(Clone, Copy, Debug, PartialEq, Eq, Hash, PartialOrd, Ord)]
 #[repr(u8)]
 pub enum Refusal {
@@ -54,6 +56,8 @@ pub enum Refusal {
     AlreadyTagged = 13,
     /// Group source address.
     GroupSource = 14,
+    /// The count of a batch is above 32, or its lengths run past the buffer.
+    BatchTooLong = 15,
 }
 
 impl Refusal {

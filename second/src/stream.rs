@@ -1,5 +1,6 @@
 //! The stream record, when it is lawful, and the decision on one record.
-//! Document 01: "Sizes", "The stream record", "Decisions".
+//! Document 01: "Sizes", "The stream record", "Decisions". The size of a batch
+//! is that of order 3 of document 02.
 
 use crate::wrong::rule;
 
@@ -67,6 +68,8 @@ impl Stream {
     pub const MAX_FRAME: usize = 2000;
     /// Longest frame before the tag is put in.
     pub const MAX_UNTAGGED: usize = 1994;
+    /// Most frames in a batch.
+    pub const MAX_BATCH: usize = 32;
     /// Smallest window.
     pub const MIN_WINDOW: u8 = 2;
     /// Largest window.

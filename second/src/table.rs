@@ -59,9 +59,18 @@ pub struct Settings {
 }
 
 /// Refusal 1, the first check of every call on a table.
-fn check_table(table: &[Stream]) -> Result<(), Refusal> {
+pub(crate) fn check_table(table: &[Stream]) -> Result<(), Refusal> {
     if table.len() > Stream::MAX_SLOTS {
         Err(Refusal::TableTooLong)
+    } else {
+        Ok(())
+    }
+}
+
+/// Refusal 2 of an arrival and of a batch.
+pub(crate) fn check_network(network: u8) -> Result<(), Refusal> {
+    if network > 1 {
+        Err(Refusal::NoSuchNetwork)
     } else {
         Ok(())
     }
@@ -98,9 +107,7 @@ pub fn arrival(
 ) -> Result<Arrival, Refusal> {
     check_table(table)?;
     rule!(Ok(()), LengthBeforeNetwork: frame::check_length(frame))?;
-    if network > 1 {
-        return Err(Refusal::NoSuchNetwork);
-    }
+    check_network(network)?;
     let tagged = frame::read_tagged(frame)
         .map_err(|why| rule!(why, GroupBeforeNoTag: wrong::group_before_no_tag(frame, why)))?;
     let source = frame::check_source(frame);

@@ -1,8 +1,8 @@
 //! Wrong variants of this program, each with one slip. A comparison with
 //! another program is only worth something if it finds them, so it is tried
 //! against each. Document 01 names some under "Errors that look right"; the
-//! others are slips that its text, or that of orders 1 and 2 of document 02,
-//! makes easy.
+//! others are slips that its text, or that of orders 1 to 3 of document 02, makes
+//! easy.
 //!
 //! No variant is set at first. In the code a slip stands behind the right rule:
 //! `rule!(right, Slip: wrong)`.
@@ -10,8 +10,9 @@
 #[cfg(feature = "wrong")]
 use std::cell::Cell;
 
+use crate::batch::LENGTH_BYTES;
 use crate::frame::{check_source, TAG_MARK, VLAN_MARK};
-use crate::{Refusal, Stream};
+use crate::{arrival, Arrival, Refusal, Stream, Verdict};
 
 /// Where the slip can be seen.
 #[derive(Clone, Copy, Debug, PartialEq, Eq)]
@@ -19,8 +20,8 @@ pub enum Seen {
     /// In the lines of an event file.
     Files,
     /// Only where calls are compared: the slip is in a counter, an output byte,
-    /// the treatment of a damaged record or of a small output, in the tag writer
-    /// or in taking a tag out. `events` shows none of these.
+    /// the treatment of a damaged record or of a small output, in the tag
+    /// writer, in taking a tag out or in a batch. `events` shows none of these.
     CallsOnly,
 }
 
@@ -113,6 +114,25 @@ variants! {
     GroupBeforeTagged, CallsOnly, "in the tag writer refusal 14 comes before 13";
     RoomBeforeGroup, CallsOnly, "in the tag writer refusal 8 comes before 14";
     TakeRefusesGroup, CallsOnly, "taking a tag out refuses a group source";
+    GoesOnBehind8, CallsOnly, "a batch goes on behind an 8";
+    AnyRefusalEnds, CallsOnly, "every refused frame ends a batch";
+    NoRoomIs8, CallsOnly, "where fewer than two bytes are left every frame of a batch is answered 8";
+    DuplicateNoRoom, CallsOnly, "in a batch a duplicate needs no room";
+    DuplicateHasLength, CallsOnly, "in a batch a duplicate writes the length 0";
+    RoomForgetsLength, CallsOnly, "the room of a frame in a batch includes its two length bytes";
+    LengthWithTag, CallsOnly, "the length of a frame handed up in a batch counts its tag";
+    UpLengthLowFirst, CallsOnly, "the lengths in a batch's output stand low byte first";
+    NotPacked, CallsOnly, "each frame handed up in a batch stands at the start of the output";
+    RestAnswered8, CallsOnly, "frames that a batch does not reach are answered 8 too";
+    CountsThe8, CallsOnly, "how many frames came before an 8 counts the 8 too";
+    LengthsWhenReached, CallsOnly, "refusal 15 is found only when the frame is reached";
+    CountBeforeNetwork, CallsOnly, "a count above 32 is refused before the network";
+    Refuses32, CallsOnly, "a batch of 32 frames is refused";
+    RefusesNone, CallsOnly, "a batch of no frames is refused";
+    LengthsLowFirst, CallsOnly, "the lengths in a batch are read low byte first";
+    CutLengthIsZero, CallsOnly, "length bytes that are cut are taken as a length of 0";
+    LengthsJudged, CallsOnly, "a length of 0 or above 2000 in a batch is refused with 15";
+    TrailingRefused, CallsOnly, "input behind the last frame of a batch is refused with 15";
 }
 
 #[cfg(feature = "wrong")]
@@ -210,4 +230,51 @@ pub(crate) fn close_lowest(table: &mut [Stream]) {
     if let Some(stream) = table.iter_mut().find(|stream| stream.is_in_use()) {
         stream.in_use = 0;
     }
+}
+
+/// An arrival that asks for no room if the frame is a duplicate.
+pub(crate) fn duplicate_without_room(
+    table: &mut [Stream],
+    network: u8,
+    frame: &[u8],
+    room: &mut [u8],
+) -> Result<Arrival, Refusal> {
+    let mut tried = table.to_vec();
+    let ample = &mut [0; Stream::MAX_FRAME];
+    let answer = arrival(&mut tried, network, frame, ample)?;
+    if answer.verdict == Verdict::Duplicate {
+        table.copy_from_slice(&tried);
+        return Ok(answer);
+    }
+    arrival(table, network, frame, room)
+}
+
+/// Writes the length 0, where there is room for it. Answers the bytes taken.
+pub(crate) fn length_of_nothing(length_bytes: &mut [u8]) -> usize {
+    length_bytes.fill(0);
+    length_bytes.len()
+}
+
+/// One frame of a batch whose room is all that is left. Where it then does not
+/// fit behind its length bytes, its end is missing.
+pub(crate) fn forgets_length(
+    table: &mut [Stream],
+    network: u8,
+    frame: &[u8],
+    left: &mut [u8],
+) -> (Result<Arrival, Refusal>, usize) {
+    let mut room = left.to_vec();
+    let answer = arrival(table, network, frame, &mut room);
+    let length = match answer {
+        Ok(Arrival {
+            verdict: Verdict::HandedUp { length },
+            ..
+        }) => length,
+        _ => return (answer, 0),
+    };
+    let taken = left.len().min(LENGTH_BYTES + length);
+    let (length_bytes, packed) = left[..taken].split_at_mut(LENGTH_BYTES);
+    length_bytes.copy_from_slice(&(length as u16).to_be_bytes());
+    packed.copy_from_slice(&room[..packed.len()]);
+    (answer, taken)
 }

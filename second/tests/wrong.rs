@@ -10,9 +10,32 @@ use std::process::Command;
 use common::*;
 use second::random::Random;
 use second::wrong::{self, Seen, Wrong, VARIANTS};
-use second::{arrival, close, open, reset, take_tag, tick, write_tag, Stream};
+use second::{arrival, batch, close, open, reset, take_tag, tick, write_tag, Stream};
 
 const DESTINATIONS: [[u8; 6]; 2] = [DESTINATION, [2, 0, 0, 0, 0, 2]];
+
+/// The input of a batch of this frame, its twin and two others, at times cut and
+/// at times with more behind it, and its count.
+fn frames(random: &mut Random, tagged: &[u8]) -> (usize, Vec<u8>) {
+    let mut input = Vec::new();
+    let count = random.pick(&[0, 1, 3, 4, 4, 4, 32, 33]);
+    for _ in 0..count {
+        let frame = match random.below(8) {
+            0 => Vec::new(),
+            1 => untagged_to(DESTINATION, None),
+            2 | 3 => tagged_to(DESTINATION, None, random.below(6) as u16),
+            _ => tagged.to_vec(),
+        };
+        input.extend((frame.len() as u16).to_be_bytes());
+        input.extend(frame);
+    }
+    match random.below(4) {
+        0 => input.truncate(input.len().saturating_sub(random.pick(&[1, 22, 30]))),
+        1 => input.push(0),
+        _ => {}
+    }
+    (count, input)
+}
 
 /// Random calls on a random table: every answer, and table and output after
 /// each call. What is called does not depend on the answers.
@@ -32,7 +55,7 @@ fn calls(seed: u64) -> Vec<(String, Vec<Stream>, Vec<u8>)> {
         let network = random.below(2) as u8;
         let source = random.pick(&[2, 2, 2, 3]);
         let tagged = from_source(source, &tagged_to(destination, tci, number));
-        let answer = match random.below(13) {
+        let answer = match random.below(16) {
             0 => format!("{:?}", open(&mut table, settings(1, 4, 2))),
             1 => format!("{:?}", close(&mut table, slot)),
             2 => format!("{:?}", reset(&mut table, slot)),
@@ -45,6 +68,12 @@ fn calls(seed: u64) -> Vec<(String, Vec<Stream>, Vec<u8>)> {
                 format!("{:?}", write_tag(&frame, number, &mut output[..room]))
             }
             5 => format!("{:?}", take_tag(&tagged, &mut output[..room])),
+            6..=8 => {
+                let (count, input) = frames(&mut random, &tagged);
+                let network = random.pick(&[0, 1, 1, 2]);
+                let room = &mut output[..random.pick(&[0, 1, 17, 18, 34, 40])];
+                format!("{:?}", batch(&mut table, network, count, &input, room))
+            }
             _ => {
                 let answer = arrival(&mut table, network, &tagged, &mut output[..room]);
                 format!("{answer:?}")

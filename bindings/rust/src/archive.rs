@@ -27,6 +27,18 @@ pub struct ArrivalAnswer {
     pub refusal: u8,
 }
 
+/// What a batch answers. Where it is refused, `refusal` is the number and the rest is 0.
+#[repr(C)]
+#[derive(Clone, Copy, Debug, Default, PartialEq, Eq)]
+pub struct BatchAnswer {
+    /// The answer of each frame in its place; all 0, as no arrival answers, where the frame was not reached.
+    pub answers: [ArrivalAnswer; FRAMES_MOST],
+    /// How many frames came before one that was refused with 8, else the count.
+    pub frames: usize,
+    /// 0, or why the call was refused.
+    pub refusal: u8,
+}
+
 /// What an open answers. Where it is refused, `refusal` is the number and the rest is 0.
 #[repr(C)]
 #[derive(Clone, Copy, Debug, Default, PartialEq, Eq)]
@@ -61,6 +73,9 @@ pub struct TagAnswer {
     pub refusal: u8,
 }
 
+/// Most frames in a batch.
+pub const FRAMES_MOST: usize = 32;
+
 /// The verdict handed up.
 pub const HANDED_UP: u8 = 1;
 /// The verdict duplicate.
@@ -69,11 +84,12 @@ pub const DUPLICATE: u8 = 2;
 pub const ROGUE: u8 = 3;
 
 const _: () = assert!(size_of::<ArrivalAnswer>() == 24 && align_of::<ArrivalAnswer>() == 8);
+const _: () = assert!(size_of::<BatchAnswer>() == 784 && align_of::<BatchAnswer>() == 8);
 const _: () = assert!(size_of::<SlotAnswer>() == 16 && align_of::<SlotAnswer>() == 8);
 const _: () = assert!(size_of::<TickAnswer>() == 24 && align_of::<TickAnswer>() == 8);
 const _: () = assert!(size_of::<TagAnswer>() == 16 && align_of::<TagAnswer>() == 8);
 
-// A slice crosses as a pointer and a number of elements. bindings/check holds these to crates/port/src/lib.rt.
+// A slice crosses as a pointer and a number of elements. bindings/check holds these to the crates port and port_batch.
 extern "C" {
     fn nippitsun_arrival(
         table: *mut Stream,
@@ -84,6 +100,16 @@ extern "C" {
         out: *mut u8,
         out_len: usize,
     ) -> ArrivalAnswer;
+    fn nippitsun_batch(
+        table: *mut Stream,
+        table_len: usize,
+        network: u8,
+        count: usize,
+        frames: *const u8,
+        frames_len: usize,
+        out: *mut u8,
+        out_len: usize,
+    ) -> BatchAnswer;
     fn nippitsun_open(
         table: *mut Stream,
         table_len: usize,
@@ -124,6 +150,33 @@ pub fn arrival(table: &mut [Stream], network: u8, frame: &[u8], out: &mut [u8]) 
             network,
             frame.as_ptr(),
             frame.len(),
+            out,
+            out_len,
+        )
+    }
+}
+
+/// Batch.
+#[inline(always)]
+pub fn batch(
+    table: &mut [Stream],
+    network: u8,
+    count: usize,
+    frames: &[u8],
+    out: &mut [u8],
+) -> BatchAnswer {
+    let (table, table_len) = (table.as_mut_ptr(), table.len());
+    let (out, out_len) = (out.as_mut_ptr(), out.len());
+    // SAFETY: three slices, two of them `&mut`, so they are whole and lie apart; they are borrowed until the call ends. Any
+    // `count` is taken.
+    unsafe {
+        nippitsun_batch(
+            table,
+            table_len,
+            network,
+            count,
+            frames.as_ptr(),
+            frames.len(),
             out,
             out_len,
         )

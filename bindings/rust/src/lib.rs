@@ -1,9 +1,10 @@
-//! A receiver for frames that arrive on two networks, proved to do what document 01 says, with order 1 of document 02 (order 2
-//! changes no answer), and safe to use from Rust.
+//! A receiver for frames that arrive on two networks, proved to do what document 01 says, with orders 1 and 3 of document 02
+//! (order 2 changes no answer), and safe to use from Rust.
 //!
-//! [`Receiver`] owns a table of streams and decides each arrival: handed up, duplicate or rogue. [`tag`] puts the redundancy
-//! tag into a frame and takes it out. The work is done by the archive of the proved crate `port`; this crate gives its calls
-//! the types that Rust's compiler checks, and adds nothing else.
+//! [`Receiver`] owns a table of streams and decides each arrival: handed up, duplicate or rogue. A [`Batch`] is the answer to up
+//! to 32 frames in one call, each decided as if it had come alone. [`tag`] puts the redundancy tag into a frame and takes it
+//! out. The work is done by the archive of the proved crates `port` and `port_batch`; this crate gives its calls the types that
+//! Rust's compiler checks, and adds only what packs frames for a batch ([`batch::Frames`]).
 //!
 //! A call that can't do its work is refused with a [`Refusal`] and changes nothing: no record, no counter, no output byte.
 //! No call panics, allocates or blocks.
@@ -12,11 +13,13 @@
 #![warn(missing_docs)]
 
 pub mod archive;
+pub mod batch;
 mod receiver;
 mod record;
 mod refusal;
 pub mod tag;
 
+pub use batch::Batch;
 pub use receiver::{Arrival, Receiver, Settings, Ticked, Verdict};
 pub use record::{dest_of, Counts, State, Stream};
 pub use refusal::Refusal;

@@ -1,6 +1,7 @@
 //! A receiver that owns its table.
 
 use crate::archive;
+use crate::batch::Batch;
 use crate::record::{Counts, Stream};
 use crate::refusal::Refusal;
 
@@ -30,10 +31,30 @@ pub struct Arrival {
     pub verdict: Verdict,
 }
 
+impl Arrival {
+    /// What an answer says.
+    #[inline]
+    pub(crate) fn told(a: &archive::ArrivalAnswer) -> Result<Arrival, Refusal> {
+        Refusal::check(a.refusal)?;
+        let verdict = match a.verdict {
+            archive::HANDED_UP => Verdict::HandedUp { length: a.length },
+            archive::DUPLICATE => Verdict::Duplicate,
+            archive::ROGUE => Verdict::Rogue,
+            _ => unreachable!("an archive of another version: its verdict has no name here"),
+        };
+        Ok(Arrival {
+            slot: a.slot,
+            number: a.number,
+            verdict,
+        })
+    }
+}
+
 /// The three verdicts.
 #[derive(Clone, Copy, Debug, PartialEq, Eq)]
 pub enum Verdict {
-    /// The frame without its tag stands at the start of the output. This one, and no other, is the command to carry out.
+    /// The frame without its tag stands at the start of the output, or in a batch at its place there. This one, and no other,
+    /// is the command to carry out.
     HandedUp {
         /// Bytes written to the output.
         length: usize,
@@ -153,19 +174,26 @@ impl Receiver {
         frame: &[u8],
         out: &mut [u8],
     ) -> Result<Arrival, Refusal> {
-        let a = archive::arrival(&mut self.table, network, frame, out);
-        Refusal::check(a.refusal)?;
-        let verdict = match a.verdict {
-            archive::HANDED_UP => Verdict::HandedUp { length: a.length },
-            archive::DUPLICATE => Verdict::Duplicate,
-            archive::ROGUE => Verdict::Rogue,
-            _ => unreachable!("an archive of another version: its verdict has no name here"),
-        };
-        Ok(Arrival {
-            slot: a.slot,
-            number: a.number,
-            verdict,
-        })
+        Arrival::told(&archive::arrival(&mut self.table, network, frame, out))
+    }
+
+    /// Up to [`FRAMES_MOST`](archive::FRAMES_MOST) frames came in on a network. They stand in one buffer, each behind its length
+    /// in two bytes, high byte first, as [`batch::Frames`](crate::batch::Frames) packs them; what stands behind the last is
+    /// ignored. Refusals 1, 2 and 15, before any frame is looked at: then nothing has changed.
+    ///
+    /// Each frame is decided as a single arrival in its turn, and what is handed up is packed into the output in the same form.
+    /// A frame that is refused is answered in its place and the rest go on; but 8, no room, ends the call, and the frames from
+    /// that one on can be called again. [`batch::ROOM_ENOUGH`](crate::batch::ROOM_ENOUGH) bytes of output are always enough.
+    pub fn batch<'o>(
+        &mut self,
+        network: u8,
+        count: usize,
+        frames: &[u8],
+        out: &'o mut [u8],
+    ) -> Result<Batch<'o>, Refusal> {
+        let told = archive::batch(&mut self.table, network, count, frames, out);
+        Refusal::check(told.refusal)?;
+        Ok(Batch::new(told, out))
     }
 
     /// Opens a stream in the lowest free slot and answers the slot. Refusals 1, 9, 10, 11 in this order.

@@ -4,7 +4,8 @@ use std::fmt;
 
 macro_rules! refusals {
     ($($(#[doc = $what:literal])+ $name:ident = $number:literal, $says:literal;)+) => {
-        /// Why a call was refused (document 01, "Calls and the order of checks"; 14 is of order 1). A refused call changes nothing.
+        /// Why a call was refused (document 01, "Calls and the order of checks"; 14 is of order 1, 15 of order 3). A refused
+        /// call changes nothing.
         #[derive(Clone, Copy, Debug, PartialEq, Eq, Hash, PartialOrd, Ord)]
         #[repr(u8)]
         pub enum Refusal {
@@ -62,6 +63,8 @@ refusals! {
     Tagged = 13, "frame already carries F1C1";
     /// The source is a group address: the lowest bit of its first byte is set.
     Group = 14, "group source address";
+    /// A batch has more than 32 frames, or lengths that run past its buffer.
+    Batch = 15, "count above 32, or lengths that run past the buffer";
 }
 
 impl Refusal {

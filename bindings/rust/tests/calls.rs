@@ -1,5 +1,8 @@
 //! Every refusal and every verdict through the safe calls, and every field of a record in both directions.
 
+#[path = "calls/batch.rs"]
+mod batch;
+
 use nippitsun::{
     dest_of, tag, Arrival, Counts, Receiver, Refusal, Settings, State, Stream, Ticked, Verdict,
 };
@@ -219,6 +222,7 @@ fn every_refusal() {
     seen.push(r.close(1).err());
     seen.push(tag::put(&from(1, tagged(60, 1)), 2, &mut out).err());
     seen.push(tag::put(&group, 2, &mut []).err());
+    seen.push(r.batch(1, 33, &[], &mut []).err());
     assert_eq!(
         seen,
         Refusal::ALL.iter().map(|&n| Some(n)).collect::<Vec<_>>()
@@ -313,9 +317,10 @@ fn refusals_have_their_numbers_and_say_why() {
         assert_eq!(usize::from(refusal.number()), at + 1);
         assert_eq!(Refusal::of_number(refusal.number()), Some(refusal));
     }
-    assert_eq!(Refusal::ALL.len(), 14);
-    assert_eq!(Refusal::of_number(0), None);
-    assert_eq!(Refusal::of_number(15), None);
+    assert_eq!(Refusal::ALL.len(), 15);
+    for no_refusal in [0, 16, 17, 255] {
+        assert_eq!(Refusal::of_number(no_refusal), None);
+    }
     let why: Box<dyn std::error::Error> = Box::new(Refusal::Room);
     assert_eq!(why.to_string(), "refused (8): output too small");
 }

@@ -13,9 +13,11 @@
 
 use compare::cases::{self, Areas};
 use compare::{Answer, Call, Product, Second, Settings, Side};
+use nippitsun::archive::{BatchAnswer, FRAMES_MOST};
 use nippitsun::{Counts, State, Stream};
 use second::random::Random;
 use second::wrong::{self, Seen as Shows, VARIANTS};
+use std::collections::BTreeMap;
 use std::io::Write;
 use std::process::ExitCode;
 
@@ -30,6 +32,13 @@ const PATIENCE: u64 = 200_000;
 
 /// The windows for which every difference is counted.
 const WINDOWS: [u16; 3] = [2, 4, 64];
+
+/// Batches have up to so many frames, more than are taken.
+const FRAMES_TRIED: u64 = 40;
+/// Bytes of input that a batch has at most. compare/replay.c has room for 65535.
+const INPUT_MOST: usize = 60_000;
+/// Outputs that are too small for any frame of a batch, or for more than one.
+const SMALL_ROOMS: [usize; 5] = [0, 1, 2, 15, 16];
 
 // ---- what is given
 
@@ -208,6 +217,12 @@ fn table(random: &mut Random) -> Vec<Stream> {
     (0..slots).map(|_| record(random)).collect()
 }
 
+/// Where the frames of calls are written.
+struct Frames {
+    single: [u8; 2100],
+    packed: Vec<u8>,
+}
+
 /// A difference, most often one near the window's ends, which are counted.
 fn difference(random: &mut Random, window: u16) -> i64 {
     let window = i64::from(window.min(64));
@@ -294,13 +309,90 @@ fn slot(random: &mut Random, table: &[Stream]) -> usize {
     }
 }
 
+fn network(random: &mut Random) -> u8 {
+    if random.chance(1, 24) {
+        random.pick(&[2, 3, 255])
+    } else {
+        random.below(2) as u8
+    }
+}
+
+/// A batch, most often a good one, with an output at some edge of what its frames need.
+fn batch<'a>(
+    random: &mut Random,
+    pool: &[u8],
+    table: &[Stream],
+    f: &'a mut Frames,
+) -> (Call<'a>, usize) {
+    let mut count = random.below(FRAMES_TRIED + 1) as usize;
+    f.packed.clear();
+    let mut length = 0;
+    for place in 0..count {
+        // Now and then the frame before it comes again.
+        if place == 0 || !random.chance(1, 4) {
+            length = frame(random, pool, table, &mut f.single);
+        }
+        if f.packed.len() + length > INPUT_MOST {
+            length = 0;
+        }
+        f.packed.extend_from_slice(&(length as u16).to_be_bytes());
+        f.packed.extend_from_slice(&f.single[..length]);
+    }
+    let end = f.packed.len();
+    match random.below(16) {
+        0 => f.packed.truncate(random.below(end as u64 + 1) as usize),
+        1 => f.packed.truncate(end.saturating_sub(1)),
+        // One more than there are, or one byte of its length.
+        2 => count += 1,
+        3 => {
+            count += 1;
+            f.packed.push(0);
+        }
+        // Input behind the last frame.
+        4..=7 => {
+            let behind = 1 + random.below(4) as usize;
+            f.packed.extend_from_slice(&pool[..behind]);
+        }
+        _ => {}
+    }
+    let call = Call::Batch {
+        network: network(random),
+        count,
+        frames: &f.packed,
+    };
+    // What the frames take if there is enough: each takes less than it took of the input.
+    let all = match Product::new(table).call(call, &mut vec![0; f.packed.len()]) {
+        Answer::Batch(told) => taken(&told),
+        _ => 0,
+    };
+    let room = match random.below(16) {
+        0..=4 => random.pick(&SMALL_ROOMS),
+        5 => all,
+        6 => all.saturating_sub(1),
+        7 => all + 1,
+        8 => random.below(all as u64 + 1) as usize,
+        _ => all + random.below(60) as usize,
+    };
+    (call, room)
+}
+
+/// What a batch has written to its output.
+fn taken(told: &BatchAnswer) -> usize {
+    let lengths = told.answers.iter().map(|a| a.length);
+    lengths.filter(|&length| length > 0).map(|n| n + 2).sum()
+}
+
 /// A call, and how many bytes its output should have: a few more than are needed, just so many, or one fewer.
 fn call<'a>(
     random: &mut Random,
     pool: &[u8],
     table: &[Stream],
-    f: &'a mut [u8; 2100],
+    f: &'a mut Frames,
 ) -> (Call<'a>, usize) {
+    if random.chance(1, 48) {
+        return batch(random, pool, table, f);
+    }
+    let f = &mut f.single;
     let kind = random.below(32);
     match kind {
         19..=22 => return (Call::Open(settings(random)), 0),
@@ -323,11 +415,7 @@ fn call<'a>(
     } else if kind >= 28 {
         (Call::TakeTag { frame }, length.saturating_sub(6))
     } else {
-        let network = if random.chance(1, 24) {
-            random.pick(&[2, 3, 255])
-        } else {
-            random.below(2) as u8
-        };
+        let network = network(random);
         (Call::Arrival { network, frame }, length.saturating_sub(6))
     };
     let room = match random.below(16) {
@@ -341,7 +429,7 @@ fn call<'a>(
 
 // ---- what came up
 
-const CALLS: [&str; 7] = [
+const CALLS: [&str; 8] = [
     "arrival",
     "open",
     "close",
@@ -349,9 +437,10 @@ const CALLS: [&str; 7] = [
     "tick",
     "take a tag out",
     "write a tag",
+    "batch",
 ];
 /// The refusals that each call can give.
-const REFUSALS: [&[u8]; 7] = [
+const REFUSALS: [&[u8]; 8] = [
     &[1, 2, 3, 4, 5, 14, 6, 7, 8],
     &[1, 9, 10, 11],
     &[1, 12],
@@ -359,6 +448,7 @@ const REFUSALS: [&[u8]; 7] = [
     &[1],
     &[3, 4, 5, 8],
     &[3, 4, 13, 14, 8],
+    &[1, 2, 15],
 ];
 const COUNTERS: [&str; 8] = [
     "arrivals on network 0",
@@ -379,10 +469,37 @@ const GROUPS: [&str; 4] = [
     "an arrival for a key that no slot has",
 ];
 
+/// What must come up in batches, beside their refusals.
+#[derive(Default)]
+struct Batches {
+    /// By the number of frames, where the batch is not refused.
+    counts: BTreeMap<usize, u64>,
+    /// By the output, as [`SMALL_ROOMS`] has them.
+    small_rooms: [u64; 5],
+    /// By the refusal of a frame.
+    frames_refused: [u64; 16],
+    up: u64,
+    duplicate: u64,
+    rogue: u64,
+    no_room_up: u64,
+    no_room_duplicate: u64,
+    no_room_rogue: u64,
+    no_room_first: u64,
+    no_room_last: u64,
+    no_room_one_left: u64,
+    filled: u64,
+    goes_on_without_room: u64,
+    trailing: u64,
+    count_too_high: u64,
+    length_cut: u64,
+    frame_cut: u64,
+    network_before_count: u64,
+}
+
 /// How often each thing came up.
 struct Seen {
-    calls: [u64; 7],
-    refused: [[u64; 15]; 7],
+    calls: [u64; 8],
+    refused: [[u64; 16]; 8],
     /// By rule, then handed up, duplicate, rogue.
     verdicts: [[u64; 3]; 2],
     /// By window, then d + 65, in vector streams without take-any.
@@ -397,6 +514,21 @@ struct Seen {
     mended: u64,
     groups: [u64; 4],
     slots: [u64; 66],
+    batches: Batches,
+}
+
+/// The frames of a batch, as far as they stand whole in its input, and what stands behind them.
+fn frames_of(count: usize, mut input: &[u8]) -> (Vec<&[u8]>, &[u8]) {
+    let mut frames = Vec::new();
+    while let (true, [high, low, behind @ ..]) = (frames.len() < count, input) {
+        let length = usize::from(u16::from_be_bytes([*high, *low]));
+        if length > behind.len() {
+            break;
+        }
+        frames.push(&behind[..length]);
+        input = &behind[length..];
+    }
+    (frames, input)
 }
 
 /// The call's frame, if it has one, comes from a group.
@@ -418,14 +550,123 @@ fn place(call: &Call) -> usize {
         Call::Tick => 4,
         Call::TakeTag { .. } => 5,
         Call::WriteTag { .. } => 6,
+        Call::Batch { .. } => 7,
+    }
+}
+
+impl Batches {
+    /// A batch that was not refused.
+    fn note(
+        &mut self,
+        told: &BatchAnswer,
+        network: u8,
+        count: usize,
+        input: &[u8],
+        after: &[Stream],
+        room: usize,
+    ) {
+        let (frames, behind) = frames_of(count, input);
+        *self.counts.entry(count).or_default() += 1;
+        self.trailing += u64::from(!behind.is_empty());
+        if let Some(n) = SMALL_ROOMS.iter().position(|&small| small == room) {
+            self.small_rooms[n] += u64::from(count > 0);
+        }
+        let mut left = room;
+        for (place, frame) in frames.into_iter().enumerate() {
+            let last = place + 1 == count;
+            match Answer::of_frame(&told.answers[place]) {
+                Some(Answer::HandedUp { length, .. }) => {
+                    self.up += 1;
+                    left -= length + 2;
+                }
+                Some(Answer::Duplicate { .. }) => self.duplicate += 1,
+                Some(Answer::Rogue { .. }) => self.rogue += 1,
+                Some(Answer::Refused(n)) => {
+                    self.frames_refused[usize::from(n)] += 1;
+                    if n == 8 {
+                        self.no_room_first += u64::from(place == 0);
+                        self.no_room_last += u64::from(last);
+                        self.no_room_one_left += u64::from(left == 1);
+                        self.note_no_room(network, frame, after);
+                    } else {
+                        self.goes_on_without_room += u64::from(left < 2 && !last);
+                    }
+                }
+                _ => {}
+            }
+        }
+        self.filled += u64::from(left == 0 && room > 0);
+    }
+
+    /// A frame that was answered 8. That changed nothing, so it can be tried again with enough room.
+    fn note_no_room(&mut self, network: u8, frame: &[u8], after: &[Stream]) {
+        let mut out = [0; Stream::FRAME_MOST];
+        match Product::new(after).call(Call::Arrival { network, frame }, &mut out) {
+            Answer::HandedUp { .. } => self.no_room_up += 1,
+            Answer::Duplicate { .. } => self.no_room_duplicate += 1,
+            Answer::Rogue { .. } => self.no_room_rogue += 1,
+            _ => {}
+        }
+    }
+
+    fn note_refused(&mut self, refusal: u8, count: usize, input: &[u8]) {
+        let too_high = count > FRAMES_MOST;
+        if refusal == 2 {
+            self.network_before_count += u64::from(too_high);
+        }
+        if refusal == 15 {
+            let (_, behind) = frames_of(count, input);
+            let which = if too_high {
+                &mut self.count_too_high
+            } else if behind.len() < 2 {
+                &mut self.length_cut
+            } else {
+                &mut self.frame_cut
+            };
+            *which += 1;
+        }
+    }
+
+    fn list(&self, list: &mut Vec<(String, u64)>) {
+        for count in 0..=FRAMES_MOST {
+            let n = self.counts.get(&count).copied().unwrap_or(0);
+            list.push((format!("a batch of {} frames", count), n));
+        }
+        for (room, n) in SMALL_ROOMS.iter().zip(self.small_rooms) {
+            list.push((format!("a batch with an output of {}", room), n));
+        }
+        for n in [3, 4, 5, 14, 6, 7, 8] {
+            let refused = self.frames_refused[n];
+            list.push((format!("a frame of a batch refused with {}", n), refused));
+        }
+        for (what, n) in [
+            ("a frame handed up", self.up),
+            ("a duplicate", self.duplicate),
+            ("a rogue", self.rogue),
+            ("8 for a frame to be handed up", self.no_room_up),
+            ("8 for a duplicate", self.no_room_duplicate),
+            ("8 for a rogue", self.no_room_rogue),
+            ("8 for the first frame", self.no_room_first),
+            ("8 for the last frame", self.no_room_last),
+            ("8 where one byte is left", self.no_room_one_left),
+            ("an output filled to its end", self.filled),
+            ("no room, and it goes on", self.goes_on_without_room),
+            ("input behind the last frame", self.trailing),
+            ("15 for a count above 32", self.count_too_high),
+            ("15 for cut length bytes", self.length_cut),
+            ("15 for a cut frame", self.frame_cut),
+            ("2 where the count is above 32", self.network_before_count),
+        ] {
+            list.push((format!("in a batch: {}", what), n));
+        }
     }
 }
 
 impl Seen {
     fn new() -> Seen {
         Seen {
-            calls: [0; 7],
-            refused: [[0; 15]; 7],
+            calls: [0; 8],
+            refused: [[0; 16]; 8],
             verdicts: [[0; 3]; 2],
             differences: [[0; 131]; 3],
             take_any: 0,
@@ -438,14 +679,35 @@ impl Seen {
             mended: 0,
             groups: [0; 4],
             slots: [0; 66],
+            batches: Batches::default(),
         }
     }
 
-    fn note(&mut self, call: &Call, answer: Answer, before: &[Stream], after: &[Stream]) {
+    /// A call, its answer, the table before and after it, and the size of its output.
+    fn note(
+        &mut self,
+        call: &Call,
+        answer: &Answer,
+        before: &[Stream],
+        after: &[Stream],
+        room: usize,
+    ) {
         let kind = place(call);
         self.calls[kind] += 1;
         self.slots[before.len()] += 1;
-        match answer {
+        if let Call::Batch {
+            network,
+            count,
+            frames,
+        } = *call
+        {
+            match answer {
+                Answer::Batch(told) => self.batches.note(told, network, count, frames, after, room),
+                Answer::Refused(n) => self.batches.note_refused(*n, count, frames),
+                _ => {}
+            }
+        }
+        match *answer {
             Answer::Refused(n) => {
                 self.refused[kind][usize::from(n)] += 1;
                 if let (Call::Arrival { frame, .. }, 7 | 14) = (call, n) {
@@ -480,11 +742,11 @@ impl Seen {
                     self.mended += u64::from(s.any != 0 && s.remaining != 0);
                 }
             }
-            Answer::Opened(_) | Answer::Tag { .. } => {}
+            Answer::Opened(_) | Answer::Tag { .. } | Answer::Batch(_) => {}
         }
         if from_group(call) {
-            self.groups[0] += u64::from((kind, answer) == (0, Answer::Refused(5)));
-            self.groups[1] += u64::from(answer == Answer::Refused(13));
+            self.groups[0] += u64::from((kind, answer) == (0, &Answer::Refused(5)));
+            self.groups[1] += u64::from(*answer == Answer::Refused(13));
             self.groups[2] += u64::from(kind == 5 && matches!(answer, Answer::Tag { .. }));
         }
         // A counter that falls has wrapped, but where an open wrote zeros.
@@ -560,6 +822,7 @@ impl Seen {
         for (n, name) in GROUPS.iter().enumerate() {
             list.push((format!("{}, from a group", name), self.groups[n]));
         }
+        self.batches.list(&mut list);
         for slots in [0, 1, 63, 64, 65] {
             list.push((format!("calls on {} slots", slots), self.slots[slots]));
         }
@@ -599,12 +862,15 @@ fn with_key(table: &[Stream], dest: u64, vlan: u16) -> usize {
 /// Runs so many calls on both sides. `kept` takes each of them, for another program.
 fn run(seed: u64, count: u64, mut kept: Option<&mut Vec<u8>>) -> Result<Seen, String> {
     let mut random = Random::new(seed);
-    let mut pool = vec![0; 8192];
+    let mut pool = vec![0; INPUT_MOST + 8192];
     random.fill(&mut pool);
     let mut seen = Seen::new();
     let (mut product, mut second) = (Product::new(&[]), Second::new(&[]));
     let mut before = Vec::new();
-    let mut f = [0; 2100];
+    let mut f = Frames {
+        single: [0; 2100],
+        packed: Vec::new(),
+    };
     for case in 0..count {
         if case % LIFE == 0 {
             before = table(&mut random);
@@ -661,7 +927,7 @@ fn run(seed: u64, count: u64, mut kept: Option<&mut Vec<u8>>) -> Result<Seen, St
                 wrong
             ));
         }
-        seen.note(&call, x, &before, &after);
+        seen.note(&call, &x, &before, &after, room);
         if let Some(kept) = kept.as_deref_mut() {
             cases::add(
                 kept,
@@ -670,7 +936,7 @@ fn run(seed: u64, count: u64, mut kept: Option<&mut Vec<u8>>) -> Result<Seen, St
                     table: &before,
                     out: start,
                 },
-                x,
+                &x,
                 Areas {
                     table: &after,
                     out: &a,

@@ -1,5 +1,5 @@
 //! A fixed list of calls that are run and not proved, with what each answers and changes: document 01, "Run but not proved",
-//! and the places where a slip is likely, order 1 of document 02 among them.
+//! and the places where a slip is likely, orders 1 and 3 of document 02 among them.
 //!
 //!     vectors product    the list on the compiled product
 //!     vectors second     the list on the second program
@@ -67,6 +67,21 @@ fn frame(length: usize, tags: Tags) -> Vec<u8> {
 fn from_source(first: u8, mut frame: Vec<u8>) -> Vec<u8> {
     frame[6] = first;
     frame
+}
+
+/// Frames, each behind its length.
+fn packed(frames: &[Vec<u8>]) -> Vec<u8> {
+    let mut buffer = Vec::new();
+    for f in frames {
+        buffer.extend_from_slice(&(f.len() as u16).to_be_bytes());
+        buffer.extend_from_slice(f);
+    }
+    buffer
+}
+
+/// Frames of 20 bytes with these numbers. Each takes 16 bytes of an output.
+fn numbered(numbers: &[u16]) -> Vec<Vec<u8>> {
+    numbers.iter().map(|&n| frame(20, tagged(n))).collect()
 }
 
 fn filled(mut head: Vec<u8>, length: usize) -> Vec<u8> {
@@ -155,8 +170,8 @@ fn shown(name: &str, value: u64) -> String {
     }
 }
 
-fn told(answer: Answer) -> String {
-    match answer {
+fn told(answer: &Answer) -> String {
+    match *answer {
         Answer::Refused(n) => format!("no {}", n),
         Answer::HandedUp {
             slot,
@@ -171,6 +186,16 @@ fn told(answer: Answer) -> String {
         Answer::Done => String::from("ok"),
         Answer::Ticked { resets, damaged } => format!("{} reset, {} damaged", resets, damaged),
         Answer::Tag { number, length } => format!("number {}, length {}", number, length),
+        Answer::Batch(ref batch) => {
+            let frames = batch.answers.iter().map(Answer::of_frame);
+            let frames: Vec<String> = frames
+                .map(|frame| frame.as_ref().map_or(String::from("-"), told))
+                .collect();
+            // A mark is a dash. Those behind the last answer are left out.
+            let answered = frames.iter().rposition(|f| f != "-").map_or(0, |n| n + 1);
+            let answers = frames[..answered].join(" | ");
+            format!("tells {}, answers [{}]", batch.frames, answers)
+        }
     }
 }
 
@@ -237,7 +262,7 @@ impl<S: Side> List<S> {
             table: &after,
             out: &out,
         };
-        cases::add(&mut self.cases, call, given, answer, left);
+        cases::add(&mut self.cases, call, given, &answer, left);
         let mut changes = Vec::new();
         for (slot, (b, a)) in before.iter().zip(&after).enumerate() {
             let changed: Vec<String> = fields(b)
@@ -266,7 +291,7 @@ impl<S: Side> List<S> {
         } else {
             changes.join("; ")
         };
-        writeln!(self.lines, "{}: {}; {}", what, told(answer), changes).unwrap();
+        writeln!(self.lines, "{}: {}; {}", what, told(&answer), changes).unwrap();
     }
 
     fn arrival(&mut self, what: &str, network: u8, frame: &[u8]) {
@@ -283,6 +308,27 @@ impl<S: Side> List<S> {
             Call::Arrival { network, frame: &f },
             Stream::FRAME_MOST,
         );
+    }
+
+    /// A batch on a stream that runs (slot 0) and on a damaged one with VLAN 5 (slot 1).
+    fn batch(&mut self, what: &str, network: u8, count: usize, frames: &[u8], room: usize) {
+        let damaged = Stream {
+            vlan: 5,
+            window: 65,
+            ..running()
+        };
+        self.table(&[running(), damaged]);
+        self.batch_here(what, network, count, frames, room);
+    }
+
+    fn batch_here(&mut self, what: &str, network: u8, count: usize, frames: &[u8], room: usize) {
+        let what = format!("batch, {}, output of {}", what, room);
+        let call = Call::Batch {
+            network,
+            count,
+            frames,
+        };
+        self.call(&what, call, room);
     }
 
     // ---- the list
@@ -691,6 +737,144 @@ impl<S: Side> List<S> {
         }
     }
 
+    fn batches(&mut self) {
+        self.section("Batches: verdicts, and refused frames in their places, on a running stream (slot 0) and a damaged one with VLAN 5 (slot 1)");
+        let all = Stream::FRAME_MOST;
+        for network in [0, 1] {
+            let frames = numbered(&[101, 100, 900, 99, 102]);
+            let what = format!("new, duplicate, rogue, late, new on {}", network);
+            self.batch(&what, network, 5, &packed(&frames), all);
+        }
+        let vlan = |vlan| Tags {
+            vlan: Some(vlan),
+            ..tagged(101)
+        };
+        let refused = [
+            ("2001 bytes", frame(2001, tagged(101))),
+            ("60000 bytes", frame(60000, tagged(101))),
+            ("0 bytes", Vec::new()),
+            ("19 bytes", frame(19, tagged(101))),
+            ("no F1C1", frame(24, PLAIN)),
+            ("group source", from_source(3, frame(24, tagged(101)))),
+            ("no such VLAN", frame(24, vlan(6))),
+            ("damaged", frame(24, vlan(5))),
+        ];
+        for (what, f) in &refused {
+            let frames = [frame(20, tagged(101)), f.clone(), frame(20, tagged(102))];
+            let what = format!("{} between two new ones", what);
+            // Room for the two and no byte more.
+            self.batch(&what, 0, 3, &packed(&frames), 32);
+        }
+        let frames: Vec<Vec<u8>> = refused
+            .into_iter()
+            .map(|(_, f)| f)
+            .filter(|f| f.len() < 60000)
+            .collect();
+        for room in [0, 1, 2] {
+            self.batch("all of these but the longest", 0, 7, &packed(&frames), room);
+        }
+        self.batch(
+            "2000 bytes",
+            0,
+            1,
+            &packed(&[frame(2000, tagged(101))]),
+            1996,
+        );
+        self.batch(
+            "2000 bytes",
+            0,
+            1,
+            &packed(&[frame(2000, tagged(101))]),
+            1995,
+        );
+
+        self.section("Batches: the output at its edges");
+        for room in [0, 1, 2, 15, 16, 17, 18, 31, 32, 33] {
+            let input = packed(&numbered(&[101, 102]));
+            self.batch("two new ones", 0, 2, &input, room);
+        }
+        for (what, number) in [("duplicate", 101), ("rogue", 900), ("late", 99)] {
+            let input = packed(&numbered(&[101, number, 102]));
+            for room in [16, 17, 31, 32, 33] {
+                self.batch(&format!("new, {}, new", what), 0, 3, &input, room);
+            }
+        }
+        let long = frame(60, tagged(101));
+        for (what, behind) in [
+            ("a short one", frame(20, tagged(101))),
+            ("an empty one", Vec::new()),
+        ] {
+            let input = packed(&[long.clone(), behind]);
+            let what = format!("a long one and {} behind it", what);
+            self.batch(&what, 0, 2, &input, 40);
+        }
+
+        self.section("Batches: counts, lengths and the order of checks");
+        let two = packed(&numbered(&[101, 102]));
+        self.batch("0 frames, no input", 0, 0, &[], 0);
+        self.batch("0 frames, input of two", 0, 0, &two, all);
+        self.batch("0 frames on network 2", 2, 0, &[], all);
+        let many: Vec<u16> = (101..134).collect();
+        let many = packed(&numbered(&many));
+        for count in [31, 32, 33, 256, 1 << 32, usize::MAX] {
+            let what = format!("{} frames, input of 33", count);
+            self.batch(&what, 0, count, &many, all);
+        }
+        self.batch("32 frames", 0, 32, &many, 511);
+        for network in [2, 255] {
+            for count in [2, 3, 33] {
+                let what = format!("{} frames on network {}, input of two", count, network);
+                self.batch(&what, network, count, &two, all);
+            }
+        }
+        for (what, end) in [
+            ("no input", 0),
+            ("one length byte", 1),
+            ("a length alone", 2),
+            ("the first without its last byte", 21),
+            ("the first alone", 22),
+            ("the first and one length byte", 23),
+            ("the first and a length", 24),
+            ("the second without its last byte", 43),
+            ("both", 44),
+        ] {
+            self.batch(&format!("2 frames, {}", what), 0, 2, &two[..end], all);
+        }
+        // Where an 8 would come first.
+        self.batch("2 frames, without the last byte", 0, 2, &two[..43], 0);
+        self.batch("the length 65535", 0, 1, &[0xFF; 100], all);
+        for behind in [&[0][..], &[0xFF], &[0xFF; 3], &two[..22]] {
+            let input = [&two[..], behind].concat();
+            let what = format!("2 frames, {} bytes behind them", behind.len());
+            self.batch(&what, 0, 2, &input, all);
+        }
+
+        self.section("Batches: tables of 0, 64 and 65 slots, the stream in the last one, and counters at 2^64 - 1");
+        for slots in [0, 64, 65] {
+            for (network, count) in [(0, 2), (2, 2), (0, 33), (2, 33)] {
+                let mut table = vec![Stream::default(); slots];
+                if let Some(last) = table.last_mut() {
+                    *last = running();
+                }
+                self.table(&table);
+                let what = format!("{} slots, {} frames on network {}", slots, count, network);
+                self.batch_here(&what, network, count, &two, all);
+            }
+        }
+        self.one(Stream {
+            counts: full_counts(),
+            ..running()
+        });
+        let frames = numbered(&[101, 101, 900, 104]);
+        self.batch_here(
+            "new, duplicate, rogue, out of order",
+            0,
+            4,
+            &packed(&frames),
+            all,
+        );
+    }
+
     fn damage(&mut self) {
         self.section("Damaged records of every kind: each call on a table with that record alone");
         let state = |change: fn(&mut State)| {
@@ -964,6 +1148,7 @@ fn run<S: Side>() -> List<S> {
     list.wrapping();
     list.shared_key();
     list.wrap_run();
+    list.batches();
     list
 }
 

@@ -11,7 +11,7 @@ pub mod Values
 pub mod Enums
 pub mod Tails
 pub mod Rows
-pub mod Answers
+pub mod ThirtyTwo
 pub mod Fields
 -- The steps of the code are the batch: what is packed, the middle of a batch, and the call.
 pub mod Packing

@@ -19,7 +19,7 @@ use Rattle.batch.specs.Told.{mark}
 use Rattle.batch.specs.Steps.{nextFrame, cursorAfter, Work, resultAt, workAfter, goesOn, filledIn}
 use Rattle.batch.proofs.Arriving.{leaves, stops-ends}
 use Rattle.batch.proofs.Lengths as Lengths
-use Rattle.batch.proofs.Packing.{frame-there, fromIn, lent, packs, counts, fits-on}
+use Rattle.batch.proofs.Packing.{frame-there, fromIn, lent-end, packs, counts, fits-on}
 
 -- ---- in the middle of a batch: p is packed over o, the answers noted are `told`, and marks are left
 
@@ -108,7 +108,7 @@ module _ (network : ℕ) (s o : List ℕ) (number : ℕ) where
         let w : Work = middle t a p (suc n) told (length told) number (suc marks) o in
         let x : Result = result t a p in
         let r : resultAt network w (take (a + 2 + word s a - (a + 2)) (drop (a + 2) s)) (fromIn p o) ≡ x =
-        ap₂ (λ (f left : List ℕ). resultOf t (arriving network f left)) (frame-there s a) (lent p o fits) in
+        ap₂ (λ (f left : List ℕ). resultOf t (arriving network f left)) (frame-there s a) (lent-end p o fits) in
         let v = leaves t (drop 2 (drop (length p) o)) network (frame a) in
         let k : length p + _ ≡ length (p ++ adds x) = ap (λ (y : ℕ). length p + y) (counts p o fits x v) ∙ sym (length-append p (adds x)) in
         let d : suc n - 1 ≡ n = omega arith in

@@ -30,19 +30,19 @@ abbrev pub fromIn : (p o : List ℕ) → ℕ
 fromIn p o = fromOf (length p) (length (overlay p o))
 
 module _ (p o : List ℕ) (fits : length p ≤ length o) where
-  pub whole : length (overlay p o) ≡ length o
+  pub overlay-length : length (overlay p o) ≡ length o
   unfolding overlay
-  whole = simp (length-append, length-drop) (omega arith)
+  overlay-length = simp (length-append, length-drop) (omega arith)
 
-  pub lent : drop (fromIn p o) (overlay p o) ≡ drop 2 (drop (length p) o)
+  pub lent-end : drop (fromIn p o) (overlay p o) ≡ drop 2 (drop (length p) o)
   unfolding overlay
-  lent = go (leb (length p + 2) (length (overlay p o))) refl
+  lent-end = go (leb (length p + 2) (length (overlay p o))) refl
     where
       go : (b : Bool) → leb (length p + 2) (length (overlay p o)) ≡ b → drop (cond b (length p + 2) (length (overlay p o))) (overlay p o) ≡ drop 2 (drop (length p) o)
       go true e = drop-append-add p (drop (length p) o) 2
       go false e =
           let h = leb-false (length p + 2) (length (overlay p o)) e in
-          drop-length (overlay p o) ∙ sym (drop-of-length-le (drop (length p) o) {i = 2} (omega (arith, whole, length-drop (length p) o)))
+          drop-length (overlay p o) ∙ sym (drop-of-length-le (drop (length p) o) {i = 2} (omega (arith, overlay-length, length-drop (length p) o)))
 
   -- ---- what is packed behind it
 
@@ -68,11 +68,11 @@ module _ (p o : List ℕ) (fits : length p ≤ length o) where
     packs = go v
       where
         go : Leaves (drop 2 (drop (length p) o)) r → lengthPut (length p) (tellArrival (r .said)) (take (fromIn p o) (overlay p o) ++ r .output) ≡ overlay (p ++ adds r) o
-        go (nothing-new h w a) = rw (a, h, w, append-nil, ← lent) (take-append-drop (fromIn p o) (overlay p o))
+        go (nothing-new h w a) = rw (a, h, w, append-nil, ← lent-end) (take-append-drop (fromIn p o) (overlay p o))
         go (handed-up bare m k h l w a) =
             let n = length-drop (length p) o in
             let q = length-drop 2 (drop (length p) o) in
-            let b : leb (length p + 2) (length (overlay p o)) ≡ true = le-leb (length p + 2) (length (overlay p o)) (omega (arith, whole)) in
+            let b : leb (length p + 2) (length (overlay p o)) ≡ true = le-leb (length p + 2) (length (overlay p o)) (omega (arith, overlay-length)) in
             rw (a, h, w, l, b) (two bare (drop (length p) o) _ _ refl (omega arith))
 
     -- how many

@@ -47,6 +47,7 @@ module _ (network : ℕ) (s : List ℕ) (t zs : Table) (c : Cursor) (us vs : Lis
   one-frame-more b us₃ cs₂ put kept moved =
       ap (filledOf network s) (made b us₃ cs₂ put kept moved ∙ ap (λ (z : Result). workAfter w z j k) same)
       ∙ filled-one network s w i j k sought
+
 -- the output with its end as the arrival left it is as long as it was
 pub tail-length : (k : ℕ) (us vs : List ℕ) → k ≤ length us → length vs ≡ length (drop k us) → length (take k us ++ vs) ≡ length us
 tail-length k us vs h e =

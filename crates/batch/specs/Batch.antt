@@ -75,7 +75,7 @@ turnsIn network t left [] = []
 turnsIn network t left (f ∷ fs) =
     turnOf t (single network f left)
     ∷ (if ends (resultOf t (single network f left) .said) then []
-      else turnsIn network (resultOf t (single network f left) .table) (drop (length (adds (resultOf t (single network f left)))) left) fs)
+    else turnsIn network (resultOf t (single network f left) .table) (drop (length (adds (resultOf t (single network f left)))) left) fs)
 
 -- ---- the call
 

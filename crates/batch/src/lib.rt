@@ -230,13 +230,7 @@ fn fill(
 }
 
 // The call.
-pub fn batch(
-    t: &mut [Stream],
-    network: u8,
-    count: usize,
-    frames: &[u8],
-    out: &mut [u8],
-) -> Batched
+pub fn batch(t: &mut [Stream], network: u8, count: usize, frames: &[u8], out: &mut [u8]) -> Batched
     ensures { λ r. ⌜ MeetsBatch (now (t .entry)) (record { network = network; count = count; frames = now (frames .entry); out = now (out .entry) }) r (now (t .exit)) (now (out .exit)) ⌝ }
 {
     let mut answers = unreached();

@@ -9,7 +9,9 @@ pub mod After
 pub mod Parts
 pub mod Once
 pub mod Sums
+pub mod Stepping
 pub mod Runs
+pub mod StepRuns
 pub mod Wrong
 -- What they rest on.
 mod Computing
@@ -20,3 +22,4 @@ mod Wrap
 mod Handed
 mod Linked
 mod Follow
+mod Turns

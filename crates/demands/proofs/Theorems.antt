@@ -1,13 +1,16 @@
 -- The theorems, one for each line of `specs/Theorems`. Assumes nothing.
 use Rattle.demands.specs.Receiver.{Receiver, MeetsContract}
-use Rattle.demands.specs.Theorems.{Demands, Theorems}
+use Rattle.demands.specs.Steps.{Machine, MeetsAll}
+use Rattle.demands.specs.Theorems.{Demands, StepDemands, Theorems}
 use Rattle.demands.proofs.Alike.{the-receiver-meets, runs-coincide}
 use Rattle.demands.proofs.Coded.{code-meets}
 use Rattle.demands.proofs.One.{demand-1, demand-1-tags}
 use Rattle.demands.proofs.Told.{arrivals-recovered}
 use Rattle.demands.proofs.Three.{demand-3, fresh-decides}
 use Rattle.demands.proofs.After.{never-twice, unlimited-never-twice, opened-decides, restart-gets-through, counts-once, resets-seen}
+use Rattle.demands.proofs.Stepping.{the-machine-meets, steps-are-calls, batches-are-calls, seen-as-calls, demand-1-steps, demand-3-steps, steps-coincide}
 use Rattle.demands.proofs.Runs.{wrap-meets, bound-reached, premises-are, bound-sharp, premises-needed}
+use Rattle.demands.proofs.StepRuns.{wrap-in-one}
 use Rattle.demands.proofs.Wrong.{right-otherwise, ruled-out}
 
 pub demands : {receive : Receiver} → MeetsContract receive → Demands receive
@@ -24,18 +27,31 @@ demands m = record {
   resets-seen = resets-seen m;
 }
 
+pub step-demands : {m : Machine} → MeetsAll m → StepDemands m
+step-demands k = record {
+  demand-1-steps = demand-1-steps k;
+  demand-3-steps = demand-3-steps k;
+  steps-are-calls = steps-are-calls k;
+  batches-are-calls = batches-are-calls k;
+  seen-as-calls = seen-as-calls k;
+}
+
 pub theorems : Theorems
 theorems = record {
   demands = λ receive m. demands m;
   met = the-receiver-meets;
   code-meets = code-meets;
   runs-coincide = runs-coincide;
+  step-demands = λ m k. step-demands k;
+  all-met = the-machine-meets;
+  steps-coincide = steps-coincide;
   tags-1 = λ tagger m. demand-1-tags m;
   tags-2 = λ tagger m. m;
   unlimited-never-twice = unlimited-never-twice;
   ruled-out = ruled-out;
   right-otherwise = right-otherwise;
   wrap-meets = wrap-meets;
+  wrap-in-one = wrap-in-one;
   bound-reached = bound-reached;
   premises-are = premises-are;
   bound-sharp = bound-sharp;

@@ -6,7 +6,9 @@ pub mod Wrong
 pub mod Seen
 pub mod Unlimited
 pub mod Demand3
+pub mod Steps
 pub mod Corollaries
 pub mod Examples
 pub mod Needed
+pub mod StepExamples
 pub mod Theorems

@@ -7,10 +7,12 @@ use Rattle.demands.specs.Demand1.{Demand1, Demand1Tags}
 use Rattle.demands.specs.Demand2.{Demand2, Demand2Tags, ArrivalsRecovered}
 use Rattle.demands.specs.Seen.{ResetsSeen}
 use Rattle.demands.specs.Demand3.{Demand3}
+use Rattle.demands.specs.Steps.{Machine, MeetsAll, theMachine, StepsAreCalls, BatchesAreCalls, SeenAsCalls, Demand1Steps, Demand3Steps, StepsCoincide}
 use Rattle.demands.specs.Corollaries.{NeverTwice, UnlimitedNeverTwice, FreshDecides, OpenedDecides, RestartGetsThrough, CountsOnce}
 use Rattle.demands.specs.Wrong.{RightOtherwise, RuledOut}
 use Rattle.demands.specs.Examples.{WrapMeets}
 use Rattle.demands.specs.Needed.{BoundReached, PremisesAre, BoundSharp, PremisesNeeded}
+use Rattle.demands.specs.StepExamples.{WrapInOne}
 
 -- Of a receiver.
 pub record Demands (receive : Receiver) : Type 0 where
@@ -25,6 +27,15 @@ pub record Demands (receive : Receiver) : Type 0 where
   pub counts-once : CountsOnce receive
   pub resets-seen : ResetsSeen receive
 
+-- Of a receiver with the batch beside it: demands 1 and 3 of steps that are single calls and batches, and that these are read
+-- as the calls that they are.
+pub record StepDemands (m : Machine) : Type 0 where
+  pub demand-1-steps : Demand1Steps m
+  pub demand-3-steps : Demand3Steps m
+  pub steps-are-calls : StepsAreCalls m
+  pub batches-are-calls : BatchesAreCalls m
+  pub seen-as-calls : SeenAsCalls m
+
 pub record Theorems : Type 2 where
   -- Every receiver that meets the contract fulfils the demands,
   pub demands : (receive : Receiver) → MeetsContract receive → Demands receive
@@ -33,6 +44,10 @@ pub record Theorems : Type 2 where
   pub met : MeetsContract theReceiver
   pub code-meets : CodeMeets
   pub runs-coincide : RunsCoincide
+  -- the same of a program that makes batches too;
+  pub step-demands : (m : Machine) → MeetsAll m → StepDemands m
+  pub all-met : MeetsAll theMachine
+  pub steps-coincide : StepsCoincide
   -- the same of the two calls that have no table.
   pub tags-1 : (tagger : Tagger) → MeetsTags tagger → Demand1Tags tagger
   pub tags-2 : (tagger : Tagger) → MeetsTags tagger → Demand2Tags tagger
@@ -41,9 +56,10 @@ pub record Theorems : Type 2 where
   -- The wrong receivers of document 01 fail, and those that are made by `deciding` are wrong in nothing else.
   pub ruled-out : RuledOut
   pub right-otherwise : RightOtherwise
-  -- Demand 3's premises can be met, by a run over the wrap and by runs that reach its bound; the bound is sharp; and each of
-  -- the premises is needed.
+  -- Demand 3's premises can be met, by a run over the wrap, single calls or one batch, and by runs that reach its bound; the
+  -- bound is sharp; and each of the premises is needed.
   pub wrap-meets : WrapMeets
+  pub wrap-in-one : WrapInOne
   pub bound-reached : BoundReached
   pub premises-are : PremisesAre
   pub bound-sharp : BoundSharp

@@ -2,6 +2,8 @@
 
 #![allow(dead_code)]
 
+use std::collections::HashMap;
+
 use second::random::Random;
 use second::{arrival, Arrival, Refusal, Settings, Stream, Verdict};
 
@@ -11,6 +13,10 @@ pub const DESTINATION: [u8; 6] = [2, 0, 0, 0, 0, 1];
 pub const SOURCE: [u8; 6] = [2, 0, 0, 0, 0, 2];
 /// What stands in an output before a call.
 pub const FILL: u8 = 0xA5;
+/// The destinations of random tables and frames.
+pub const DESTINATIONS: [[u8; 6]; 3] = [DESTINATION, [2, 0, 0, 0, 0, 2], [1, 2, 3, 4, 5, 6]];
+/// Their VLAN ids.
+pub const VLANS: [u16; 5] = [0, 0, 5, 4094, 4095];
 
 /// Lawful settings with this rule, L and R.
 pub fn settings(rule: u8, window: u8, reset_time: u16) -> Settings {
@@ -158,4 +164,70 @@ pub fn any_stream(random: &mut Random, destinations: &[[u8; 6]], vlans: &[u16]) 
 
 fn any_counter(random: &mut Random) -> u64 {
     random.pick(&[0, 1, 5, u64::MAX, u64::MAX - 1])
+}
+
+/// A table with anything in it.
+pub fn any_table(random: &mut Random) -> Vec<Stream> {
+    let slots = random.pick(&[0, 1, 2, 3, 5, 8, 63, 64, 65, 70]);
+    let mut table: Vec<Stream> = (0..slots)
+        .map(|_| any_stream(random, &DESTINATIONS, &VLANS))
+        .collect();
+    if random.chance(1, 3) {
+        // A full table is rare otherwise.
+        for stream in &mut table {
+            stream.in_use = 1;
+        }
+    }
+    table
+}
+
+/// A frame, often for a stream of such a table.
+pub fn any_frame(random: &mut Random) -> Vec<u8> {
+    let mut frame = Vec::new();
+    frame.extend(random.pick(&DESTINATIONS));
+    frame.extend(SOURCE);
+    if random.chance(1, 5) {
+        // Half of these are groups.
+        frame[6] = random.pick(&[0x00, 0x80, 0xFE, 0x01, 0x03, 0xFF]);
+    }
+    let vlan = random.pick(&VLANS);
+    if vlan != 0 || random.chance(1, 4) {
+        frame.extend([0x81, 0x00]);
+        frame.extend((vlan | (random.word() & 0xF000)).to_be_bytes());
+    }
+    if random.chance(3, 4) {
+        frame.extend([0xF1, 0xC1, random.byte(), 0]);
+        frame.extend(
+            random
+                .pick(&[0u16, 1, 2, 3, 7, 8, 65533, 65534, 65535])
+                .to_be_bytes(),
+        );
+    }
+    frame.extend(random.pick(&[[0x08, 0x00], [0xF1, 0xC1], [0x81, 0x00]]));
+    frame.resize(frame.len() + random.below(6) as usize, 0x33);
+    match random.below(12) {
+        0 => frame.truncate(random.pick(&[0, 5, 13, 14, 17, 18, 19, 20, 23, 24])),
+        1 => frame.resize(random.pick(&[1994, 1995, 2000, 2001, 2010]), 0x44),
+        _ => {}
+    }
+    frame
+}
+
+/// Counts answers, so that a run that met too little can be told.
+#[derive(Default)]
+pub struct Seen(HashMap<(&'static str, u8), u64>);
+
+impl Seen {
+    /// Counts one answer of a call.
+    pub fn note(&mut self, call: &'static str, answer: u8) {
+        *self.0.entry((call, answer)).or_default() += 1;
+    }
+
+    /// Each of these answers was met, and not just once.
+    pub fn all_met(&self, call: &'static str, answers: &[u8]) {
+        for &answer in answers {
+            let met = self.0.get(&(call, answer)).copied().unwrap_or(0);
+            assert!(met >= 20, "{call} gave {answer} only {met} times");
+        }
+    }
 }

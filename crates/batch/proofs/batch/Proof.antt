@@ -51,12 +51,10 @@ use Rattle.receiver.proofs.Calling.{told, calls-value, calls-with}
 use Rattle.receiver.proofs.Lending.{mut-own}
 use Rattle.receiver.proofs.Local.{lends-array, array-back}
 use Rattle.receiver.proofs.Rows.{R}
-use Rattle.batch.proofs.Answers.{Answers, answers-ty, answers-val, answers-tells, answers-typed, answers-has, answers-same, batched-made}
 use Rattle.batch.proofs.Arriving.{leaves}
 use Rattle.batch.proofs.Comes.{filled-is-batch}
 use Rattle.batch.proofs.Fields.{cursor-frames, cursor-refusal}
-use Rattle.batch.proofs.Middle.{Answers}
-use Rattle.batch.proofs.Packing.{whole, lent}
+use Rattle.batch.proofs.ThirtyTwo.{ThirtyTwo, thirtytwo-ty, thirtytwo-val, thirtytwo-tells, thirtytwo-typed, thirtytwo-has, thirtytwo-same, batched-made}
 use Rattle.batch.proofs.Values.{arrivalanswer-row, arrivalanswer-val, arrivalanswer-tells, cursor-val, cursor-tells, cursor-typed, batched-val, batched-ok, batched-typed, batched-has}
 use Rattle.batch.proofs.unreached as fn-unreached
 use Rattle.batch.proofs.unreached.Symbol as fn-unreached-def
@@ -141,9 +139,9 @@ module _ {M : Type 1} (𝓤 : URA M) (H : Heap 𝓤) (A : Atoms 𝓤) (W : Given
         pass1 ! (init ! 26 refl (tt, (tt, (record { fits = g-ys .0 }, tt)))) $ pass1 ! (init ! 24 refl (tt, record { fits = g-network })) $ pass1 ! (init ! 22 refl (tt, record { fits = g-count })) $ pass1 ! (init ! 20 refl (tt, (tt, (record { fits = g-bs .0 }, tt)))) $ pass1 ! (init ! 18 refl (tt, (tt, (record { fits = g-us .0 }, tt)))) $ pass0 ! $
         move ! (31 ∷ 30 ∷ []) $
         -- [what the parameters own; the tokens; the locals]
-        calls-value {𝓤 = 𝓤} {H = H} {A = A} ! fm fn-unreached.ended (fn-unreached.clauses 𝓤 H A mem run) (known .unreached′) ((tt, tt, tt, tt, tt), tt) (qed W [] ∵ nothing ! $ nothing ! $ join ! $ frame ! $ done !) answers-val (λ es vs p. answers-tells es vs p) (λ (es : Answers). es ≡ replicate framesMost mark) (λ es ws. id⊢ 𝓤 _) (no-more !) (λ es g-es marked.
-        land ! (from ! (stop !)) (init ! 14 refl (answers-typed 𝓤 H A W es g-es)) $
-        assigns ! (of-opd ! (load ! (from ! (stop !)) (look-cell ! 14 refl))) (from ! (stop !)) (init ! 18 refl (answers-typed 𝓤 H A W es g-es)) $
+        calls-value {𝓤 = 𝓤} {H = H} {A = A} ! fm fn-unreached.ended (fn-unreached.clauses 𝓤 H A mem run) (known .unreached′) ((tt, tt, tt, tt, tt), tt) (qed W [] ∵ nothing ! $ nothing ! $ join ! $ frame ! $ done !) thirtytwo-val (λ es vs p. thirtytwo-tells es vs p) (λ (es : ThirtyTwo). es ≡ replicate framesMost mark) (λ es ws. id⊢ 𝓤 _) (no-more !) (λ es g-es marked.
+        land ! (from ! (stop !)) (init ! 14 refl (thirtytwo-typed 𝓤 H A W es g-es)) $
+        assigns ! (of-opd ! (load ! (from ! (stop !)) (look-cell ! 14 refl))) (from ! (stop !)) (init ! 18 refl (thirtytwo-typed 𝓤 H A W es g-es)) $
         assigns ! (addr ! (from ! (fld ! refl (hop ! (look-in ! 28 (sub ! 0 refl (whole !))) (stop !))))) (from ! (stop !)) (init ! 12 refl (tt, tt)) $
         assigns ! (agg ! (and-then ! (load ! (from ! (stop !)) (look-cell ! 12 refl)) (and-then ! (load ! (from ! (fld ! refl (stop !))) (look-in ! 28 (sub ! 1 refl (whole !)))) (no-more !)))) (from ! (stop !)) (init ! 10 refl (tt, (tt, (record { fits = g-ys .0 }, tt)))) $
         assigns ! (addr ! (from ! (fld ! refl (hop ! (look-in ! 20 (sub ! 0 refl (whole !))) (stop !))))) (from ! (stop !)) (init ! 8 refl (tt, tt)) $
@@ -154,9 +152,9 @@ module _ {M : Type 1} (𝓤 : URA M) (H : Heap 𝓤) (A : Atoms 𝓤) (W : Given
         assigns ! (agg ! (and-then ! (load ! (from ! (stop !)) (look-cell ! 4 refl)) (and-then ! (lit ! tt) (no-more !)))) (from ! (stop !)) (init ! 2 refl (tt, (tt, (record { fits = lit< tt }, tt)))) $
         rewrite ! 2 (λ (m : ℕ). ‵ (fat fullShare (sliceTy (tyRef erased mut (pointee (arrivalanswer-row .written)))) l₁₄ 0 (sliceVal (l₆, 0) m))) (sym many) refl $
         -- the answers are lent for a lifetime ν
-        answers-has ! es g-es $ lft-new ! tt (λ ν.
+        thirtytwo-has ! es g-es $ lft-new ! tt (λ ν.
         -- [ν's token; what the answers own; what the parameters own; the tokens; the locals]
-        move ! (20 ∷ 1 ∷ []) $ use2 W (later (some (λ (δ : GName). ‵ (mut-own arrivalanswer-row l₆ 0 ν δ es) ⊛ ‵ (flent (ν ∷ []) (Held arrivalanswer-row (length es) l₆ 0 δ))))) (lends-array 𝓤 H A W arrivalanswer-row tt 32 l₆ (named 0) (ν ∷ []) es (answers-val es) room) $ await ! tt $ pick ! (λ δ. split ! $
+        move ! (20 ∷ 1 ∷ []) $ use2 W (later (some (λ (δ : GName). ‵ (mut-own arrivalanswer-row l₆ 0 ν δ es) ⊛ ‵ (flent (ν ∷ []) (Held arrivalanswer-row (length es) l₆ 0 δ))))) (lends-array 𝓤 H A W arrivalanswer-row tt 32 l₆ (named 0) (ν ∷ []) es (thirtytwo-val es) room) $ await ! tt $ pick ! (λ δ. split ! $
         -- [the loan; the lender's part; ν's token; what the parameters own; the tokens; the locals, _6 without its cell]
         move ! (3 ∷ []) $ fsplit ! $ move ! (1 ∷ []) $ fsplit ! $ move ! (1 ∷ []) $ fsplit ! $ move ! (1 ∷ []) $ fsplit ! $ move ! (1 ∷ []) $ fsplit ! $
         move ! (6 ∷ 1 ∷ []) $ fjoin ! $ move ! (1 ∷ 0 ∷ []) $ fjoin ! $ move ! (1 ∷ 0 ∷ []) $ fjoin ! $ move ! (1 ∷ 0 ∷ []) $ fjoin ! $ move ! (1 ∷ 0 ∷ []) $ fjoin ! $ move ! (1 ∷ 0 ∷ []) $ fjoin ! $
@@ -181,8 +179,8 @@ module _ {M : Type 1} (𝓤 : URA M) (H : Heap 𝓤) (A : Atoms 𝓤) (W : Given
         -- [_6; the tokens; what is left of the lists; the locals]
         move ! (1 ∷ 2 ∷ 3 ∷ 4 ∷ 5 ∷ 6 ∷ 7 ∷ 8 ∷ 9 ∷ 10 ∷ 11 ∷ 12 ∷ 13 ∷ 14 ∷ 15 ∷ 16 ∷ 17 ∷ 18 ∷ 0 ∷ []) $
         land ! (from ! (stop !)) (init ! 16 refl (cursor-typed 𝓤 H A W r g-r)) $
-        assigns ! (of-opd ! (load ! (from ! (stop !)) (look-cell ! 18 refl))) (from ! (stop !)) (store-cell ! 14 refl (answers-typed 𝓤 H A W (ws .1 .1 .1 .1 .1 .0) is)) $
-        rewrite ! 14 (λ (v : Val). ‵ (fat fullShare answers-ty l₈ 0 v)) (answers-same (ws .1 .1 .1 .1 .1 .0) is) refl $
+        assigns ! (of-opd ! (load ! (from ! (stop !)) (look-cell ! 18 refl))) (from ! (stop !)) (store-cell ! 14 refl (thirtytwo-typed 𝓤 H A W (ws .1 .1 .1 .1 .1 .0) is)) $
+        rewrite ! 14 (λ (v : Val). ‵ (fat fullShare thirtytwo-ty l₈ 0 v)) (thirtytwo-same (ws .1 .1 .1 .1 .1 .0) is) refl $
         let told : Batched = record { answers = ws .1 .1 .1 .1 .1 .0; frames = r .frames; refusal = r .refusal } in
         let g-told : batched-ok told = batched-made (ws .1 .1 .1 .1 .1 .0) (r .frames) (r .refusal) is (cursor-frames r g-r) (cursor-refusal r g-r) in
         assigns ! (agg ! (and-then ! (load ! (from ! (stop !)) (look-cell ! 14 refl)) (and-then ! (load ! (from ! (fld ! refl (stop !))) (look-in ! 16 (sub ! 3 refl (whole !)))) (and-then ! (load ! (from ! (fld ! refl (stop !))) (look-in ! 16 (sub ! 4 refl (whole !)))) (no-more !))))) (from ! (stop !)) (init ! 30 refl (batched-typed 𝓤 H A W told g-told)) $

@@ -1,0 +1,2 @@
+-- What a walk names of the answer.
+pub mod Values
