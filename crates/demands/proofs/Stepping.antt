@@ -10,7 +10,7 @@ use Rattle.calls.specs.Table.{Table}
 use Rattle.calls.specs.Calls.{Call}
 use Rattle.calls.proofs.Kept.{coincide}
 use Rattle.batch.specs.Batch.{Batch, Turn, comesTo, turnsOf, reached, bundle, batchOf}
-use Rattle.batch.proofs.Exactly.{refused-exactly}
+use Rattle.batch.proofs.Refusing.{refused-exactly}
 use Rattle.demands.specs.Receiver.{theReceiver, run}
 use Rattle.demands.specs.Seen.{Seen, seen, log, verdicts}
 use Rattle.demands.specs.Steps.{Step, single, batch, Machine, MeetsAll, theMachine, tableOf, ranSteps, callsOf, readAs, StepsAreCalls, AsCalls, BatchesAreCalls, RefusesStep, EachStep, Demand1Steps, seenIn, seenOfStep, logSteps, SeenAsCalls, Demand3Steps, Got, result, told, leftBy, EnsuredStep, EnsuredSteps, given, givenAll, StepsCoincide}
