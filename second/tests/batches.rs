@@ -5,7 +5,7 @@ mod common;
 
 use common::*;
 use second::random::Random;
-use second::{arrival, batch, Arrival, Batch, Refusal, Stream};
+use second::{arrival, batch, Arrival, Batch, Refusal, Stream, Verdict};
 
 /// What one frame of a batch is answered, and the mark of one not reached.
 type Answer = Option<Result<Arrival, Refusal>>;
@@ -58,19 +58,20 @@ fn refused() -> (Vec<Stream>, Vec<(u8, Vec<u8>)>) {
 }
 
 /// The answers as words and numbers, up to the last that was reached.
-fn told(answers: &[Answer]) -> Vec<String> {
+fn told(answers: &[Answer]) -> String {
     let reached = answers.iter().take_while(|a| a.is_some()).count();
     assert!(answers[reached..].iter().all(Option::is_none));
     let one = |answer: &Answer| match answer.unwrap() {
         Ok(arrival) => word(arrival).to_string(),
         Err(why) => why.number().to_string(),
     };
-    answers[..reached].iter().map(one).collect()
+    let words: Vec<String> = answers[..reached].iter().map(one).collect();
+    words.join(" ")
 }
 
 /// A batch on network 0 that is not refused: how many frames it tells, and what
 /// they were answered.
-fn told_of(table: &mut [Stream], frames: &[Vec<u8>], output: &mut [u8]) -> (usize, Vec<String>) {
+fn told_of(table: &mut [Stream], frames: &[Vec<u8>], output: &mut [u8]) -> (usize, String) {
     let done = batch(table, 0, frames.len(), &packed(frames), output).unwrap();
     (done.frames, told(&done.answers))
 }
@@ -98,12 +99,7 @@ fn frames_handed_up_are_packed_in_the_same_form() {
     let frames = [7, 7, 8, 100, 6].map(tagged).to_vec();
     assert_eq!(
         told_of(&mut table, &frames, &mut output),
-        (
-            5,
-            ["up", "duplicate", "up", "rogue", "up"]
-                .map(String::from)
-                .to_vec()
-        )
+        (5, "up duplicate up rogue up".into())
     );
     // Duplicate and rogue write nothing, not even a length.
     let up = packed(&[7, 8, 6].map(|number| bare(&tagged(number))));
@@ -114,7 +110,7 @@ fn frames_handed_up_are_packed_in_the_same_form() {
 }
 
 #[test]
-fn the_length_that_is_told_is_the_frame_s_alone() {
+fn the_answer_is_that_of_the_single_arrival() {
     let mut table = [fresh(Stream::VECTOR, 4, 3)];
     let done = batch(&mut table, 1, 1, &packed(&[tagged(7)]), &mut [0; 40]).unwrap();
     let single = arrival(
@@ -134,9 +130,8 @@ fn a_refused_frame_is_answered_in_its_place_and_the_rest_go_on() {
         let mut table = table.clone();
         let mut output = [FILL; 2 * TAKES];
         let frames = [tagged(7), frame, tagged(8)];
-        let (count, answers) = told_of(&mut table, &frames, &mut output);
-        assert_eq!((count, answers[1].as_str()), (3, &*number.to_string()));
-        assert_eq!(answers[2], "up");
+        let expected = (3, format!("up {number} up"));
+        assert_eq!(told_of(&mut table, &frames, &mut output), expected);
         let up = packed(&[bare(&tagged(7)), bare(&tagged(8))]);
         assert_eq!(output[..], up);
     }
@@ -146,12 +141,12 @@ fn a_refused_frame_is_answered_in_its_place_and_the_rest_go_on() {
 fn frames_refused_for_other_reasons_need_no_room() {
     let (table, cases) = refused();
     let (numbers, frames): (Vec<u8>, Vec<Vec<u8>>) = cases.into_iter().unzip();
-    let numbers: Vec<String> = numbers.iter().map(u8::to_string).collect();
+    assert_eq!(numbers, [3, 4, 4, 5, 14, 6, 7]);
     for room in [0, 1, 2] {
         let mut after = table.clone();
         let mut output = vec![FILL; room];
-        let (count, answers) = told_of(&mut after, &frames, &mut output);
-        assert_eq!((count, answers), (frames.len(), numbers.clone()));
+        let expected = (7, "3 4 4 5 14 6 7".into());
+        assert_eq!(told_of(&mut after, &frames, &mut output), expected);
         assert_eq!((after, output), (table.clone(), vec![FILL; room]));
     }
 }
@@ -162,14 +157,14 @@ fn an_8_is_answered_in_its_place_and_ends_the_call() {
     let mut output = [FILL; 2 * TAKES - 1];
     let frames = [7, 8, 9].map(tagged).to_vec();
     // One frame came before it, though two have answers.
-    let (count, answers) = told_of(&mut table, &frames, &mut output);
-    assert_eq!((count, answers), (1, vec!["up".into(), "8".into()]));
+    let expected = (1, "up 8".into());
+    assert_eq!(told_of(&mut table, &frames, &mut output), expected);
     assert_eq!((table[0].anchor, table[0].passed), (7, 1));
     assert_eq!(output[TAKES..], [FILL; TAKES - 1]);
     // The rest of the ring, with a new output, loses nothing.
     let mut output = [FILL; 2 * TAKES];
-    let (count, answers) = told_of(&mut table, &frames[1..], &mut output);
-    assert_eq!((count, answers), (2, vec!["up".into(), "up".into()]));
+    let expected = (2, "up up".into());
+    assert_eq!(told_of(&mut table, &frames[1..], &mut output), expected);
 }
 
 #[test]
@@ -178,8 +173,8 @@ fn a_frame_that_would_fit_behind_an_8_is_not_reached() {
     let mut long = tagged(7);
     long.resize(200, 0);
     for later in [tagged(8), Vec::new()] {
-        let (count, answers) = told_of(&mut table, &[long.clone(), later], &mut [0; 50]);
-        assert_eq!((count, answers), (0, vec!["8".into()]));
+        let got = told_of(&mut table, &[long.clone(), later], &mut [0; 50]);
+        assert_eq!(got, (0, "8".into()));
     }
     assert_eq!(table[0], fresh(Stream::VECTOR, 4, 3));
 }
@@ -189,16 +184,14 @@ fn a_duplicate_or_a_rogue_without_room_ends_the_call_too() {
     for (second, word) in [(7, "duplicate"), (900, "rogue")] {
         let frames = [7, second, 8].map(tagged).to_vec();
         for (room, count, answers) in [
-            // Both see the same room, for the second one takes none.
-            (2 * TAKES - 1, 1, vec!["up", "8"]),
-            (2 * TAKES, 3, vec!["up", word, "up"]),
+            (TAKES, 1, "up 8".to_string()),
+            // The third has the room that the second had, which took none.
+            (2 * TAKES - 1, 1, "up 8".to_string()),
+            (2 * TAKES, 3, format!("up {word} up")),
         ] {
             let mut table = [fresh(Stream::VECTOR, 4, 3)];
             let got = told_of(&mut table, &frames, &mut vec![FILL; room]);
-            assert_eq!(
-                got,
-                (count, answers.into_iter().map(String::from).collect())
-            );
+            assert_eq!(got, (count, answers));
             assert_eq!(table[0].arrivals, [count as u64, 0]);
         }
     }
@@ -211,9 +204,8 @@ fn the_room_at_its_edges() {
         let mut output = vec![FILL; room];
         let frames = [7, 8, 9].map(smallest).to_vec();
         let fit = room / 16;
-        let (count, answers) = told_of(&mut table, &frames, &mut output);
-        assert_eq!((count, answers.len()), (fit, fit + 1), "room {room}");
-        assert_eq!(answers[fit], "8");
+        let expected = (fit, "up ".repeat(fit) + "8");
+        assert_eq!(told_of(&mut table, &frames, &mut output), expected);
         let up = packed(&frames[..fit].iter().map(|f| bare(f)).collect::<Vec<_>>());
         assert_eq!(output[..up.len()], up);
         assert!(output[up.len()..].iter().all(|&b| b == FILL));
@@ -246,7 +238,7 @@ fn up_to_32_frames() {
     // The frames behind the 32nd are input behind the last one.
     let done = batch(&mut table, 0, 32, &input, &mut [0; 32 * TAKES]).unwrap();
     assert_eq!(done.frames, 32);
-    assert_eq!(told(&done.answers), vec!["up"; 32]);
+    assert_eq!(told(&done.answers), ["up"; 32].join(" "));
     for count in [33, 34, 256, 1 << 16, usize::MAX] {
         is_refused(15, &mut [fresh(Stream::VECTOR, 4, 3)], 0, count, &input);
     }
@@ -262,7 +254,7 @@ fn lengths_that_run_past_the_buffer() {
         is_refused(15, table, 0, 2, &whole[..end]);
     }
     is_refused(15, table, 0, 3, &whole);
-    // One byte too many is said by the last length, or by the first.
+    // One byte too many by the last length, and far too many by the first.
     let mut input = whole.clone();
     input[24] += 1;
     is_refused(15, table, 0, 2, &input);
@@ -293,7 +285,7 @@ fn refusals_1_and_2_come_before_15() {
     is_refused(15, &mut table, 1, 33, &good);
     // The frames need no stream for the batch to be good.
     let done = batch(&mut [], 0, 1, &good, &mut []).unwrap();
-    assert_eq!((done.frames, told(&done.answers)), (1, vec!["6".into()]));
+    assert_eq!((done.frames, told(&done.answers)), (1, "6".into()));
 }
 
 #[test]
@@ -304,8 +296,8 @@ fn short_and_long_frames_are_no_15() {
     frames.push(tagged(7));
     frames[4].resize(2000, 0);
     let mut output = [0; 1996];
-    let (count, answers) = told_of(&mut table, &frames, &mut output);
-    assert_eq!((count, answers.join(" ")), (5, "4 4 3 3 up".into()));
+    let expected = (5, "4 4 3 3 up".into());
+    assert_eq!(told_of(&mut table, &frames, &mut output), expected);
     assert_eq!(output[..2], [0x07, 0xCA]);
 }
 
@@ -321,7 +313,7 @@ fn input_behind_the_last_frame_is_ignored() {
         let mut table = [fresh(Stream::VECTOR, 4, 3)];
         let input = [&packed(&[tagged(7), tagged(8)]), behind].concat();
         let done = batch(&mut table, 0, 2, &input, &mut [0; 100]).unwrap();
-        assert_eq!((done.frames, told(&done.answers).len()), (2, 2));
+        assert_eq!((done.frames, told(&done.answers)), (2, "up up".into()));
         assert_eq!(table[0].anchor, 8);
     }
 }
@@ -373,7 +365,9 @@ fn in_turn(
         match answer {
             Err(Refusal::OutputTooSmall) => return (0, frame, answers, used),
             Ok(a) if word(a) == "up" => {
-                let length = starts[frame + 1] - starts[frame] - 8;
+                // Two length bytes in front of it, and six of its tag.
+                let length = starts[frame + 1] - starts[frame] - 2 - 6;
+                assert_eq!(a.verdict, Verdict::HandedUp { length });
                 output[used] = (length / 256) as u8;
                 output[used + 1] = (length % 256) as u8;
                 output[used + 2..used + 2 + length].copy_from_slice(&own[..length]);

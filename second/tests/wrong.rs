@@ -14,8 +14,8 @@ use second::{arrival, batch, close, open, reset, take_tag, tick, write_tag, Stre
 
 const DESTINATIONS: [[u8; 6]; 2] = [DESTINATION, [2, 0, 0, 0, 0, 2]];
 
-/// The input of a batch of this frame, its twin and two others, at times cut and
-/// at times with more behind it, and its count.
+/// Count and input of a batch: this frame and its twins among others, at times
+/// cut, at times with more behind the last one.
 fn frames(random: &mut Random, tagged: &[u8]) -> (usize, Vec<u8>) {
     let mut input = Vec::new();
     let count = random.pick(&[0, 1, 3, 4, 4, 4, 32, 33]);

@@ -47,8 +47,8 @@ module _ (used room : ℕ) where
   pub no-room : room < used + 2 → room ≡ fromOf used room
   no-room h = simp (lt-leb _ _ h)
 
-  pub some-room : used + 2 ≤ room → used + 2 ≡ fromOf used room
-  some-room h = simp (le-leb _ _ h)
+  pub some-room : {from : ℕ} → used + 2 ≤ room → from ≡ used + 2 → from ≡ fromOf used room
+  some-room h e = e ∙ simp (le-leb _ _ h)
 
 module _ (c : Cursor) (s : List ℕ) (room : ℕ) where
   pub no-frame : c .left ≡ 0 → Done ≡ nextFrame c s room
@@ -79,10 +79,10 @@ module _ (e : ArrivalAnswer) where
     put-none h = simp (ne-eqb _ _ h)
 
   module _ (c : Cursor) (end : ℕ) {used : ℕ} (p : used ≡ c .used + added e) where
-    pub ends-here : e .refusal ≡ ROOM
-        → _≡_ {A = Cursor} (record { at = end; used = used; left = 0; frames = c .frames; refusal = c .refusal }) (cursorAfter c end e)
+    pub ends-here : {left : ℕ} → e .refusal ≡ ROOM → left ≡ 0
+        → _≡_ {A = Cursor} (record { at = end; used = used; left = left; frames = c .frames; refusal = c .refusal }) (cursorAfter c end e)
     unfolding cursorAfter
-    ends-here h = rw p (simp (eq-eqb _ _ h))
+    ends-here h q = rw (p, q) (simp (eq-eqb _ _ h))
 
     pub goes-on : (e .refusal ≡ ROOM → ⊥)
         → _≡_ {A = Cursor} (record { at = end; used = used; left = c .left - 1; frames = c .frames + 1; refusal = c .refusal }) (cursorAfter c end e)

@@ -137,10 +137,11 @@ fn put_length(out: &mut [u8], used: usize, e: ArrivalAnswer)
     requires { ⌜ used + added e ≤ length (now out) ⌝ }
     ensures { λ _. ⌜ now (out .exit) ≡ lengthPut used e (now (out .entry)) ⌝ }
 {
-    if e.verdict == 1 {
-        out[used] = (e.length / 256 % 256) as u8;
-        out[used + 1] = (e.length % 256) as u8;
+    if e.verdict != 1 {
+        return;
     }
+    out[used] = (e.length / 256 % 256) as u8;
+    out[used + 1] = (e.length % 256) as u8;
 }
 
 // Where the batch is behind a frame: 8 ends it.

@@ -109,7 +109,8 @@ fn in_digits(n: u8) -> Numeral
         refusal::SLOT => Numeral::Two(b'1', b'2'),
         refusal::TAGGED => Numeral::Two(b'1', b'3'),
         refusal::GROUP => Numeral::Two(b'1', b'4'),
-        0 | 15..=255 => Numeral::Other(n),
+        refusal::BATCH => Numeral::Two(b'1', b'5'),
+        0 | 16..=255 => Numeral::Other(n),
     }
 }
 

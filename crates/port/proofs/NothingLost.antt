@@ -20,10 +20,11 @@ use Rattle.calls.specs.Table.{Table, at, search, someSlot, hasKey, isFree}
 use Rattle.calls.specs.Calls.{Call, arriving, opening, closing, resetting, ticking, Act, refuse, arrive, opens, closes, resets, ticks, Answer, Verdict, arrived, placed, done, swept, handedUp, duplicate, rogue, arrivalAt, arrival, inUse, open-call, checked, act, answer}
 use Rattle.calls.specs.Refusals.{checksOf}
 use Rattle.calls.proofs.Exactly.{refused-exactly}
-use Rattle.port.specs.declared.ArrivalAnswer.{ArrivalAnswer}
+use Rattle.calls.specs.declared.ArrivalAnswer.{ArrivalAnswer}
 use Rattle.port.specs.declared.SlotAnswer.{SlotAnswer}
 use Rattle.port.specs.declared.TickAnswer.{TickAnswer}
-use Rattle.port.specs.Answers.{tellArrival, tellOpened, tellDone, tellSwept, ArrivalTold, OpenTold, CloseTold, ResetTold, TickTold}
+use Rattle.calls.specs.Told.{tellArrival}
+use Rattle.port.specs.Answers.{tellOpened, tellDone, tellSwept, ArrivalTold, OpenTold, CloseTold, ResetTold, TickTold}
 
 -- ---- no refusal has the number 0
 

@@ -16,6 +16,5 @@ pub extern "C" fn nippitsun_batch(
 ) -> Batched
     ensures { λ r. ⌜ MeetsBatch (now (table .entry)) (record { network = network; count = count; frames = now (frames .entry); out = now (out .entry) }) r (now (table .exit)) (now (out .exit)) ⌝ }
 {
-    let b = batch::batch(table, network, count, frames, out);
-    b
+    batch::batch(table, network, count, frames, out)
 }

@@ -9,7 +9,7 @@ used-after-requires : tie.Need-used-after-requires
 used-after-requires c κs = search needs
 
 returns : tie.Need-returns
-returns c = ends-here _ _ _ (c .before .before .used-after .ensures) (omega arith)
+returns c = ends-here _ _ _ (c .before .before .used-after .ensures) (omega arith) (omega arith)
 
 sub-t6 : tie.Need-sub-t6
 sub-t6 c = search needs

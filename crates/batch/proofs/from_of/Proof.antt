@@ -15,7 +15,7 @@ add-result : tie.Need-add-result
 add-result c = search needs
 
 returns-2 : tie.Need-returns-2
-returns-2 c = some-room _ _ (omega arith)
+returns-2 c = some-room (c .before .args .used) (c .before .args .room) (omega arith) (omega arith)
 
 pub from-of-spec : {M : Type 1} → statement M
 from-of-spec = tie.close (tie.spec sub-if1 returns add-result returns-2)

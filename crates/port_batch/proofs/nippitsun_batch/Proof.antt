@@ -18,7 +18,7 @@ use contract.Monad.{Fun}
 use contract.Running.{givenOf, tables, tablesOf}
 use types.Kit.{Given, ‵, _⊛_, ⋆, post, _$_, _∵_, !, qed, by, move, keep, join, split, fjoin, fsplit, suffices, frame, done, use1, drop as lose}
 use types.Part.{whole, sub, look-in, agg}
-use types.Run.{look as look-cell, init, forget, stop, hop, fld, from, load, addr, and-then, no-more, of-opd, assigns, land, returns, enter, alloc1, alloc0, params1, pass1, pass0, free1, free0}
+use types.Run.{look as look-cell, init, forget, stop, hop, fld, from, load, addr, and-then, no-more, assigns, land, returns, enter, alloc1, alloc0, params1, pass1, pass0, free1, free0}
 use sound.WpLaws.{FmC, fmOf, WpFn-mono}
 use denote.RattleType.{owns}
 use denote.Laws.{Is}
@@ -98,19 +98,18 @@ module _ {M : Type 1} (𝓤 : URA M) (H : Heap 𝓤) (A : Atoms 𝓤) (W : Given
     walk : ent 𝓤 (onEntry 𝓤 H A fn.signature (κ, (κ₁, (κ₂, tt))) (q, (q₁, (q₂, tt))) x mv) (WpFn 𝓤 H C Λ code.function (sliceVal (b, o) (length ys) ∷ vint w8 network ∷ vint w64 count ∷ sliceVal (b₁, o₁) (length bs) ∷ sliceVal (b₂, o₂) (length us) ∷ []) Post′)
     walk =
         qed W ((‵ (flft κ q) ⊛ (‵ (flft κ₁ q₁) ⊛ (‵ (flft κ₂ q₂) ⊛ ‵ ftrue))) ∷ ‵ (owns (MutSlice (named 0) κ R ∷ u8 ∷ usize ∷ ShrSlice (named 1) κ₁ u8 ∷ MutSlice (named 2) κ₂ u8 ∷ []) x mv) ∷ []) ∵ enter ! C Λ code.function (sliceVal (b, o) (length ys) ∷ vint w8 network ∷ vint w64 count ∷ sliceVal (b₁, o₁) (length bs) ∷ sliceVal (b₂, o₂) (length us) ∷ []) _ $
-        alloc1 ! (λ l₀. alloc1 ! (λ l₁. alloc1 ! (λ l₂. alloc1 ! (λ l₃. alloc1 ! (λ l₄. alloc1 ! (λ l₅. alloc1 ! (λ l₆. alloc1 ! (λ l₇. alloc1 ! (λ l₈. alloc1 ! (λ l₉. alloc1 ! (λ l₁₀. alloc0 ! $ params1 ! $
-        pass1 ! (init ! 18 refl (tt, (tt, (record { fits = g-ys .0 }, tt)))) $ pass1 ! (init ! 16 refl (tt, record { fits = g-network })) $ pass1 ! (init ! 14 refl (tt, record { fits = g-count })) $ pass1 ! (init ! 12 refl (tt, (tt, (record { fits = g-bs .0 }, tt)))) $ pass1 ! (init ! 10 refl (tt, (tt, (record { fits = g-us .0 }, tt)))) $ pass0 ! $
-        move ! (23 ∷ 22 ∷ []) $ fsplit ! $ move ! (1 ∷ []) $ fsplit ! $ lose ! $ fsplit ! $ lose ! $ fsplit ! $ move ! (1 ∷ []) $ fsplit ! $ move ! (1 ∷ []) $ lose ! $ move ! (3 ∷ []) $ split ! $ move ! (1 ∷ []) $ split ! $ move ! (1 ∷ []) $ split ! $ move ! (1 ∷ []) $ lose ! $ move ! (3 ∷ 0 ∷ []) $ fsplit ! $ lose ! $ fsplit ! $ move ! (5 ∷ 3 ∷ []) $ move ! (6 ∷ 5 ∷ []) $ fsplit ! $ lose ! $ fsplit ! $
+        alloc1 ! (λ l₀. alloc1 ! (λ l₁. alloc1 ! (λ l₂. alloc1 ! (λ l₃. alloc1 ! (λ l₄. alloc1 ! (λ l₅. alloc1 ! (λ l₆. alloc1 ! (λ l₇. alloc1 ! (λ l₈. alloc1 ! (λ l₉. alloc0 ! $ params1 ! $
+        pass1 ! (init ! 16 refl (tt, (tt, (record { fits = g-ys .0 }, tt)))) $ pass1 ! (init ! 14 refl (tt, record { fits = g-network })) $ pass1 ! (init ! 12 refl (tt, record { fits = g-count })) $ pass1 ! (init ! 10 refl (tt, (tt, (record { fits = g-bs .0 }, tt)))) $ pass1 ! (init ! 8 refl (tt, (tt, (record { fits = g-us .0 }, tt)))) $ pass0 ! $
+        move ! (21 ∷ 20 ∷ []) $ fsplit ! $ move ! (1 ∷ []) $ fsplit ! $ lose ! $ fsplit ! $ lose ! $ fsplit ! $ move ! (1 ∷ []) $ fsplit ! $ move ! (1 ∷ []) $ lose ! $ move ! (3 ∷ []) $ split ! $ move ! (1 ∷ []) $ split ! $ move ! (1 ∷ []) $ split ! $ move ! (1 ∷ []) $ lose ! $ move ! (3 ∷ 0 ∷ []) $ fsplit ! $ lose ! $ fsplit ! $ move ! (5 ∷ 3 ∷ []) $ move ! (6 ∷ 5 ∷ []) $ fsplit ! $ lose ! $ fsplit ! $
         -- [obs; the borrow; the token; what the `&` owns; its token; obs; the borrow; the token; the locals]
-        assigns ! (addr ! (from ! (fld ! refl (hop ! (look-in ! 26 (sub ! 0 refl (whole !))) (stop !))))) (from ! (stop !)) (init ! 14 refl (tt, tt)) $
-        assigns ! (agg ! (and-then ! (load ! (from ! (stop !)) (look-cell ! 14 refl)) (and-then ! (load ! (from ! (fld ! refl (stop !))) (look-in ! 26 (sub ! 1 refl (whole !)))) (no-more !)))) (from ! (stop !)) (init ! 12 refl (tt, (tt, (record { fits = g-ys .0 }, tt)))) $
-        assigns ! (addr ! (from ! (fld ! refl (hop ! (look-in ! 18 (sub ! 0 refl (whole !))) (stop !))))) (from ! (stop !)) (init ! 10 refl (tt, tt)) $
-        assigns ! (agg ! (and-then ! (load ! (from ! (stop !)) (look-cell ! 10 refl)) (and-then ! (load ! (from ! (fld ! refl (stop !))) (look-in ! 18 (sub ! 1 refl (whole !)))) (no-more !)))) (from ! (stop !)) (init ! 8 refl (tt, (tt, (record { fits = g-us .0 }, tt)))) $
-        move ! (3 ∷ []) $ use1 W (‵ (ShrSlice (named 1) κ₁ u8 .own (record { ptr = (b₁, o₁); name = γ₁; now = bs }) (sliceVal (b₁, o₁) (length bs) ∷ [])) ⊛ ‵ (ShrSlice (named 1) κ₁ u8 .own (record { ptr = (b₁, o₁); name = γ₁; now = bs }) (sliceVal (b₁, o₁) (length bs) ∷ []))) (shr-slice-copy 𝓤 H A W (named 1) κ₁ u8 .twice (record { ptr = (b₁, o₁); name = γ₁; now = bs }) (sliceVal (b₁, o₁) (length bs) ∷ [])) $ split ! $ move ! (0 ∷ 5 ∷ []) $ join ! $ move ! (2 ∷ 3 ∷ 4 ∷ 5 ∷ 6 ∷ 7 ∷ 0 ∷ 1 ∷ []) $ calls-mut-two {𝓤 = 𝓤} {H = H} {A = A} ! fm R ys b o g-ys u8 us b₂ o₂ g-us fn-batch.ended (fn-batch.clauses 𝓤 H A mem run) (known .batch′) (λ ν ν′ δ δ′. (((ν ∷ [], (κ₁, (ν′ ∷ [], tt))), (fullShare, (q₁, (fullShare, tt))), tt, (record { ptr = (b, o); name = δ; now = ys }, (network, (count, (record { ptr = (b₁, o₁); name = γ₁; now = bs }, (record { ptr = (b₂, o₂); name = δ′; now = us }, tt))))), (sliceVal (b, o) (length ys) ∷ [], (vint w8 network ∷ [], (vint w64 count ∷ [], (sliceVal (b₁, o₁) (length bs) ∷ [], (sliceVal (b₂, o₂) (length us) ∷ [], tt)))))), tt)) (λ ν ν′ δ δ′. qed W ((‵ (flft (ν ∷ []) fullShare) ⊛ ‵ (mut-own R b o ν δ ys)) ∷ (‵ (flft (ν′ ∷ []) fullShare) ⊛ ‵ (mut-own u8 b₂ o₂ ν′ δ′ us)) ∷ (‵ (ShrSlice (named 1) κ₁ u8 .own (record { ptr = (b₁, o₁); name = γ₁; now = bs }) (sliceVal (b₁, o₁) (length bs) ∷ [])) ⊛ ‵ (flft κ₁ q₁)) ∷ []) ∵ split ! $ move ! (2 ∷ []) $ split ! $ move ! (4 ∷ []) $ split ! $ nothing ! $ move ! (4 ∷ 0 ∷ []) $ fjoin ! $ move ! (1 ∷ 0 ∷ []) $ fjoin ! $ owned ! usize (Is usize) (uint-makes 𝓤 H A W w64) count _ (refl, g-count) $ fjoin ! $ owned ! u8 (Is u8) (uint-makes 𝓤 H A W w8) network _ (refl, g-network) $ fjoin ! $ move ! (4 ∷ 0 ∷ []) $ fjoin ! $ nothing ! $ move ! (3 ∷ 0 ∷ []) $ join ! $ move ! (2 ∷ 0 ∷ []) $ join ! $ move ! (2 ∷ 0 ∷ []) $ join ! $ join ! $ frame ! $ done !) (‵ (flft κ₁ q₁)) (λ ν ν′ δ δ′. qed W ((‵ (flft (ν ∷ []) fullShare) ⊛ (‵ (flft (κ₁) q₁) ⊛ (‵ (flft (ν′ ∷ []) fullShare) ⊛ ‵ ftrue))) ∷ []) ∵ split ! $ frame ! $ split ! $ move ! (1 ∷ []) $ split ! $ frame ! $ lose ! $ done !) (λ ν ν′ δ δ′. batched-val) (λ ν ν′ δ δ′ r vs p. batched-tells r vs p) (λ ν ν′ δ δ′ ws. ws .0) (λ ν ν′ δ δ′ ws. ws .1 .1 .1 .1 .0) (λ ν ν′ δ δ′ ws. qed W (‵ (fsep (fsep (finally R δ (ws .0)) (feq ℕ (length (ws .0)) (length ys))) (fsep ftrue (fsep ftrue (fsep ftrue (fsep (fsep (finally u8 δ′ (ws .1 .1 .1 .1 .0)) (feq ℕ (length (ws .1 .1 .1 .1 .0)) (length us))) (ftrue)))))) ∷ []) ∵ fsplit ! $ move ! (1 ∷ []) $ fsplit ! $ lose ! $ fsplit ! $ lose ! $ fsplit ! $ lose ! $ fsplit ! $ move ! (1 ∷ []) $ lose ! $ move ! (1 ∷ 0 ∷ []) $ fjoin ! $ done !) (λ ν ν′ δ δ′ (r : Batched) (zs : List Stream) (us′ : List ℕ). MeetsBatch ys asked r zs us′) (λ ν ν′ δ δ′ r ws. id⊢ 𝓤 _) (λ ν ν′ δ δ′. (and-then ! (load ! (from ! (stop !)) (look-cell ! 8 refl)) (and-then ! (load ! (from ! (stop !)) (look-cell ! 20 refl)) (and-then ! (load ! (from ! (stop !)) (look-cell ! 18 refl)) (and-then ! (load ! (from ! (stop !)) (look-cell ! 16 refl)) (and-then ! (load ! (from ! (stop !)) (look-cell ! 4 refl)) (no-more !))))))) (λ ν ν′ δ δ′ r zs us′ g-r len-zs len-us′ said. move ! (0 ∷ 1 ∷ 2 ∷ 7 ∷ 6 ∷ 3 ∷ 4 ∷ 5 ∷ []) $
-        land ! (from ! (stop !)) (init ! 16 refl (batched-typed 𝓤 H A W r g-r)) $
-        assigns ! (of-opd ! (load ! (from ! (stop !)) (look-cell ! 16 refl))) (from ! (stop !)) (init ! 28 refl (batched-typed 𝓤 H A W r g-r)) $
-        returns ! (look-cell ! 28 refl) $ forget ! 28 refl $ forget ! 26 refl $ forget ! 24 refl $ forget ! 22 refl $ forget ! 20 refl $ forget ! 18 refl $ forget ! 16 refl $ forget ! 14 refl $ forget ! 12 refl $ forget ! 10 refl $ forget ! 8 refl $
-        move ! (28 ∷ 29 ∷ []) $ free1 ! $ move ! (26 ∷ 27 ∷ []) $ free1 ! $ move ! (24 ∷ 25 ∷ []) $ free1 ! $ move ! (22 ∷ 23 ∷ []) $ free1 ! $ move ! (20 ∷ 21 ∷ []) $ free1 ! $ move ! (18 ∷ 19 ∷ []) $ free1 ! $ move ! (16 ∷ 17 ∷ []) $ free1 ! $ move ! (14 ∷ 15 ∷ []) $ free1 ! $ move ! (12 ∷ 13 ∷ []) $ free1 ! $ move ! (10 ∷ 11 ∷ []) $ free1 ! $ move ! (8 ∷ 9 ∷ []) $ free1 ! $ free0 ! $ keep ! (0 ∷ 1 ∷ 2 ∷ 4 ∷ 5 ∷ 6 ∷ 7 ∷ []) $ by ! (exits g-ys zs len-zs g-us us′ len-us′ r g-r said)))))))))))))
+        assigns ! (addr ! (from ! (fld ! refl (hop ! (look-in ! 24 (sub ! 0 refl (whole !))) (stop !))))) (from ! (stop !)) (init ! 14 refl (tt, tt)) $
+        assigns ! (agg ! (and-then ! (load ! (from ! (stop !)) (look-cell ! 14 refl)) (and-then ! (load ! (from ! (fld ! refl (stop !))) (look-in ! 24 (sub ! 1 refl (whole !)))) (no-more !)))) (from ! (stop !)) (init ! 12 refl (tt, (tt, (record { fits = g-ys .0 }, tt)))) $
+        assigns ! (addr ! (from ! (fld ! refl (hop ! (look-in ! 16 (sub ! 0 refl (whole !))) (stop !))))) (from ! (stop !)) (init ! 10 refl (tt, tt)) $
+        assigns ! (agg ! (and-then ! (load ! (from ! (stop !)) (look-cell ! 10 refl)) (and-then ! (load ! (from ! (fld ! refl (stop !))) (look-in ! 16 (sub ! 1 refl (whole !)))) (no-more !)))) (from ! (stop !)) (init ! 8 refl (tt, (tt, (record { fits = g-us .0 }, tt)))) $
+        move ! (3 ∷ []) $ use1 W (‵ (ShrSlice (named 1) κ₁ u8 .own (record { ptr = (b₁, o₁); name = γ₁; now = bs }) (sliceVal (b₁, o₁) (length bs) ∷ [])) ⊛ ‵ (ShrSlice (named 1) κ₁ u8 .own (record { ptr = (b₁, o₁); name = γ₁; now = bs }) (sliceVal (b₁, o₁) (length bs) ∷ []))) (shr-slice-copy 𝓤 H A W (named 1) κ₁ u8 .twice (record { ptr = (b₁, o₁); name = γ₁; now = bs }) (sliceVal (b₁, o₁) (length bs) ∷ [])) $ split ! $ move ! (0 ∷ 5 ∷ []) $ join ! $ move ! (2 ∷ 3 ∷ 4 ∷ 5 ∷ 6 ∷ 7 ∷ 0 ∷ 1 ∷ []) $ calls-mut-two {𝓤 = 𝓤} {H = H} {A = A} ! fm R ys b o g-ys u8 us b₂ o₂ g-us fn-batch.ended (fn-batch.clauses 𝓤 H A mem run) (known .batch′) (λ ν ν′ δ δ′. (((ν ∷ [], (κ₁, (ν′ ∷ [], tt))), (fullShare, (q₁, (fullShare, tt))), tt, (record { ptr = (b, o); name = δ; now = ys }, (network, (count, (record { ptr = (b₁, o₁); name = γ₁; now = bs }, (record { ptr = (b₂, o₂); name = δ′; now = us }, tt))))), (sliceVal (b, o) (length ys) ∷ [], (vint w8 network ∷ [], (vint w64 count ∷ [], (sliceVal (b₁, o₁) (length bs) ∷ [], (sliceVal (b₂, o₂) (length us) ∷ [], tt)))))), tt)) (λ ν ν′ δ δ′. qed W ((‵ (flft (ν ∷ []) fullShare) ⊛ ‵ (mut-own R b o ν δ ys)) ∷ (‵ (flft (ν′ ∷ []) fullShare) ⊛ ‵ (mut-own u8 b₂ o₂ ν′ δ′ us)) ∷ (‵ (ShrSlice (named 1) κ₁ u8 .own (record { ptr = (b₁, o₁); name = γ₁; now = bs }) (sliceVal (b₁, o₁) (length bs) ∷ [])) ⊛ ‵ (flft κ₁ q₁)) ∷ []) ∵ split ! $ move ! (2 ∷ []) $ split ! $ move ! (4 ∷ []) $ split ! $ nothing ! $ move ! (4 ∷ 0 ∷ []) $ fjoin ! $ move ! (1 ∷ 0 ∷ []) $ fjoin ! $ owned ! usize (Is usize) (uint-makes 𝓤 H A W w64) count _ (refl, g-count) $ fjoin ! $ owned ! u8 (Is u8) (uint-makes 𝓤 H A W w8) network _ (refl, g-network) $ fjoin ! $ move ! (4 ∷ 0 ∷ []) $ fjoin ! $ nothing ! $ move ! (3 ∷ 0 ∷ []) $ join ! $ move ! (2 ∷ 0 ∷ []) $ join ! $ move ! (2 ∷ 0 ∷ []) $ join ! $ join ! $ frame ! $ done !) (‵ (flft κ₁ q₁)) (λ ν ν′ δ δ′. qed W ((‵ (flft (ν ∷ []) fullShare) ⊛ (‵ (flft (κ₁) q₁) ⊛ (‵ (flft (ν′ ∷ []) fullShare) ⊛ ‵ ftrue))) ∷ []) ∵ split ! $ frame ! $ split ! $ move ! (1 ∷ []) $ split ! $ frame ! $ lose ! $ done !) (λ ν ν′ δ δ′. batched-val) (λ ν ν′ δ δ′ r vs p. batched-tells r vs p) (λ ν ν′ δ δ′ ws. ws .0) (λ ν ν′ δ δ′ ws. ws .1 .1 .1 .1 .0) (λ ν ν′ δ δ′ ws. qed W (‵ (fsep (fsep (finally R δ (ws .0)) (feq ℕ (length (ws .0)) (length ys))) (fsep ftrue (fsep ftrue (fsep ftrue (fsep (fsep (finally u8 δ′ (ws .1 .1 .1 .1 .0)) (feq ℕ (length (ws .1 .1 .1 .1 .0)) (length us))) (ftrue)))))) ∷ []) ∵ fsplit ! $ move ! (1 ∷ []) $ fsplit ! $ lose ! $ fsplit ! $ lose ! $ fsplit ! $ lose ! $ fsplit ! $ move ! (1 ∷ []) $ lose ! $ move ! (1 ∷ 0 ∷ []) $ fjoin ! $ done !) (λ ν ν′ δ δ′ (r : Batched) (zs : List Stream) (us′ : List ℕ). MeetsBatch ys asked r zs us′) (λ ν ν′ δ δ′ r ws. id⊢ 𝓤 _) (λ ν ν′ δ δ′. (and-then ! (load ! (from ! (stop !)) (look-cell ! 8 refl)) (and-then ! (load ! (from ! (stop !)) (look-cell ! 18 refl)) (and-then ! (load ! (from ! (stop !)) (look-cell ! 16 refl)) (and-then ! (load ! (from ! (stop !)) (look-cell ! 14 refl)) (and-then ! (load ! (from ! (stop !)) (look-cell ! 4 refl)) (no-more !))))))) (λ ν ν′ δ δ′ r zs us′ g-r len-zs len-us′ said. move ! (0 ∷ 1 ∷ 2 ∷ 7 ∷ 6 ∷ 3 ∷ 4 ∷ 5 ∷ []) $
+        land ! (from ! (stop !)) (init ! 26 refl (batched-typed 𝓤 H A W r g-r)) $
+        returns ! (look-cell ! 26 refl) $ forget ! 26 refl $ forget ! 24 refl $ forget ! 22 refl $ forget ! 20 refl $ forget ! 18 refl $ forget ! 16 refl $ forget ! 14 refl $ forget ! 12 refl $ forget ! 10 refl $ forget ! 8 refl $
+        move ! (26 ∷ 27 ∷ []) $ free1 ! $ move ! (24 ∷ 25 ∷ []) $ free1 ! $ move ! (22 ∷ 23 ∷ []) $ free1 ! $ move ! (20 ∷ 21 ∷ []) $ free1 ! $ move ! (18 ∷ 19 ∷ []) $ free1 ! $ move ! (16 ∷ 17 ∷ []) $ free1 ! $ move ! (14 ∷ 15 ∷ []) $ free1 ! $ move ! (12 ∷ 13 ∷ []) $ free1 ! $ move ! (10 ∷ 11 ∷ []) $ free1 ! $ move ! (8 ∷ 9 ∷ []) $ free1 ! $ free0 ! $ keep ! (0 ∷ 1 ∷ 2 ∷ 4 ∷ 5 ∷ 6 ∷ 7 ∷ []) $ by ! (exits g-ys zs len-zs g-us us′ len-us′ r g-r said))))))))))))
 
 pub nippitsun-batch-spec : {M : Type 1} → stated.statement M
 unfolding code.routine tablesOf

@@ -61,10 +61,14 @@ unfolding decimalOf digitsOf
 returns-14 c = let k = c .match .keys14 in rw k
 
 returns-15 : tie.Need-returns-15
-returns-15 c = search needs
+unfolding decimalOf digitsOf
+returns-15 c = let k = c .match .keys15 in rw k
 
 returns-16 : tie.Need-returns-16
 returns-16 c = search needs
+
+returns-17 : tie.Need-returns-17
+returns-17 c = search needs
 
 pub in-digits-spec : {M : Type 1} → statement M
 in-digits-spec =
@@ -85,4 +89,5 @@ in-digits-spec =
     returns-13
     returns-14
     returns-15
-    returns-16)
+    returns-16
+    returns-17)
