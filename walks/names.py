@@ -29,7 +29,7 @@ ghost.Atoms: Atoms sem
 contract.Monad: Fun top
 contract.Running: givenOf tables tablesOf
 types.Kit: Given Item ‵ ⊛=_⊛_ ⋆ Post anyQ atRet post runs Sq $=_$_ ∵=_∵_ ! qed by move keep join split rewrite fjoin fsplit feqI suffices frame done use1 group lose=drop@lose
-types.Part: whole sub look-in agg
+types.Part: whole sub look-in agg rep
 types.Match: vrt in-variant look-tag
 types.Run: look-cell=look@look-cell look-raw store-raw store-cell=store@store-cell init forget stop hop fld from load lit unit-lit addr and-then no-more of-opd bin un assigns assigns-last land first skips jumps blocks branches switches-on loops again Below exec returns returns-within enter alloc1 alloc0 params1 pass1 pass0 free1 free0
 types.Share: arr-parts

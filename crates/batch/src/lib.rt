@@ -5,7 +5,7 @@ use record::Stream;
 ghost use mathlib.Core.Path.{_≡_};
 ghost use mathlib.Core.Bool.{false};
 ghost use Prim.Native.Nat.{_+_, _^_, _≤_, _<_};
-ghost use lib.ListN.{length, drop, set, replicate};
+ghost use lib.ListN.{length, drop, set};
 ghost use Rattle.frame.specs.Bytes.{word};
 ghost use Rattle.batch.specs.Batch.{framesMost, runsPast};
 ghost use Rattle.batch.specs.Told.{mark, MeetsBatch};
@@ -181,18 +181,17 @@ fn used_after(used: usize, e: ArrivalAnswer) -> usize
     used
 }
 
-// 32 answers of frames that were not reached.
-fn unreached() -> [ArrivalAnswer; 32]
-    ensures { λ r. ⌜ r ≡ replicate framesMost mark ⌝ }
+// The answer of a frame that was not reached.
+fn unreached() -> ArrivalAnswer
+    ensures { λ r. ⌜ r ≡ mark ⌝ }
 {
-    let mark = ArrivalAnswer {
+    ArrivalAnswer {
         slot: 0,
         length: 0,
         number: 0,
         verdict: 0,
         refusal: 0,
-    };
-    [mark; 32]
+    }
 }
 
 // ---- the walks
@@ -236,7 +235,8 @@ fn fill(
 pub fn batch(t: &mut [Stream], network: u8, count: usize, frames: &[u8], out: &mut [u8]) -> Batched
     ensures { λ r. ⌜ MeetsBatch (now (t .entry)) (record { network = network; count = count; frames = now (frames .entry); out = now (out .entry) }) r (now (t .exit)) (now (out .exit)) ⌝ }
 {
-    let mut answers = unreached();
+    let mark = unreached();
+    let mut answers = [mark; 32];
     let c = fill(t, network, count, frames, out, &mut answers);
     Batched {
         answers,

@@ -19,8 +19,8 @@ use ghost.Atoms.{Atoms}
 use contract.Monad.{Fun}
 use contract.Running.{givenOf, tables, tablesOf}
 use types.Kit.{Given, Item, ‵, _⊛_, ⋆, post, _$_, _∵_, !, qed, by, move, keep, join, split, rewrite, fjoin, fsplit, suffices, frame, done, drop as lose}
-use types.Part.{whole, sub, look-in, agg}
-use types.Run.{look as look-cell, store as store-cell, init, forget, stop, hop, fld, from, load, lit, addr, and-then, no-more, of-opd, assigns, land, returns, enter, alloc1, alloc0, params1, pass1, pass0, free1, free0}
+use types.Part.{whole, sub, look-in, agg, rep}
+use types.Run.{look as look-cell, init, forget, stop, hop, fld, from, load, lit, addr, and-then, no-more, of-opd, assigns, land, returns, enter, alloc1, alloc0, params1, pass1, pass0, free1, free0}
 use sound.WpLaws.{FmC, fmOf, WpFn-mono}
 use denote.RattleType.{owns}
 use denote.Memory.{pointee}
@@ -56,8 +56,8 @@ use Rattle.batch.proofs.Arriving.{leaves}
 use Rattle.batch.proofs.Comes.{filled-is-batch}
 use Rattle.batch.proofs.Fields.{cursor-frames, cursor-refusal}
 use Rattle.batch.proofs.Lengths.{behind}
-use Rattle.batch.proofs.ThirtyTwo.{ThirtyTwo, thirtytwo-ty, thirtytwo-val, thirtytwo-tells, thirtytwo-typed, thirtytwo-has, thirtytwo-same, batched-made}
-use Rattle.batch.proofs.Values.{arrivalanswer-row, arrivalanswer-val, arrivalanswer-tells, cursor-val, cursor-tells, cursor-typed, batched-val, batched-ok, batched-typed, batched-has}
+use Rattle.batch.proofs.ThirtyTwo.{ThirtyTwo, thirtytwo-ty, thirtytwo-val, thirtytwo-ok, thirtytwo-typed, thirtytwo-has, thirtytwo-made, thirtytwo-same, batched-made}
+use Rattle.batch.proofs.Values.{arrivalanswer-row, arrivalanswer-val, arrivalanswer-tells, arrivalanswer-typed, cursor-val, cursor-tells, cursor-typed, batched-val, batched-ok, batched-typed, batched-has}
 use Rattle.batch.proofs.unreached as fn-unreached
 use Rattle.batch.proofs.unreached.Symbol as fn-unreached-def
 use Rattle.batch.proofs.unreached.Symbol.{name as #batch·unreached}
@@ -137,58 +137,59 @@ module _ {M : Type 1} (𝓤 : URA M) (H : Heap 𝓤) (A : Atoms 𝓤) (W : Given
     walk : ent 𝓤 (onEntry 𝓤 H A fn.signature (κ, (κ₁, (κ₂, tt))) (q, (q₁, (q₂, tt))) x mv) (WpFn 𝓤 H C Λ code.function (sliceVal (b, o) (length ys) ∷ vint w8 network ∷ vint w64 count ∷ sliceVal (b₁, o₁) (length bs) ∷ sliceVal (b₂, o₂) (length us) ∷ []) Post′)
     walk =
         qed W ((‵ (flft κ q) ⊛ (‵ (flft κ₁ q₁) ⊛ (‵ (flft κ₂ q₂) ⊛ ‵ ftrue))) ∷ ‵ (owns (MutSlice (named 0) κ R ∷ u8 ∷ usize ∷ ShrSlice (named 1) κ₁ u8 ∷ MutSlice (named 2) κ₂ u8 ∷ []) x mv) ∷ []) ∵ enter ! C Λ code.function (sliceVal (b, o) (length ys) ∷ vint w8 network ∷ vint w64 count ∷ sliceVal (b₁, o₁) (length bs) ∷ sliceVal (b₂, o₂) (length us) ∷ []) _ $
-        alloc1 ! (λ l₀. alloc1 ! (λ l₁. alloc1 ! (λ l₂. alloc1 ! (λ l₃. alloc1 ! (λ l₄. alloc1 ! (λ l₅. alloc1 ! (λ l₆. alloc1 ! (λ l₇. alloc1 ! (λ l₈. alloc1 ! (λ l₉. alloc1 ! (λ l₁₀. alloc1 ! (λ l₁₁. alloc1 ! (λ l₁₂. alloc1 ! (λ l₁₃. alloc1 ! (λ l₁₄. alloc0 ! $ params1 ! $
-        pass1 ! (init ! 26 refl (tt, (tt, (record { fits = g-ys .0 }, tt)))) $ pass1 ! (init ! 24 refl (tt, record { fits = g-network })) $ pass1 ! (init ! 22 refl (tt, record { fits = g-count })) $ pass1 ! (init ! 20 refl (tt, (tt, (record { fits = g-bs .0 }, tt)))) $ pass1 ! (init ! 18 refl (tt, (tt, (record { fits = g-us .0 }, tt)))) $ pass0 ! $
-        move ! (31 ∷ 30 ∷ []) $
+        alloc1 ! (λ l₀. alloc1 ! (λ l₁. alloc1 ! (λ l₂. alloc1 ! (λ l₃. alloc1 ! (λ l₄. alloc1 ! (λ l₅. alloc1 ! (λ l₆. alloc1 ! (λ l₇. alloc1 ! (λ l₈. alloc1 ! (λ l₉. alloc1 ! (λ l₁₀. alloc1 ! (λ l₁₁. alloc1 ! (λ l₁₂. alloc1 ! (λ l₁₃. alloc1 ! (λ l₁₄. alloc1 ! (λ l₁₅. alloc0 ! $ params1 ! $
+        pass1 ! (init ! 28 refl (tt, (tt, (record { fits = g-ys .0 }, tt)))) $ pass1 ! (init ! 26 refl (tt, record { fits = g-network })) $ pass1 ! (init ! 24 refl (tt, record { fits = g-count })) $ pass1 ! (init ! 22 refl (tt, (tt, (record { fits = g-bs .0 }, tt)))) $ pass1 ! (init ! 20 refl (tt, (tt, (record { fits = g-us .0 }, tt)))) $ pass0 ! $
+        move ! (33 ∷ 32 ∷ []) $
         -- [what the parameters own; the tokens; the locals]
-        calls-value {𝓤 = 𝓤} {H = H} {A = A} ! fm fn-unreached.ended (fn-unreached.clauses 𝓤 H A mem run) (known .unreached′) ((tt, tt, tt, tt, tt), tt) (qed W [] ∵ nothing ! $ nothing ! $ join ! $ frame ! $ done !) thirtytwo-val (λ es vs p. thirtytwo-tells es vs p) (λ (es : ThirtyTwo). es ≡ replicate framesMost mark) (λ es ws. id⊢ 𝓤 _) (no-more !) (λ es g-es marked.
-        land ! (from ! (stop !)) (init ! 14 refl (thirtytwo-typed 𝓤 H A W es g-es)) $
-        assigns ! (of-opd ! (load ! (from ! (stop !)) (look-cell ! 14 refl))) (from ! (stop !)) (init ! 18 refl (thirtytwo-typed 𝓤 H A W es g-es)) $
-        assigns ! (addr ! (from ! (fld ! refl (hop ! (look-in ! 28 (sub ! 0 refl (whole !))) (stop !))))) (from ! (stop !)) (init ! 12 refl (tt, tt)) $
-        assigns ! (agg ! (and-then ! (load ! (from ! (stop !)) (look-cell ! 12 refl)) (and-then ! (load ! (from ! (fld ! refl (stop !))) (look-in ! 28 (sub ! 1 refl (whole !)))) (no-more !)))) (from ! (stop !)) (init ! 10 refl (tt, (tt, (record { fits = g-ys .0 }, tt)))) $
-        assigns ! (addr ! (from ! (fld ! refl (hop ! (look-in ! 20 (sub ! 0 refl (whole !))) (stop !))))) (from ! (stop !)) (init ! 8 refl (tt, tt)) $
-        assigns ! (agg ! (and-then ! (load ! (from ! (stop !)) (look-cell ! 8 refl)) (and-then ! (load ! (from ! (fld ! refl (stop !))) (look-in ! 20 (sub ! 1 refl (whole !)))) (no-more !)))) (from ! (stop !)) (init ! 6 refl (tt, (tt, (record { fits = g-us .0 }, tt)))) $
+        calls-value {𝓤 = 𝓤} {H = H} {A = A} ! fm fn-unreached.ended (fn-unreached.clauses 𝓤 H A mem run) (known .unreached′) ((tt, tt, tt, tt, tt), tt) (qed W [] ∵ nothing ! $ nothing ! $ join ! $ frame ! $ done !) arrivalanswer-val (λ m vs p. arrivalanswer-tells m vs p) (λ (m : ArrivalAnswer). m ≡ mark) (λ m ws. id⊢ 𝓤 _) (no-more !) (λ m g-m marked.
+        land ! (from ! (stop !)) (init ! 20 refl (arrivalanswer-typed 𝓤 H A W m g-m)) $
+        let es : ThirtyTwo = replicate framesMost m in let g-es : thirtytwo-ok es = thirtytwo-made m g-m in
+        assigns ! (rep ! 32 (load ! (from ! (stop !)) (look-cell ! 20 refl))) (from ! (stop !)) (init ! 18 refl (thirtytwo-typed 𝓤 H A W es g-es)) $
+        assigns ! (addr ! (from ! (fld ! refl (hop ! (look-in ! 30 (sub ! 0 refl (whole !))) (stop !))))) (from ! (stop !)) (init ! 14 refl (tt, tt)) $
+        assigns ! (agg ! (and-then ! (load ! (from ! (stop !)) (look-cell ! 14 refl)) (and-then ! (load ! (from ! (fld ! refl (stop !))) (look-in ! 30 (sub ! 1 refl (whole !)))) (no-more !)))) (from ! (stop !)) (init ! 12 refl (tt, (tt, (record { fits = g-ys .0 }, tt)))) $
+        assigns ! (addr ! (from ! (fld ! refl (hop ! (look-in ! 22 (sub ! 0 refl (whole !))) (stop !))))) (from ! (stop !)) (init ! 10 refl (tt, tt)) $
+        assigns ! (agg ! (and-then ! (load ! (from ! (stop !)) (look-cell ! 10 refl)) (and-then ! (load ! (from ! (fld ! refl (stop !))) (look-in ! 22 (sub ! 1 refl (whole !)))) (no-more !)))) (from ! (stop !)) (init ! 8 refl (tt, (tt, (record { fits = g-us .0 }, tt)))) $
         let many : length es ≡ 32 = g-es .1 .0 .1 in
         let enough : framesMost ≤ length es = (let h : length es ≡ 32 = many in omega (arith, h)) in
         let room : Room arrivalanswer-row (length es) = subst (Room arrivalanswer-row) (sym many) (lit< tt, lit< tt) in
-        assigns ! (addr ! (from ! (stop !))) (from ! (stop !)) (init ! 4 refl (tt, tt)) $
-        assigns ! (agg ! (and-then ! (load ! (from ! (stop !)) (look-cell ! 4 refl)) (and-then ! (lit ! tt) (no-more !)))) (from ! (stop !)) (init ! 2 refl (tt, (tt, (record { fits = lit< tt }, tt)))) $
-        rewrite ! 2 (λ (m : ℕ). ‵ (fat fullShare (sliceTy (tyRef erased mut (pointee (arrivalanswer-row .written)))) l₁₄ 0 (sliceVal (l₆, 0) m))) (sym many) refl $
+        assigns ! (addr ! (from ! (stop !))) (from ! (stop !)) (init ! 6 refl (tt, tt)) $
+        assigns ! (agg ! (and-then ! (load ! (from ! (stop !)) (look-cell ! 6 refl)) (and-then ! (lit ! tt) (no-more !)))) (from ! (stop !)) (init ! 4 refl (tt, (tt, (record { fits = lit< tt }, tt)))) $
+        rewrite ! 4 (λ (m : ℕ). ‵ (fat fullShare (sliceTy (tyRef erased mut (pointee (arrivalanswer-row .written)))) l₁₄ 0 (sliceVal (l₇, 0) m))) (sym many) refl $
         -- the answers are lent for a lifetime ν
         thirtytwo-has ! es g-es $ lft-new ! tt (λ ν.
         -- [ν's token; what the answers own; what the parameters own; the tokens; the locals]
-        move ! (20 ∷ 1 ∷ []) $ use2 W (later (some (λ (δ : GName). ‵ (mut-own arrivalanswer-row l₆ 0 ν δ es) ⊛ ‵ (flent (ν ∷ []) (Held arrivalanswer-row (length es) l₆ 0 δ))))) (lends-array 𝓤 H A W arrivalanswer-row tt 32 l₆ (named 0) (ν ∷ []) es (thirtytwo-val es) room) $ await ! tt $ pick ! (λ δ. split ! $
-        -- [the loan; the lender's part; ν's token; what the parameters own; the tokens; the locals, _6 without its cell]
+        move ! (20 ∷ 1 ∷ []) $ use2 W (later (some (λ (δ : GName). ‵ (mut-own arrivalanswer-row l₇ 0 ν δ es) ⊛ ‵ (flent (ν ∷ []) (Held arrivalanswer-row (length es) l₇ 0 δ))))) (lends-array 𝓤 H A W arrivalanswer-row tt 32 l₇ (named 0) (ν ∷ []) es (thirtytwo-val es) room) $ await ! tt $ pick ! (λ δ. split ! $
+        -- [the loan; the lender's part; ν's token; what the parameters own; the tokens; the locals, _7 without its cell]
         move ! (3 ∷ []) $ fsplit ! $ move ! (1 ∷ []) $ fsplit ! $ move ! (1 ∷ []) $ fsplit ! $ move ! (1 ∷ []) $ fsplit ! $ move ! (1 ∷ []) $ fsplit ! $
         move ! (6 ∷ 1 ∷ []) $ fjoin ! $ move ! (1 ∷ 0 ∷ []) $ fjoin ! $ move ! (1 ∷ 0 ∷ []) $ fjoin ! $ move ! (1 ∷ 0 ∷ []) $ fjoin ! $ move ! (1 ∷ 0 ∷ []) $ fjoin ! $ move ! (1 ∷ 0 ∷ []) $ fjoin ! $
         -- [what `fill` is to own; the lender's part; ν's token; the tokens; the locals]
         move ! (3 ∷ []) $ split ! $ move ! (1 ∷ []) $ split ! $ move ! (1 ∷ []) $ split ! $ move ! (6 ∷ 1 ∷ []) $ join ! $ move ! (1 ∷ 0 ∷ []) $ join ! $ move ! (1 ∷ 0 ∷ []) $ join ! $ move ! (1 ∷ 0 ∷ []) $ join ! $ join ! $
-        calls-with {𝓤 = 𝓤} {H = H} {A = A} ! fm fn-fill.ended (fn-fill.clauses 𝓤 H A mem run) (known .fill′) (((κ, (κ₁, (κ₂, (ν ∷ [], tt)))), (q, (q₁, (q₂, (fullShare, tt)))), tt, (x .0, (network, (count, (x .1 .1 .1 .0, (x .1 .1 .1 .1 .0, (record { ptr = (l₆, 0); name = δ; now = es }, tt)))))), (mv .0, (mv .1 .0, (mv .1 .1 .0, (mv .1 .1 .1 .0, (mv .1 .1 .1 .1 .0, (sliceVal (l₆, 0) (length es) ∷ [], tt))))))), tt)
-        (qed W ((tokens-with ν ⊛ ‵ (owned-with (mut-own arrivalanswer-row l₆ 0 ν δ es))) ∷ []) ∵ says ! enough $ split ! $ frame ! $ done !) (tokens-with ν) (id⊢ 𝓤 _)
+        calls-with {𝓤 = 𝓤} {H = H} {A = A} ! fm fn-fill.ended (fn-fill.clauses 𝓤 H A mem run) (known .fill′) (((κ, (κ₁, (κ₂, (ν ∷ [], tt)))), (q, (q₁, (q₂, (fullShare, tt)))), tt, (x .0, (network, (count, (x .1 .1 .1 .0, (x .1 .1 .1 .1 .0, (record { ptr = (l₇, 0); name = δ; now = es }, tt)))))), (mv .0, (mv .1 .0, (mv .1 .1 .0, (mv .1 .1 .1 .0, (mv .1 .1 .1 .1 .0, (sliceVal (l₇, 0) (length es) ∷ [], tt))))))), tt)
+        (qed W ((tokens-with ν ⊛ ‵ (owned-with (mut-own arrivalanswer-row l₇ 0 ν δ es))) ∷ []) ∵ says ! enough $ split ! $ frame ! $ done !) (tokens-with ν) (id⊢ 𝓤 _)
         (λ ws. ‵ (fsep (fsep (finally R γ (ws .0)) (feq ℕ (length (ws .0)) (length ys))) (fsep ftrue (fsep ftrue (fsep ftrue (fsep (fsep (finally u8 γ₂ (ws .1 .1 .1 .1 .0)) (feq ℕ (length (ws .1 .1 .1 .1 .0)) (length us))) (fsep (fsep (finally arrivalanswer-row δ (ws .1 .1 .1 .1 .1 .0)) (feq ℕ (length (ws .1 .1 .1 .1 .1 .0)) (length es))) ftrue))))))) (λ ws. id⊢ 𝓤 _) cursor-val (λ r vs p. cursor-tells r vs p)
         (λ (r : Cursor) ws. Fills ys asked es (ws .0) r (ws .1 .1 .1 .1 .0) (ws .1 .1 .1 .1 .1 .0)) (λ r ws. id⊢ 𝓤 _)
         -- [what `fill` is handed; the lender's part; the locals]
-        (and-then ! (load ! (from ! (stop !)) (look-cell ! 10 refl))
-        -- _2, _3 and _4 stand behind _6
-        (and-then ! (load ! (from ! (stop !)) (look-cell ! 25 refl)) (and-then ! (load ! (from ! (stop !)) (look-cell ! 23 refl)) (and-then ! (load ! (from ! (stop !)) (look-cell ! 21 refl))
-        (and-then ! (load ! (from ! (stop !)) (look-cell ! 6 refl)) (and-then ! (load ! (from ! (stop !)) (look-cell ! 2 refl)) (no-more !))))))) (λ r ws g-r said.
+        (and-then ! (load ! (from ! (stop !)) (look-cell ! 12 refl))
+        -- _2, _3 and _4 stand behind _7
+        (and-then ! (load ! (from ! (stop !)) (look-cell ! 27 refl)) (and-then ! (load ! (from ! (stop !)) (look-cell ! 25 refl)) (and-then ! (load ! (from ! (stop !)) (look-cell ! 23 refl))
+        (and-then ! (load ! (from ! (stop !)) (look-cell ! 8 refl)) (and-then ! (load ! (from ! (stop !)) (look-cell ! 4 refl)) (no-more !))))))) (λ r ws g-r said.
         -- [what is left; the tokens; the lender's part; the locals]
         fsplit ! $ move ! (1 ∷ []) $ fsplit ! $ lose ! $ fsplit ! $ lose ! $ fsplit ! $ lose ! $ fsplit ! $ move ! (1 ∷ []) $ fsplit ! $ move ! (1 ∷ []) $ lose ! $ fsplit ! $ move ! (1 ∷ []) $ feqL ! (λ len.
         -- [the last answers; what is left of the output; of the table; the tokens; the lender's part; the locals]
         move ! (3 ∷ []) $ split ! $ move ! (1 ∷ []) $ split ! $ move ! (1 ∷ []) $ split ! $ move ! (1 ∷ []) $ split ! $ lft-end ! tt $ move ! (0 ∷ 8 ∷ 5 ∷ []) $
-        array-back ! tt arrivalanswer-row arrivalanswer-val arrivalanswer-tells 32 l₆ (length es) (ws .1 .1 .1 .1 .1 .0) (len ∙ many) (λ is.
-        -- [_6; nothing; the three tokens; what is left of the output; of the table; the locals]
+        array-back ! tt arrivalanswer-row arrivalanswer-val arrivalanswer-tells 32 l₇ (length es) (ws .1 .1 .1 .1 .1 .0) (len ∙ many) (λ is.
+        -- [_7; nothing; the three tokens; what is left of the output; of the table; the locals]
         move ! (2 ∷ 1 ∷ []) $ join ! $ move ! (2 ∷ 0 ∷ []) $ join ! $ move ! (2 ∷ 0 ∷ []) $ join ! $ move ! (3 ∷ 2 ∷ []) $ fjoin ! $ move ! (2 ∷ 1 ∷ 0 ∷ []) $
-        -- [_6; the tokens; what is left of the lists; the locals]
+        -- [_7; the tokens; what is left of the lists; the locals]
         move ! (1 ∷ 2 ∷ 3 ∷ 4 ∷ 5 ∷ 6 ∷ 7 ∷ 8 ∷ 9 ∷ 10 ∷ 11 ∷ 12 ∷ 13 ∷ 14 ∷ 15 ∷ 16 ∷ 17 ∷ 18 ∷ 0 ∷ []) $
         land ! (from ! (stop !)) (init ! 16 refl (cursor-typed 𝓤 H A W r g-r)) $
-        assigns ! (of-opd ! (load ! (from ! (stop !)) (look-cell ! 18 refl))) (from ! (stop !)) (store-cell ! 14 refl (thirtytwo-typed 𝓤 H A W (ws .1 .1 .1 .1 .1 .0) is)) $
-        rewrite ! 14 (λ (v : Val). ‵ (fat fullShare thirtytwo-ty l₈ 0 v)) (thirtytwo-same (ws .1 .1 .1 .1 .1 .0) is) refl $
+        assigns ! (of-opd ! (load ! (from ! (stop !)) (look-cell ! 18 refl))) (from ! (stop !)) (init ! 2 refl (thirtytwo-typed 𝓤 H A W (ws .1 .1 .1 .1 .1 .0) is)) $
+        rewrite ! 2 (λ (v : Val). ‵ (fat fullShare thirtytwo-ty l₁₅ 0 v)) (thirtytwo-same (ws .1 .1 .1 .1 .1 .0) is) refl $
         let told : Batched = record { answers = ws .1 .1 .1 .1 .1 .0; frames = r .frames; refusal = r .refusal } in
         let g-told : batched-ok told = batched-made (ws .1 .1 .1 .1 .1 .0) (r .frames) (r .refusal) is (cursor-frames r g-r) (cursor-refusal r g-r) in
-        assigns ! (agg ! (and-then ! (load ! (from ! (stop !)) (look-cell ! 14 refl)) (and-then ! (load ! (from ! (fld ! refl (stop !))) (look-in ! 16 (sub ! 3 refl (whole !)))) (and-then ! (load ! (from ! (fld ! refl (stop !))) (look-in ! 16 (sub ! 4 refl (whole !)))) (no-more !))))) (from ! (stop !)) (init ! 30 refl (batched-typed 𝓤 H A W told g-told)) $
-        returns ! (look-cell ! 30 refl) $ forget ! 30 refl $ forget ! 28 refl $ forget ! 26 refl $ forget ! 24 refl $ forget ! 22 refl $ forget ! 20 refl $ forget ! 18 refl $ forget ! 16 refl $ forget ! 14 refl $ forget ! 12 refl $ forget ! 10 refl $ forget ! 8 refl $ forget ! 6 refl $ forget ! 4 refl $ forget ! 2 refl $
-        move ! (30 ∷ 31 ∷ []) $ free1 ! $ move ! (28 ∷ 29 ∷ []) $ free1 ! $ move ! (26 ∷ 27 ∷ []) $ free1 ! $ move ! (24 ∷ 25 ∷ []) $ free1 ! $ move ! (22 ∷ 23 ∷ []) $ free1 ! $ move ! (20 ∷ 21 ∷ []) $ free1 ! $ move ! (18 ∷ 19 ∷ []) $ free1 ! $ move ! (16 ∷ 17 ∷ []) $ free1 ! $ move ! (14 ∷ 15 ∷ []) $ free1 ! $ move ! (12 ∷ 13 ∷ []) $ free1 ! $ move ! (10 ∷ 11 ∷ []) $ free1 ! $ move ! (8 ∷ 9 ∷ []) $ free1 ! $ move ! (6 ∷ 7 ∷ []) $ free1 ! $ move ! (4 ∷ 5 ∷ []) $ free1 ! $ move ! (2 ∷ 3 ∷ []) $ free1 ! $ free0 ! $ keep ! (0 ∷ 1 ∷ []) $ by ! (exits (ws .0) (ws .1 .1 .1 .1 .0) told g-told (filled-is-batch ys asked (ws .0) r (ws .1 .1 .1 .1 .0) (ws .1 .1 .1 .1 .1 .0) (subst (λ (z : List ArrivalAnswer). Fills ys asked z (ws .0) r (ws .1 .1 .1 .1 .0) (ws .1 .1 .1 .1 .1 .0)) marked said))))))))))))))))))))))))
+        assigns ! (agg ! (and-then ! (load ! (from ! (stop !)) (look-cell ! 2 refl)) (and-then ! (load ! (from ! (fld ! refl (stop !))) (look-in ! 16 (sub ! 3 refl (whole !)))) (and-then ! (load ! (from ! (fld ! refl (stop !))) (look-in ! 16 (sub ! 4 refl (whole !)))) (no-more !))))) (from ! (stop !)) (init ! 32 refl (batched-typed 𝓤 H A W told g-told)) $
+        returns ! (look-cell ! 32 refl) $ forget ! 32 refl $ forget ! 30 refl $ forget ! 28 refl $ forget ! 26 refl $ forget ! 24 refl $ forget ! 22 refl $ forget ! 20 refl $ forget ! 18 refl $ forget ! 16 refl $ forget ! 14 refl $ forget ! 12 refl $ forget ! 10 refl $ forget ! 8 refl $ forget ! 6 refl $ forget ! 4 refl $ forget ! 2 refl $
+        move ! (32 ∷ 33 ∷ []) $ free1 ! $ move ! (30 ∷ 31 ∷ []) $ free1 ! $ move ! (28 ∷ 29 ∷ []) $ free1 ! $ move ! (26 ∷ 27 ∷ []) $ free1 ! $ move ! (24 ∷ 25 ∷ []) $ free1 ! $ move ! (22 ∷ 23 ∷ []) $ free1 ! $ move ! (20 ∷ 21 ∷ []) $ free1 ! $ move ! (18 ∷ 19 ∷ []) $ free1 ! $ move ! (16 ∷ 17 ∷ []) $ free1 ! $ move ! (14 ∷ 15 ∷ []) $ free1 ! $ move ! (12 ∷ 13 ∷ []) $ free1 ! $ move ! (10 ∷ 11 ∷ []) $ free1 ! $ move ! (8 ∷ 9 ∷ []) $ free1 ! $ move ! (6 ∷ 7 ∷ []) $ free1 ! $ move ! (4 ∷ 5 ∷ []) $ free1 ! $ move ! (2 ∷ 3 ∷ []) $ free1 ! $ free0 ! $ keep ! (0 ∷ 1 ∷ []) $ by ! (exits (ws .0) (ws .1 .1 .1 .1 .0) told g-told (filled-is-batch ys asked (ws .0) r (ws .1 .1 .1 .1 .0) (ws .1 .1 .1 .1 .1 .0) (subst (λ (z : ArrivalAnswer). Fills ys asked (replicate framesMost z) (ws .0) r (ws .1 .1 .1 .1 .0) (ws .1 .1 .1 .1 .1 .0)) marked said)))))))))))))))))))))))))
 
 pub batch-spec : {M : Type 1} → stated.statement M
 unfolding code.routine tablesOf

@@ -302,7 +302,7 @@ module _ {M : Type 1} (𝓤 : URA M) (H : Heap 𝓤) (A : Atoms 𝓤) (W : Given
             rewrite ! 59 (λ (m : ℕ). ‵ (fat fullShare (sliceTy (tyRef (named 3) mut (pointee (arrivalanswer-row .written)))) l₆ 0 (sliceVal (b₃, o₃) m))) (sym len-cs₂) refl $
             again ! ≺ I t (d, zs, us₃, cs₂, went-on t i j k e zs vs a v met heard us₃ cs₂ d g-d len-zs (len-us₃ ∙ len-us₂) len-cs₂ put kept moved) (later t i j k e d v moved)))))
 
-        -- the frame was found: it lets-arrive, with the end of the output
+        -- the frame was found: it is let in, with the end of the output
         lets-arrive : Sq W (Found (t .0) (t .1) (t .2) (t .3) i j k) (runs C Λ En (after 3 mir′.turn-1) (Next′ t))
         lets-arrive =
             let zs : List Stream = t .1 in let us′ : List ℕ = t .2 in
