@@ -6,13 +6,14 @@ use mathlib.Core.List.{List}
 use native.Mathlib.Nat.{add-zero}
 use native.Mathlib.Omega.{arith}
 use lib.Dec.{ltb}
-use lib.ListN.{length, drop, getD, length-drop}
-use lib.Seq.{drop-drop, getD-drop}
+use lib.ListN.{length, drop, length-drop}
+use lib.Seq.{drop-drop}
 use borrow.Author.Tests.{lt-ltb, le-ltb, ltb-false}
 use Rattle.frame.specs.Bytes.{word}
+use Rattle.frame.proofs.Words.{word-drop}
 use Rattle.batch.specs.Batch.{runsPast}
 
-neither : (a b : Bool) → a || b ≡ false → (a ≡ false) × (b ≡ false)
+pub neither : (a b : Bool) → a || b ≡ false → (a ≡ false) × (b ≡ false)
 neither false b e = (refl, e)
 neither true b e = absurd (let z : _≡_ {A = ℕ} 0 1 = cc in omega arith)
 
@@ -22,12 +23,10 @@ past-nought s n e = rw e
 
 module _ (s : List ℕ) (at : ℕ) where
   -- the length that stands at a place stands in front of what is there
-  in-front : word (drop at s) 0 ≡ word s at
-  in-front =
-      let a : getD (drop at s) 0 0 ≡ getD s at 0 = getD-drop at s 0 0 ∙ ap (λ (k : ℕ). getD s k 0) (add-zero at) in
-      omega (arith, a, getD-drop at s 1 0)
+  pub in-front : word (drop at s) 0 ≡ word s at
+  in-front = word-drop at s 0 ∙ ap (word s) (add-zero at)
 
-  behind : drop (2 + word (drop at s) 0) (drop at s) ≡ drop (at + 2 + word s at) s
+  pub behind : drop (2 + word (drop at s) 0) (drop at s) ≡ drop (at + 2 + word s at) s
   behind =
       let e : at + (2 + word (drop at s) 0) ≡ at + 2 + word s at = omega (arith, in-front) in
       drop-drop (2 + word (drop at s) 0) at s ∙ ap (λ (k : ℕ). drop k s) e

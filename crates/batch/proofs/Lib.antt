@@ -1,3 +1,5 @@
+-- What a single arrival leaves.
+pub mod Arriving
 -- What the proofs of the functions rest on: the steps by the tests that the code makes, lengths within the buffer, the turns of
 -- the loop, and that what a frame adds fits.
 pub mod Bodies
@@ -11,8 +13,7 @@ pub mod Tails
 pub mod Rows
 pub mod ThirtyTwo
 pub mod Fields
--- The steps of the code are the batch: what a single arrival leaves, what is packed, the middle of a batch, and the call.
-pub mod Arriving
+-- The steps of the code are the batch: what is packed, the middle of a batch, and the call.
 pub mod Packing
 pub mod Middle
 pub mod Comes

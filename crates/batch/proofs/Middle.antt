@@ -18,7 +18,8 @@ use Rattle.batch.specs.Batch.{framesIn, adds, ends, Turn, turnOf, single
 use Rattle.batch.specs.Told.{mark}
 use Rattle.batch.specs.Steps.{nextFrame, cursorAfter, Work, resultAt, workAfter, goesOn, filledIn}
 use Rattle.batch.proofs.Arriving.{leaves, stops-ends}
-use Rattle.batch.proofs.Packing.{frame-there, frames-behind, fromIn, lent-end, packs, counts, fits-on}
+use Rattle.batch.proofs.Lengths as Lengths
+use Rattle.batch.proofs.Packing.{frame-there, fromIn, lent-end, packs, counts, fits-on}
 
 -- ---- in the middle of a batch: p is packed over o, the answers noted are `told`, and marks are left
 
@@ -141,7 +142,7 @@ module _ (network : ℕ) (s o : List ℕ) (number : ℕ) where
         go true e = rw (rests n network s (behind true n t a p told marks) refl) (stopped t p told number marks o u _ e)
         go false e =
             goes-on t p told number marks o u us _ e
-            (rw (drop-drop (length (adds (result t a p))) (length p) o, ← length-append p (adds (result t a p)), frames-behind s a) (rw (length-append told) at rest))
+            (rw (drop-drop (length (adds (result t a p))) (length p) o, ← length-append p (adds (result t a p)), Lengths.behind s a) (rw (length-append told) at rest))
 
   pub all : (n : ℕ) (t : Table) (a : ℕ) (p : List ℕ) (told : Answers) (marks : ℕ) → length p ≤ length o → n ≤ marks → Comes n t a p told marks
   unfolding filledIn turnsIn framesIn tableAfter packed before

@@ -1,37 +1,28 @@
 -- One turn, byte by byte: the frame that it takes, the output that it is lent, what is packed behind it, and its answer's place.
 -- Assumes nothing.
 use Prim.Native.Nat.{ℕ, _+_, _-_, _≤_}
-use mathlib.Core.Path.{_≡_, refl, sym, ap, _∙_}
+use mathlib.Core.Path.{_≡_, refl, sym, _∙_}
 use mathlib.Core.Bool.{Bool, true, false, cond}
 use mathlib.Core.List.{List, [], _∷_, _++_, append-assoc, append-nil}
-use native.Mathlib.Nat.{add-zero}
 use native.Mathlib.Omega.{arith}
 use lib.Dec.{leb}
 use lib.ListN.{length, take, drop, set, length-append, length-drop, take-append-drop, drop-of-length-le}
 use lib.Seq.{drop-drop, drop-append-add, take-append-add, drop-length, set-append-seam, set-at}
 use borrow.Author.Tests.{le-leb, leb-false}
 use Rattle.frame.specs.Bytes.{word, overlay}
-use Rattle.frame.proofs.Words.{word-drop}
 use Rattle.calls.specs.Calls.{Result}
 use Rattle.calls.specs.Told.{tellArrival}
 use Rattle.batch.specs.Batch.{adds}
 use Rattle.batch.specs.Steps.{fromOf, added, lengthPut}
+use Rattle.batch.proofs.Lengths.{in-front}
 use Rattle.batch.proofs.Arriving.{Leaves, nothing-new, handed-up}
 
 -- ---- the frame
 
-pub length-there : (s : List ℕ) (a : ℕ) → word (drop a s) 0 ≡ word s a
-length-there s a = word-drop a s 0 ∙ ap (word s) (add-zero a)
-
 pub frame-there : (s : List ℕ) (a : ℕ) → take (a + 2 + word s a - (a + 2)) (drop (a + 2) s) ≡ take (word (drop a s) 0) (drop 2 (drop a s))
 frame-there s a =
     let n : a + 2 + word s a - (a + 2) ≡ word s a = omega arith in
-    rw (n, length-there s a, drop-drop 2 a s)
-
-pub frames-behind : (s : List ℕ) (a : ℕ) → drop (2 + word (drop a s) 0) (drop a s) ≡ drop (a + 2 + word s a) s
-frames-behind s a =
-    let n : a + (2 + word s a) ≡ a + 2 + word s a = omega arith in
-    rw (length-there s a, drop-drop (2 + word s a) a s, n)
+    rw (n, in-front s a, drop-drop 2 a s)
 
 -- ---- the output that is lent: p is what is packed, over o
 

@@ -14,7 +14,7 @@ use Rattle.calls.specs.Calls.{Result, resultOf}
 use Rattle.calls.proofs.Kept.{length-kept}
 use Rattle.batch.specs.Batch.{runsPast, framesIn, adds, ends, Turn, turnOf, single, turnsIn, tableAfter, packed, before}
 use Rattle.batch.specs.Laws.{inputBehind}
-use Rattle.batch.proofs.Refusing.{neither}
+use Rattle.batch.proofs.Lengths.{neither}
 
 -- ---- the frames
 

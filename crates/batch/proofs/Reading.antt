@@ -19,14 +19,13 @@ use Rattle.calls.specs.Calls.{Act, refuse, arrive, opens, closes, resets, ticks
 use Rattle.calls.specs.Told.{tellArrival}
 use Rattle.calls.specs.Refusals.{checksOf}
 use Rattle.calls.specs.declared.ArrivalAnswer.{ArrivalAnswer}
-use Rattle.calls.proofs.Exactly.{refused-exactly}
+use Rattle.calls.proofs.Exactly.{no-network, refused-exactly}
 use Rattle.batch.specs.Batch.{Batch, framesMost, Turn, answersOf, batchOf}
 use Rattle.batch.specs.Told.{mark, tellEach, framesTold, refusalTold, tellBatch}
 use Rattle.batch.specs.Refusals.{batchChecks}
 use Rattle.batch.specs.Laws.{NeverOneOrTwo, EachTold}
 use Rattle.batch.specs.declared.Batched.{Batched}
 use Rattle.batch.proofs.Arriving.{Arrived, arrives}
-use Rattle.batch.proofs.Refusing.{no-network}
 use Rattle.batch.proofs.Refusing as batch
 use Rattle.batch.proofs.Turns.{turnsBy, answers-are, Each, each}
 

@@ -1,30 +1,26 @@
 -- A batch is refused with n exactly if n is the first number of its list whose condition holds; a refused batch changes nothing,
 -- and what a contract says of a batch is one thing. Assumes nothing.
-use Prim.Native.Nat.{ℕ, zero, suc, _≤_}
+use Prim.Native.Nat.{ℕ, _≤_}
 use mathlib.Core.Path.{_≡_, refl, sym, ap, _∙_}
 use mathlib.Core.Logic.{_↔_}
-use mathlib.Core.Bool.{Bool, true, false, _||_}
+use mathlib.Core.Bool.{false}
 use mathlib.Core.Option.{none}
 use mathlib.Core.List.{List}
 use native.Mathlib.Omega.{arith}
-use lib.Dec.{ltb, eqb·suc-zero, eqb·suc-suc}
+use lib.Dec.{ltb}
 use lib.ListN.{length, replicate}
-use borrow.Author.Tests.{lt-ltb, le-ltb, ltb-false}
+use borrow.Author.Tests.{le-ltb, ltb-false}
 use Rattle.refusal.specs.Checks.{Said, firstOf}
 use Rattle.refusal.specs.Checks.Said.{refused, answers}
 use Rattle.refusal.specs.Numbers.{TABLE, NETWORK, BATCH}
 use Rattle.refusal.proofs.Checks.{first-exactly, passed}
 use Rattle.record.specs.Sizes.{slotsMost}
 use Rattle.calls.specs.Table.{Table}
-use Rattle.calls.specs.Refusals.{noNetwork}
+use Rattle.calls.proofs.Exactly.{no-network}
 use Rattle.batch.specs.Batch.{Batch, framesMost, runsPast, framesIn, Turn, turnsIn, comesTo, answersOf, bundle, batchOf}
 use Rattle.batch.specs.Refusals.{badFrames, batchChecks, RefusedExactly}
 use Rattle.batch.specs.Laws.{Coincide, RefusedChangesNothing}
-
-pub no-network : (n : ℕ) → ltb 1 n ≡ noNetwork n
-no-network zero = refl
-no-network (suc zero) = refl
-no-network (suc (suc n)) = rw (lt-ltb 1 (suc (suc n)) (omega arith), eqb·suc-zero, eqb·suc-suc, eqb·suc-zero)
+use Rattle.batch.proofs.Lengths.{neither}
 
 -- ---- refused exactly so
 
@@ -65,10 +61,6 @@ pub record Good (t : Table) (b : Batch) : Type 0 where
   pub network : b .network ≤ 1
   pub few : b .count ≤ framesMost
   pub within : runsPast (b .count) (b .frames) ≡ false
-
-pub neither : (a b : Bool) → a || b ≡ false → (a ≡ false) × (b ≡ false)
-neither false b e = (refl, e)
-neither true b e = absurd (let z : _≡_ {A = ℕ} 0 1 = cc in omega arith)
 
 -- its turns are those of its frames,
 pub good-comes : (t : Table) (b : Batch) → Good t b → comesTo t b ≡ answers (turns t b)

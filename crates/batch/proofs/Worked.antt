@@ -1,4 +1,4 @@
--- The two batches of the example, by computation. Assumes nothing.
+-- The batches of the example, by computation. Assumes nothing.
 use mathlib.Core.Path.{refl}
 use Rattle.record.specs.Words.{yes}
 use Rattle.frame.specs.Bytes.{overlay}
@@ -9,7 +9,8 @@ use Rattle.stream.specs.Decisions.{signed, difference, vectorCase, caseOf, stat
 use Rattle.calls.specs.Table.{search, someSlot, hasKey, isFree}
 use Rattle.calls.specs.Calls.{admitted, arrivalAt, arrival, open-call, checked, act, after, answer, output}
 use Rattle.batch.specs.Batch.{runsPast, framesIn, addsFor, ends, turnsIn, comesTo, tableAfter, packed, before, answersOf, bundle, batchOf}
-use Rattle.batch.specs.Example.{FourReached, EndsWithRoom}
+use Rattle.batch.specs.Laws.{inputBehind}
+use Rattle.batch.specs.Example.{FourReached, EndsWithRoom, SplittingMet, CountCases}
 
 pub four-reached : FourReached
 unfolding batchOf bundle comesTo runsPast framesIn turnsIn addsFor ends tableAfter packed before answersOf overlay act checked open-call admitted arrival arrivalAt answer after output search someSlot hasKey isFree yes groupSource hasVlan vlanOf typeAt isTagged headShort tagShort headerOf readOf cutAt bitOf bit within isEmpty isFresh settled shaped lawful signed difference vectorCase caseOf stateAfter outOfOrder losses tally countsAfter verdict decided
@@ -18,3 +19,11 @@ four-reached = (refl, refl, refl)
 pub ends-with-room : EndsWithRoom
 unfolding batchOf bundle comesTo runsPast framesIn turnsIn addsFor ends tableAfter packed before answersOf overlay act checked open-call admitted arrival arrivalAt answer after output search someSlot hasKey isFree yes groupSource hasVlan vlanOf typeAt isTagged headShort tagShort headerOf readOf cutAt bitOf bit within isEmpty isFresh settled shaped lawful signed difference vectorCase caseOf stateAfter outOfOrder losses tally countsAfter verdict decided
 ends-with-room = (refl, refl, refl)
+
+pub splitting-met : SplittingMet
+unfolding inputBehind batchOf bundle comesTo runsPast framesIn turnsIn addsFor ends tableAfter packed before answersOf overlay act checked open-call admitted arrival arrivalAt answer after output search someSlot hasKey isFree yes groupSource hasVlan vlanOf typeAt isTagged headShort tagShort headerOf readOf cutAt bitOf bit within isEmpty isFresh settled shaped lawful signed difference vectorCase caseOf stateAfter outOfOrder losses tally countsAfter verdict decided
+splitting-met = (refl, refl, refl)
+
+pub count-cases : CountCases
+unfolding batchOf bundle comesTo runsPast framesIn turnsIn before act checked open-call after search someSlot hasKey isFree yes hasVlan typeAt cutAt settled
+count-cases = (refl, refl, refl, refl, refl)

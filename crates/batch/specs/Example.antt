@@ -1,24 +1,28 @@
--- Document 02, order 3: two batches on the table of the worked example, which has one stream. They show what the laws speak of.
--- Assumes nothing.
+-- Document 02, order 3: batches on the table of the worked example, which has one stream. They also show that the premises of the
+-- laws can be met. Assumes nothing.
 use Prim.Native.Nat.{ℕ}
 use mathlib.Core.Path.{_≡_}
 use mathlib.Core.Option.{none, some}
 use mathlib.Core.List.{List, [], _∷_, _++_}
 use lib.ListN.{replicate}
 use Rattle.refusal.specs.Checks.Said.{refused, answers}
-use Rattle.refusal.specs.Numbers.{UNTAGGED, UNKNOWN, ROOM}
+use Rattle.refusal.specs.Numbers.{TABLE, NETWORK, UNTAGGED, UNKNOWN, ROOM, BATCH}
 use Rattle.frame.specs.Frame.{untagged}
+use Rattle.calls.specs.Table.{blank}
 use Rattle.calls.specs.Calls.{arrived, handedUp, duplicate}
 use Rattle.calls.specs.Example.{filled, frame, sentTo}
 use Rattle.batch.specs.Batch.{Batch, batchOf}
-use Rattle.batch.specs.Laws.{preceded}
+use Rattle.batch.specs.Laws.{preceded, firstPart, secondPart}
 
 -- the frame, the same again, one without a tag, one for no stream, and a byte more
 abbrev pub burst : List ℕ
 burst = preceded frame ++ preceded frame ++ preceded (untagged frame) ++ preceded (sentTo 0x04) ++ (0xAA ∷ [])
 
+abbrev pub burstOf : (network count : ℕ) (out : List ℕ) → Batch
+burstOf network count out = record { network = network; count = count; frames = burst; out = out }
+
 abbrev pub burstInto : (out : List ℕ) → Batch
-burstInto out = record { network = 0; count = 4; frames = burst; out = out }
+burstInto out = burstOf 0 4 out
 
 -- what is packed: 000E 020000000001 020000000002 0800
 abbrev pub packedFrame : List ℕ
@@ -38,3 +42,19 @@ EndsWithRoom =
     (batchOf filled (burstInto (replicate 16 0)) .said ≡ answers 1)
     × (batchOf filled (burstInto (replicate 16 0)) .answers ≡ some (answers (arrived 0 7 (handedUp 14))) ∷ some (refused ROOM) ∷ replicate 30 none)
     × (batchOf filled (burstInto (replicate 16 0)) .output ≡ packedFrame)
+
+-- The premises of `Splitting` are met by two frames and two.
+abbrev pub SplittingMet : Type 0
+SplittingMet =
+    (batchOf filled (burstInto (replicate 40 0)) .said ≡ answers 4)
+    × (batchOf filled (firstPart 2 (burstInto (replicate 40 0))) .said ≡ answers 2)
+    × (batchOf (batchOf filled (firstPart 2 (burstInto (replicate 40 0))) .table) (secondPart 2 2 filled (burstInto (replicate 40 0))) .said ≡ answers 2)
+
+-- A count of 0 is good. The fifth length is cut short, and 33 is above 32; 1 comes first, and then 2.
+abbrev pub CountCases : Type 0
+CountCases =
+    (batchOf filled (burstOf 0 0 []) .said ≡ answers 0)
+    × (batchOf filled (burstOf 0 5 (replicate 40 0)) .said ≡ refused BATCH)
+    × (batchOf filled (burstOf 0 33 []) .said ≡ refused BATCH)
+    × (batchOf filled (burstOf 2 33 []) .said ≡ refused NETWORK)
+    × (batchOf (replicate 65 blank) (burstOf 2 33 []) .said ≡ refused TABLE)

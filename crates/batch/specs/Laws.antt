@@ -98,7 +98,8 @@ pub record InTwo (m : ℕ) (p : List ℕ) (whole first second : Bundle) : Type 0
   pub packs : take (length p) (first .output) ≡ p
   pub output : whole .output ≡ p ++ second .output
 
--- A batch that is not refused, and of which no frame of the first part is answered 8, is its two parts in turn.
+-- A batch that is not refused, and of which no frame of the first part is answered 8 (so all m came before), is its two parts in
+-- turn.
 abbrev pub Splitting : Type 0
 Splitting =
     (t : Table) (b : Batch) (m n k : ℕ) → b .count ≡ m + n → batchOf t b .said ≡ answers k → batchOf t (firstPart m b) .said ≡ answers m

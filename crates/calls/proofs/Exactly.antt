@@ -42,7 +42,7 @@ no-stream : (p : Stream → Bool) (t : Table) → leb (length t) (search p t) �
 unfolding someSlot
 no-stream p t = not-below (search p t) (length t) ∙ ap not (sym (some-slot p t))
 
-no-network : (n : ℕ) → ltb 1 n ≡ noNetwork n
+pub no-network : (n : ℕ) → ltb 1 n ≡ noNetwork n
 no-network n = go (eqb n 0) (eqb n 1) refl refl
   where
     go : (a b : Bool) → eqb n 0 ≡ a → eqb n 1 ≡ b → ltb 1 n ≡ not (a || b)

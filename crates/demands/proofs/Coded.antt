@@ -22,6 +22,7 @@ use Rattle.receiver.proofs.open.Met as open-stream
 use Rattle.receiver.proofs.close.Met as close
 use Rattle.receiver.proofs.reset.Met as reset
 use Rattle.receiver.proofs.tick.Met as tick
+use Rattle.batch.proofs.batch.Met as batch
 use Rattle.demands.specs.Code.{CodeMeets}
 
 -- Two facts, of the answer and of the bytes, are one of the outcome.
@@ -39,6 +40,7 @@ code-meets M 𝓤 H 𝓜 𝓖 𝓡 = record {
   close = close.met 𝓤 H 𝓜 𝓖 𝓡;
   reset = reset.met 𝓤 H 𝓜 𝓖 𝓡;
   tick = tick.met 𝓤 H 𝓜 𝓖 𝓡;
+  batch = batch.met 𝓤 H 𝓜 𝓖 𝓡;
   take = weaken 𝓤 H (𝓖 .A) take.ended (givenOf 𝓤 H 𝓜 𝓖) (take.clauses 𝓤 H (𝓖 .A) (𝓜 .mem) (𝓡 .run))
       (λ κs a g r e. fact 𝓤 (record { said = saidTaken r; bytes = now (e .1 .0) } ≡ takeTag (now (a .0)) (now (a .1 .0))))
       (λ κs a g r ws. outcome 𝓤 _ _ _) (𝓡 .run takeCode) (λ vs. fm→mono 𝓤 _ (run-framed 𝓤 H 𝓜 𝓡 takeCode vs)) (take-met.met 𝓤 H 𝓜 𝓖 𝓡);

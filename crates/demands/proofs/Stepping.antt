@@ -10,14 +10,15 @@ use Rattle.calls.specs.Table.{Table}
 use Rattle.calls.specs.Calls.{Call}
 use Rattle.calls.proofs.Kept.{coincide}
 use Rattle.batch.specs.Batch.{Batch, Turn, comesTo, turnsOf, reached, bundle, batchOf}
-use Rattle.batch.proofs.Refusing.{refused-exactly}
+use Rattle.batch.proofs.Refusing.{refused-exactly, refused-changes-nothing}
+use Rattle.batch.proofs.Turns.{turnsBy, answers-are}
 use Rattle.demands.specs.Receiver.{theReceiver, run}
 use Rattle.demands.specs.Seen.{Seen, seen, log, verdicts}
 use Rattle.demands.specs.Steps.{Step, single, batch, Machine, MeetsAll, theMachine, tableOf, ranSteps, callsOf, readAs, StepsAreCalls, AsCalls, BatchesAreCalls, RefusesStep, EachStep, Demand1Steps, seenIn, seenOfStep, logSteps, SeenAsCalls, Demand3Steps, Got, result, told, leftBy, EnsuredStep, EnsuredSteps, given, givenAll, StepsCoincide}
 use Rattle.demands.proofs.Alike.{alike, the-receiver-meets}
 use Rattle.demands.proofs.One.{refuses as refuses-call, demand-1}
 use Rattle.demands.proofs.Three.{demand-3}
-use Rattle.demands.proofs.Turns.{callsIn, same-results, same-table, same-seen, answers-results, packed-results, bundle-answers, bundle-table, bundle-output}
+use Rattle.demands.proofs.Turns.{callsIn, same-results, same-table, same-seen, answers-results, packed-results, table-is, output-is}
 
 -- ---- a machine that meets the documents is the definitions'
 
@@ -35,30 +36,29 @@ the-machine-meets = record { receive = the-receiver-meets; batch = λ t b. refl 
 -- ---- one batch
 
 as-calls : BatchesAreCalls theMachine
-unfolding theMachine batchOf reached
-as-calls t b =
-    let s : Said (List Turn) = comesTo t b in
-    subst (AsCalls theMachine t b) (sym (same-results t b)) (record {
-      answers = bundle-answers t (b .out) s ∙ answers-results (turnsOf s);
-      table = bundle-table t (b .out) s ∙ same-table t b;
-      output = bundle-output t (b .out) s ∙ ap (λ (bs : List ℕ). overlay bs (b .out)) (packed-results (turnsOf s));
-    })
+unfolding theMachine reached
+as-calls t b = subst (AsCalls theMachine t b) (sym (same-results t b)) (record {
+  answers = answers-are t b ∙ answers-results (turnsBy t b);
+  table = table-is t b ∙ same-table t b;
+  output = output-is t b ∙ ap (λ (bs : List ℕ). overlay bs (b .out)) (packed-results (turnsBy t b));
+})
 
--- What a refused batch keeps.
-keeps : (t : Table) (out : List ℕ) (s : Said (List Turn)) (n : ℕ) → bundle t out s .said ≡ refused n
-    → (bundle t out s .table ≡ t) × (bundle t out s .output ≡ out) × (callsIn (turnsOf s) ≡ [])
-unfolding bundle
-keeps t out (refused m) n e = (refl, refl, refl)
-keeps t out (answers us) n e = absurd (let z : _≡_ {A = ℕ} 0 1 = cc in omega arith)
+none-reached : (t : Table) (b : Batch) (n : ℕ) → batchOf t b .said ≡ refused n → reached t b ≡ []
+unfolding batchOf bundle reached
+none-reached t b n e = go (comesTo t b) e
+  where
+    go : (s : Said (List Turn)) → bundle t (b .out) s .said ≡ refused n → callsIn (turnsOf s) ≡ []
+    go (refused m) e = refl
+    go (answers us) e = absurd (let z : _≡_ {A = ℕ} 0 1 = cc in omega arith)
 
 refuses : (t : Table) (s : Step) → RefusesStep theMachine t s
-unfolding theMachine batchOf reached
+unfolding theMachine
 refuses t (single c) = refuses-call t c
 refuses t (batch b) = record {
   number = refused-exactly t b;
-  records = λ n e. keeps t (b .out) (comesTo t b) n e .0;
-  bytes = λ n e. keeps t (b .out) (comesTo t b) n e .1;
-  none-reached = λ n e. keeps t (b .out) (comesTo t b) n e .2;
+  records = λ n e. refused-changes-nothing t b n e .0;
+  bytes = λ n e. refused-changes-nothing t b n e .1;
+  none-reached = none-reached t b;
   frames = demand-1 the-receiver-meets t (reached t b);
 }
 
@@ -76,9 +76,9 @@ table-of t (single c) = refl
 table-of t (batch b) = as-calls t b .table
 
 seen-of : (i : ℕ) (t : Table) (s : Step) → seenOfStep theMachine i t s ≡ log theReceiver i t (callsOf t s)
-unfolding theMachine seenOfStep callsOf log batchOf reached
+unfolding theMachine seenOfStep callsOf log reached
 seen-of i t (single c) = refl
-seen-of i t (batch b) = ap (seenIn i) (bundle-answers t (b .out) (comesTo t b)) ∙ same-seen i t b
+seen-of i t (batch b) = ap (seenIn i) (answers-are t b) ∙ same-seen i t b
 
 run-append : (t : Table) (cs ds : List Call) → run theReceiver t (cs ++ ds) ≡ run theReceiver (run theReceiver t cs) ds
 unfolding run

@@ -1,28 +1,26 @@
 -- The turns of a batch are calls made one after the other. Assumes nothing.
 use Prim.Native.Nat.{ℕ, zero, suc, _-_}
-use mathlib.Core.Path.{_≡_, refl, ap, sym, _∙_}
-use mathlib.Core.Bool.{Bool, true, false, _||_}
+use mathlib.Core.Path.{_≡_, refl, ap, sym}
+use mathlib.Core.Bool.{Bool, true, false}
 use mathlib.Core.Option.{none, some}
 use mathlib.Core.List.{List, [], _∷_, _++_, map, map-map, flatMap}
-use lib.Dec.{ltb}
 use lib.ListN.{length, drop, replicate, length-map}
 use Rattle.refusal.specs.Checks.{Said}
 use Rattle.refusal.specs.Checks.Said.{refused, answers}
-use Rattle.refusal.specs.Numbers.{TABLE, NETWORK, BATCH}
 use Rattle.record.specs.Words.{if_then_else_}
-use Rattle.record.specs.Sizes.{slotsMost}
 use Rattle.frame.specs.Bytes.{overlay}
 use Rattle.calls.specs.Table.{Table}
 use Rattle.calls.specs.Calls.{Call, arriving, Answer, Result, resultOf}
-use Rattle.batch.specs.Batch.{Batch, framesMost, runsPast, framesIn, adds, ends, Turn, turnOf, single, turnsIn, comesTo, turnsOf, tableAfter, packed, answersOf, bundle}
+use Rattle.batch.specs.Batch.{Batch, framesMost, framesIn, adds, ends, Turn, turnOf, single, turnsIn, comesTo, turnsOf, tableAfter, packed, answersOf, bundle, batchOf}
+use Rattle.batch.proofs.Turns.{turnsBy, by-turns}
 use Rattle.demands.specs.Receiver.{theReceiver, run, results}
-use Rattle.demands.specs.Seen.{Seen, answered, seenOf, log}
+use Rattle.demands.specs.Seen.{answered, seenOf, log}
 use Rattle.demands.specs.Steps.{heardOf, seenIn}
 
 -- What holds of no turn, and of an arrival in front of turns from the table that it leaves, holds of the turns of a batch.
 module _ (P : Table → List Turn → Type 0) (nil : (t : Table) → P t [])
     (cons : (t : Table) (network : ℕ) (f out : List ℕ) (us : List Turn)
-        → P (resultOf t (arriving network f out) .table) us → P t (turnOf t (arriving network f out) ∷ us)) where
+    → P (resultOf t (arriving network f out) .table) us → P t (turnOf t (arriving network f out) ∷ us)) where
   or-none : (b : Bool) (t : Table) (us : List Turn) → P t us → P t (if b then [] else us)
   or-none true t us p = nil t
   or-none false t us p = p
@@ -34,18 +32,8 @@ module _ (P : Table → List Turn → Type 0) (nil : (t : Table) → P t [])
       let r : Result = resultOf t (single network f left) in
       cons t network f (drop 2 left) _ (or-none (ends (r .said)) (r .table) _ (in-turn network (r .table) (drop (length (adds r)) left) fs))
 
-  pub of-turns : (t : Table) (b : Batch) → P t (turnsOf (comesTo t b))
-  unfolding comesTo
-  of-turns t b =
-      go (ltb slotsMost (length t)) (ltb 1 (b .network)) (ltb framesMost (b .count) || runsPast (b .count) (b .frames))
-      _ (in-turn (b .network) t (b .out) (framesIn (b .count) (b .frames)))
-    where
-      go : (x y z : Bool) (us : List Turn) → P t us
-          → P t (turnsOf (if x then refused TABLE else if y then refused NETWORK else if z then refused BATCH else answers us))
-      go true y z us p = nil t
-      go false true z us p = nil t
-      go false false true us p = nil t
-      go false false false us p = p
+  pub of-turns : (t : Table) (b : Batch) → P t (turnsBy t b)
+  of-turns t b = by-turns (P t) t b (nil t) (λ g. in-turn (b .network) t (b .out) (framesIn (b .count) (b .frames)))
 
 abbrev pub callsIn : List Turn → List Call
 callsIn us = map (λ (u : Turn). u .call) us
@@ -54,13 +42,13 @@ abbrev pub resultsIn : List Turn → List Result
 resultsIn us = map (λ (u : Turn). u .result) us
 
 -- The results are those of the calls,
-pub same-results : (t : Table) (b : Batch) → results theReceiver t (callsIn (turnsOf (comesTo t b))) ≡ resultsIn (turnsOf (comesTo t b))
+pub same-results : (t : Table) (b : Batch) → results theReceiver t (callsIn (turnsBy t b)) ≡ resultsIn (turnsBy t b)
 unfolding results theReceiver
 same-results = of-turns (λ t us. results theReceiver t (callsIn us) ≡ resultsIn us)
     (λ t. refl) (λ t network f out us e. ap (λ (rs : List Result). resultOf t (arriving network f out) ∷ rs) e)
 
 -- so is the table,
-pub same-table : (t : Table) (b : Batch) → tableAfter t (turnsOf (comesTo t b)) ≡ run theReceiver t (callsIn (turnsOf (comesTo t b)))
+pub same-table : (t : Table) (b : Batch) → tableAfter t (turnsBy t b) ≡ run theReceiver t (callsIn (turnsBy t b))
 unfolding run theReceiver tableAfter
 same-table = of-turns (λ t us. tableAfter t us ≡ run theReceiver t (callsIn us)) (λ t. refl) (λ t network f out us e. e)
 
@@ -91,9 +79,9 @@ module _ (i : ℕ) where
       let r : Result = resultOf t (arriving network f out) in
       λ j. sym (heard-arrival i t network f out r (r .said)) j ∷ e k j
 
-  pub same-seen : (t : Table) (b : Batch) → seenIn i (answersOf (turnsOf (comesTo t b))) ≡ log theReceiver i t (callsIn (turnsOf (comesTo t b)))
+  pub same-seen : (t : Table) (b : Batch) → seenIn i (answersOf (turnsBy t b)) ≡ log theReceiver i t (callsIn (turnsBy t b))
   unfolding answersOf
-  same-seen t b = of-turns Sees sees-none sees-one t b (framesMost - length (turnsOf (comesTo t b)))
+  same-seen t b = of-turns Sees sees-none sees-one t b (framesMost - length (turnsBy t b))
 
 -- The answers and the packed output, from the results.
 pub answers-results : (us : List Turn)
@@ -106,18 +94,19 @@ unfolding packed flatMap
 packed-results [] = refl
 packed-results (u ∷ us) = ap (λ (bs : List ℕ). adds (u .result) ++ bs) (packed-results us)
 
--- What a batch leaves behind, refused or not, from its turns.
-pub bundle-answers : (t : Table) (out : List ℕ) (s : Said (List Turn)) → bundle t out s .answers ≡ answersOf (turnsOf s)
-unfolding bundle
-bundle-answers t out (refused n) = refl
-bundle-answers t out (answers us) = refl
+-- The table and the output of a batch, refused or not, from its turns.
+pub table-is : (t : Table) (b : Batch) → batchOf t b .table ≡ tableAfter t (turnsBy t b)
+unfolding batchOf bundle tableAfter
+table-is t b = go (comesTo t b)
+  where
+    go : (s : Said (List Turn)) → bundle t (b .out) s .table ≡ tableAfter t (turnsOf s)
+    go (refused n) = refl
+    go (answers us) = refl
 
-pub bundle-table : (t : Table) (out : List ℕ) (s : Said (List Turn)) → bundle t out s .table ≡ tableAfter t (turnsOf s)
-unfolding bundle tableAfter
-bundle-table t out (refused n) = refl
-bundle-table t out (answers us) = refl
-
-pub bundle-output : (t : Table) (out : List ℕ) (s : Said (List Turn)) → bundle t out s .output ≡ overlay (packed (turnsOf s)) out
-unfolding bundle packed overlay
-bundle-output t out (refused n) = refl
-bundle-output t out (answers us) = refl
+pub output-is : (t : Table) (b : Batch) → batchOf t b .output ≡ overlay (packed (turnsBy t b)) (b .out)
+unfolding batchOf bundle packed overlay
+output-is t b = go (comesTo t b)
+  where
+    go : (s : Said (List Turn)) → bundle t (b .out) s .output ≡ overlay (packed (turnsOf s)) (b .out)
+    go (refused n) = refl
+    go (answers us) = refl

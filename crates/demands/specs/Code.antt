@@ -33,6 +33,9 @@ use Rattle.receiver.proofs.reset.{ended as resetEnded}
 use Rattle.receiver.proofs.reset.Symbol.{routine as resetCode}
 use Rattle.receiver.proofs.tick.{ended as tickEnded}
 use Rattle.receiver.proofs.tick.Symbol.{routine as tickCode}
+use Rattle.batch.specs.Told.{MeetsBatch}
+use Rattle.batch.proofs.batch.{ended as batchEnded}
+use Rattle.batch.proofs.batch.Symbol.{routine as batchCode}
 
 -- A fact of what a function is passed, of its answer, and of what stands afterwards in what it was lent.
 abbrev pub Promise : Ended → Type 1
@@ -47,7 +50,7 @@ module _ {M : Type 1} (𝓤 : URA M) (H : Heap 𝓤) (𝓜 : Model 𝓤 H) (𝓖
     ensures = λ g r e. fact 𝓤 (P κs a r e);
   }))
 
-  -- The five calls on a table, and the two that have none: a primed name is what stands there afterwards.
+  -- The five calls on a table, the batch, and the two that have no table: a primed name is what stands there afterwards.
   pub record PublicCalls : Type 1 where
     pub arrival : Ensures arrivalEnded arrivalCode (λ κs (t, (network, (frame, (out, _)))) r (t′, (_, (_, (out′, _)))).
         Meets (now t) (arriving network (now frame) (now out)) (record { said = saidArrival r; table = now t′; output = now out′ }))
@@ -59,6 +62,8 @@ module _ {M : Type 1} (𝓤 : URA M) (H : Heap 𝓤) (𝓜 : Model 𝓤 H) (𝓖
         Meets (now t) (resetting slot) (record { said = saidDone r; table = now t′; output = [] }))
     pub tick : Ensures tickEnded tickCode (λ κs (t, _) r (t′, _).
         Meets (now t) ticking (record { said = saidSwept r; table = now t′; output = [] }))
+    pub batch : Ensures batchEnded batchCode (λ κs (t, (network, (count, (frames, (out, _))))) r (t′, (_, (_, (_, (out′, _))))).
+        MeetsBatch (now t) (record { network = network; count = count; frames = now frames; out = now out }) r (now t′) (now out′))
     pub take : Ensures takeEnded takeCode (λ κs (frame, (out, _)) r (_, (out′, _)).
         record { said = saidTaken r; bytes = now out′ } ≡ takeTag (now frame) (now out))
     pub write : Ensures writeEnded writeCode (λ κs (frame, (number, (out, _))) r (_, (_, (out′, _))).

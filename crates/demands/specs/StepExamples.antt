@@ -1,10 +1,10 @@
 -- Against vacuity: document 01's run at the wrap as one batch, of the machine that the definitions give. Assumes nothing.
-use Prim.Native.Nat.{ℕ, _/_, _%_}
+use Prim.Native.Nat.{ℕ}
 use mathlib.Core.Path.{_≡_}
 use mathlib.Core.Bool.{true, false}
 use mathlib.Core.Option.{Option, none, some}
 use mathlib.Core.List.{List, [], _∷_, _++_, flatMap}
-use lib.ListN.{length, take, drop, replicate}
+use lib.ListN.{take, drop, replicate}
 use Rattle.refusal.specs.Checks.{Said}
 use Rattle.refusal.specs.Checks.Said.{refused, answers}
 use Rattle.refusal.specs.Numbers.{SHORT, ROOM}
@@ -14,15 +14,12 @@ use Rattle.calls.specs.Table.{Table}
 use Rattle.calls.specs.Calls.{Answer, opening, closing, ticking}
 use Rattle.calls.specs.Calls as calls
 use Rattle.batch.specs.Batch.{Batch, batchOf}
+use Rattle.batch.specs.Laws.{preceded}
 use Rattle.demands.specs.Receiver.{theReceiver}
 use Rattle.demands.specs.Seen.{arrived, tick, nothing, verdicts}
 use Rattle.demands.specs.Demand3.{Premises}
 use Rattle.demands.specs.Steps.{Step, single, batch, theMachine, ranSteps, readAs, logSteps}
 use Rattle.demands.specs.Examples.{address, frame, start, indices}
-
--- "the frames in one buffer, each preceded by a two-byte length, big-endian"
-unfoldable pub preceded : List ℕ → List ℕ
-preceded f = length f / 256 ∷ length f % 256 ∷ f
 
 -- A batch with a rogue, a duplicate, a frame that is a byte too long for the room, and one that would be handed up, with a byte
 -- behind it.
@@ -53,8 +50,8 @@ wrap = record {
   network = 0;
   count = 10;
   frames = flatMap preceded (
-    frame 1 65534 ∷ frame 1 65535 ∷ frame 1 65534 ∷ frame 1 1 ∷ [] ∷ frame 1 0 ∷ frame 1 5 ∷ frame 1 65533 ∷ frame 1 65534 ∷ frame 1 4 ∷ []
-  );
+      frame 1 65534 ∷ frame 1 65535 ∷ frame 1 65534 ∷ frame 1 1 ∷ [] ∷ frame 1 0 ∷ frame 1 5 ∷ frame 1 65533 ∷ frame 1 65534 ∷ frame 1 4 ∷ []
+      );
   out = replicate 81 9;
 }
 
