@@ -18,7 +18,6 @@ use Rattle.calls.proofs.Kept.{coincide}
 use Rattle.batch.specs.Batch.{framesMost, runsPast}
 use Rattle.batch.specs.Steps.{startsWith, begun, fromOf, nextFrame, added, stops, cursorAfter, Work, resultAt, workAfter, goesOn, filledIn, filledOf}
 use Rattle.batch.specs.declared.Cursor.{Cursor}
-use Rattle.batch.specs.declared.Next.{Next}
 use Rattle.batch.specs.declared.Next.the-variants.{Done, Frame}
 use Rattle.batch.proofs.Lengths.{past-none}
 use Rattle.batch.proofs.Bodies.{no-frame}

@@ -56,7 +56,7 @@ module _ (s : List ℕ) (at : ℕ) where
       let k : at + 2 + word s at ≤ length s = omega (arith, ltb-false (length s - at) (2 + word s at) (p .0)) in
       (k, sym (past-later (suc n) h k) ∙ e)
 
--- what is read of the rest is read of all
+-- the rest runs past exactly if all does
 pub past-rest : (s : List ℕ) (at n : ℕ) {size : ℕ} {r : Bool} → 0 < n → size ≡ word s at → at + 2 + size ≤ length s
-    → r ≡ runsPast (n - 1) (drop (at + 2 + size) s) → r ≡ runsPast n (drop at s)
-past-rest s at n h e k p = p ∙ rw e (sym (past-later s at n h (rw e at k)))
+    → runsPast n (drop at s) ≡ r → runsPast (n - 1) (drop (at + 2 + size) s) ≡ r
+past-rest s at n h e k p = rw e (sym (past-later s at n h (rw e at k))) ∙ p

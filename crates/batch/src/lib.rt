@@ -57,22 +57,24 @@ fn length_at(frames: &[u8], at: usize) -> usize
     ((wide(frames[at]) << 8) | wide(frames[at + 1])) as usize
 }
 
-// Do the lengths from a place on run past the buffer?
-fn runs_past(frames: &[u8], at: usize, count: usize) -> bool
-    requires { ⌜ at ≤ length (now frames) ⌝ }
-    ensures { λ r. ⌜ r ≡ runsPast count (drop at (now (frames .entry))) ⌝ }
+// Do the lengths run past the buffer?
+fn runs_past(frames: &[u8], count: usize) -> bool
+    ensures { λ r. ⌜ r ≡ runsPast count (now (frames .entry)) ⌝ }
 {
-    if count == 0 {
-        return false;
+    let mut at = 0;
+    let mut left = count;
+    while left > 0 {
+        if frames.len() - at < 2 {
+            return true;
+        }
+        let size = length_at(frames, at);
+        if frames.len() - at - 2 < size {
+            return true;
+        }
+        at = at + 2 + size;
+        left -= 1;
     }
-    if frames.len() - at < 2 {
-        return true;
-    }
-    let size = length_at(frames, at);
-    if frames.len() - at - 2 < size {
-        return true;
-    }
-    runs_past(frames, at + 2 + size, count - 1)
+    false
 }
 
 // A batch: 1, 2, then 15, before any frame is looked at.
@@ -88,7 +90,7 @@ fn begin(slots: usize, network: u8, count: usize, frames: &[u8]) -> Cursor
     if count > FRAMES_MOST {
         return starts_with(0, refusal::BATCH);
     }
-    if runs_past(frames, 0, count) {
+    if runs_past(frames, count) {
         return starts_with(0, refusal::BATCH);
     }
     starts_with(count, 0)

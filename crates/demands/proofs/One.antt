@@ -14,7 +14,7 @@ use Rattle.demands.specs.Demand1.{Refuses, Demand1, RefusesTag, Demand1T
 use Rattle.demands.proofs.Alike.{carried}
 
 -- One call,
-pub refuses : (t : Table) (c : Call) → Refuses theReceiver t c
+refuses : (t : Table) (c : Call) → Refuses theReceiver t c
 unfolding theReceiver
 refuses t c = record {
   number = refused-exactly t c;

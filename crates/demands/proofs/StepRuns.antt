@@ -5,11 +5,11 @@ use lib.Dec.{lit≤}
 use Rattle.frame.specs.Bytes.{overlay}
 use Rattle.batch.specs.Batch.{runsPast, framesIn, addsFor, ends, turnsIn, comesTo, reached, tableAfter, packed, before, answersOf, bundle, batchOf}
 use Rattle.demands.specs.Steps.{theMachine, tableOf, ranSteps, callsOf, readAs, seenIn, seenOfStep, logSteps}
-use Rattle.demands.specs.StepExamples.{cut, gapSteps, wrap, laterSteps, bare, WrapInOne}
+use Rattle.demands.specs.StepExamples.{cut, gapSteps, wrapFrames, wrap, laterSteps, bare, WrapInOne}
 use Rattle.demands.proofs.Computing.{computing}
 
 pub wrap-in-one : WrapInOne
-unfolding computing flatMap overlay runsPast framesIn addsFor ends turnsIn comesTo reached tableAfter packed before answersOf bundle batchOf theMachine tableOf ranSteps callsOf readAs seenIn seenOfStep logSteps cut gapSteps wrap laterSteps bare
+unfolding computing flatMap overlay runsPast framesIn addsFor ends turnsIn comesTo reached tableAfter packed before answersOf bundle batchOf theMachine tableOf ranSteps callsOf readAs seenIn seenOfStep logSteps cut gapSteps wrapFrames wrap laterSteps bare
 wrap-in-one = record {
   premises = record {
     vector = refl;
@@ -23,6 +23,7 @@ wrap-in-one = record {
   cut-said = refl;
   cut-answers = refl;
   cut-output = refl;
+  fourth = refl;
   said = refl;
   answers = refl;
   output = refl;

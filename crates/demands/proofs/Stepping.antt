@@ -12,11 +12,11 @@ use Rattle.calls.proofs.Kept.{coincide}
 use Rattle.batch.specs.Batch.{Batch, Turn, comesTo, turnsOf, reached, bundle, batchOf}
 use Rattle.batch.proofs.Refusing.{refused-exactly, refused-changes-nothing}
 use Rattle.batch.proofs.Turns.{turnsBy, answers-are}
-use Rattle.demands.specs.Receiver.{theReceiver, run}
+use Rattle.demands.specs.Receiver.{theReceiver, run, Throughout}
 use Rattle.demands.specs.Seen.{Seen, seen, log, verdicts}
 use Rattle.demands.specs.Steps.{Step, single, batch, Machine, MeetsAll, theMachine, tableOf, ranSteps, callsOf, readAs, StepsAreCalls, AsCalls, BatchesAreCalls, RefusesStep, EachStep, Demand1Steps, seenIn, seenOfStep, logSteps, SeenAsCalls, Demand3Steps, Got, result, told, leftBy, EnsuredStep, EnsuredSteps, given, givenAll, StepsCoincide}
 use Rattle.demands.proofs.Alike.{alike, the-receiver-meets}
-use Rattle.demands.proofs.One.{refuses as refuses-call, demand-1}
+use Rattle.demands.proofs.One.{demand-1}
 use Rattle.demands.proofs.Three.{demand-3}
 use Rattle.demands.proofs.Turns.{callsIn, same-results, same-table, same-seen, answers-results, packed-results, table-is, output-is}
 
@@ -52,8 +52,8 @@ none-reached t b n e = go (comesTo t b) e
     go (answers us) e = absurd (let z : _≡_ {A = ℕ} 0 1 = cc in omega arith)
 
 refuses : (t : Table) (s : Step) → RefusesStep theMachine t s
-unfolding theMachine
-refuses t (single c) = refuses-call t c
+unfolding theMachine Throughout
+refuses t (single c) = demand-1 the-receiver-meets t (c ∷ []) .0
 refuses t (batch b) = record {
   number = refused-exactly t b;
   records = λ n e. refused-changes-nothing t b n e .0;

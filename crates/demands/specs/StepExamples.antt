@@ -11,7 +11,7 @@ use Rattle.refusal.specs.Numbers.{SHORT, ROOM}
 use Rattle.record.specs.Sizes.{vectorRule}
 use Rattle.stream.specs.Decisions.{up, duplicate, rogue}
 use Rattle.calls.specs.Table.{Table}
-use Rattle.calls.specs.Calls.{Answer, opening, closing, ticking}
+use Rattle.calls.specs.Calls.{Answer, arriving, opening, closing, ticking}
 use Rattle.calls.specs.Calls as calls
 use Rattle.batch.specs.Batch.{Batch, batchOf}
 use Rattle.batch.specs.Laws.{preceded}
@@ -21,8 +21,7 @@ use Rattle.demands.specs.Demand3.{Premises}
 use Rattle.demands.specs.Steps.{Step, single, batch, theMachine, ranSteps, readAs, logSteps}
 use Rattle.demands.specs.Examples.{address, frame, start, indices}
 
--- A batch with a rogue, a duplicate, a frame that is a byte too long for the room, and one that would be handed up, with a byte
--- behind it.
+-- A batch with a rogue, a duplicate, a frame that is a byte too long for the room, and one that is not; and a byte behind them.
 unfoldable pub cut : Batch
 cut = record {
   network = 0;
@@ -45,15 +44,22 @@ gapSteps =
 
 -- The numbers of document 01's run at the wrap, steps a to i, in one batch, with an empty frame among them, which is
 -- refused in its place. The output has just room enough for the five that are handed up, and one byte more.
+unfoldable pub wrapFrames : List (List ℕ)
+wrapFrames =
+    frame 1 65534
+    ∷ frame 1 65535
+    ∷ frame 1 65534
+    ∷ frame 1 1
+    ∷ []
+    ∷ frame 1 0
+    ∷ frame 1 5
+    ∷ frame 1 65533
+    ∷ frame 1 65534
+    ∷ frame 1 4
+    ∷ []
+
 unfoldable pub wrap : Batch
-wrap = record {
-  network = 0;
-  count = 10;
-  frames = flatMap preceded (
-      frame 1 65534 ∷ frame 1 65535 ∷ frame 1 65534 ∷ frame 1 1 ∷ [] ∷ frame 1 0 ∷ frame 1 5 ∷ frame 1 65533 ∷ frame 1 65534 ∷ frame 1 4 ∷ []
-      );
-  out = replicate 81 9;
-}
+wrap = record { network = 0; count = 10; frames = flatMap preceded wrapFrames; out = replicate 81 9 }
 
 unfoldable pub laterSteps : List Step
 laterSteps = batch wrap ∷ single ticking ∷ []
@@ -78,11 +84,12 @@ pub record WrapInOne : Type 0 where
   pub seen : logSteps theMachine 0 start gapSteps
       ≡ tick false ∷ arrived 5000 rogue ∷ arrived 9 duplicate ∷ nothing ∷ tick true ∷ nothing ∷ nothing ∷ nothing ∷ tick false ∷ []
   pub given : verdicts (logSteps theMachine 0 afterGap laterSteps) ≡ up ∷ up ∷ duplicate ∷ up ∷ up ∷ rogue ∷ rogue ∷ duplicate ∷ up ∷ []
-  -- The first batch ends at its third frame,
+  -- The first batch ends at its third frame, and its fourth is no call: it would be handed up.
   pub cut-said : batchOf beforeCut cut .said ≡ answers 2
   pub cut-answers : batchOf beforeCut cut .answers ≡ of0 5000 calls.rogue ∷ of0 9 calls.duplicate ∷ some (refused ROOM) ∷ replicate 29 none
   pub cut-output : batchOf beforeCut cut .output ≡ replicate 16 9
-  -- and the last one tells the run at the wrap.
+  pub fourth : theReceiver (batchOf beforeCut cut .table) (arriving 0 (frame 1 10) (replicate 14 9)) .said ≡ answers (calls.arrived 0 10 (calls.handedUp 14))
+  -- The last one tells the run at the wrap.
   pub said : batchOf afterGap wrap .said ≡ answers 10
   pub answers : batchOf afterGap wrap .answers
       ≡ of0 65534 (calls.handedUp 14)

@@ -171,6 +171,6 @@ givenAll m t [] = []
 givenAll m t (s ∷ ss) = given m t s ∷ givenAll m (tableOf m t s) ss
 
 -- There is nothing else to get than what the definitions' machine gives. So what is shown of it, and of every machine that
--- meets the documents, holds of the runs of every such program.
+-- meets the documents, holds of the runs of every such program. (In what a batch tells no answer is lost: `EachTold` of `batch`.)
 abbrev pub StepsCoincide : Type 0
 StepsCoincide = (t : Table) (ss : List Step) (gs : List Got) → EnsuredSteps t ss gs → gs ≡ givenAll theMachine t ss
