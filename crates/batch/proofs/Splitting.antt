@@ -17,7 +17,7 @@ use Rattle.calls.specs.Calls.{Answer}
 use Rattle.batch.specs.Batch.{Batch, framesMost, runsPast, framesIn, Turn, turnsIn, comesTo, tableAfter, packed, before, answersOf, bundle, batchOf}
 use Rattle.batch.specs.Laws.{inputBehind, firstPart, InTwo, Splitting}
 use Rattle.batch.proofs.Refusing.{turns, Good, good-comes, answers-good}
-use Rattle.batch.proofs.Turns.{as-many, no-more}
+use Rattle.batch.proofs.Turns.{as-many, none-more}
 use Rattle.batch.proofs.Parts.{past-second, no-later, before-append, packed-append, table-append, table-long, in-two}
 
 -- ---- the answers, one after the other
@@ -97,8 +97,8 @@ splitting t b m n k c e f =
     let us : List Turn = turns t (firstPart m b) in
     let second : Batch = record { network = b .network; count = n; frames = inputBehind m (b .frames); out = drop (length (packed us)) (b .out) } in
     let vs : List Turn = turns (tableAfter t us) second in
-    let a = no-more (b .network) t (b .out) (framesIn m (b .frames)) in
-    let d = no-more (b .network) (tableAfter t us) (second .out) (framesIn n (second .frames)) in
+    let a = none-more (b .network) t (b .out) (framesIn m (b .frames)) in
+    let d = none-more (b .network) (tableAfter t us) (second .out) (framesIn n (second .frames)) in
     let l : length us ≡ m = omega (arith, no-later us, as-many m (b .frames), h .1) in
     let w : runsPast (m + n) (b .frames) ≡ false = rw c at (g .within) in
     let o : Good (tableAfter t us) second = record {

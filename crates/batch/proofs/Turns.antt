@@ -25,10 +25,10 @@ unfolding framesIn
 as-many zero s = refl
 as-many (suc n) s = ap suc (as-many n _)
 
-pub no-more : (network : ℕ) (t : Table) (left : List ℕ) (fs : List (List ℕ)) → length (turnsIn network t left fs) ≤ length fs
+pub none-more : (network : ℕ) (t : Table) (left : List ℕ) (fs : List (List ℕ)) → length (turnsIn network t left fs) ≤ length fs
 unfolding turnsIn
-no-more network t left [] = omega arith
-no-more network t left (f ∷ fs) = go (ends (r .said)) (no-more network (r .table) (drop (length (adds r)) left) fs)
+none-more network t left [] = omega arith
+none-more network t left (f ∷ fs) = go (ends (r .said)) (none-more network (r .table) (drop (length (adds r)) left) fs)
   where
     r : Result
     r = resultOf t (single network f left)
@@ -65,7 +65,7 @@ by-turns P t b p q = go (comesTo t b) refl
 
 few : (t : Table) (b : Batch) → length (turnsBy t b) ≤ framesMost
 few t b = by-turns (λ (us : List Turn). length us ≤ framesMost) t b (omega arith) (λ g.
-    (let h = no-more (b .network) t (b .out) (framesIn (b .count) (b .frames)) in omega (arith, as-many (b .count) (b .frames), g .few)))
+    (let h = none-more (b .network) t (b .out) (framesIn (b .count) (b .frames)) in omega (arith, as-many (b .count) (b .frames), g .few)))
 
 pub thirty-two : ThirtyTwo
 unfolding answersOf

@@ -197,13 +197,12 @@ fn unreached() -> [ArrivalAnswer; 32]
 
 // ---- the walks
 
-// Place i holds an answer. Beyond the answers nothing is stored.
+// Place i holds an answer.
 fn keep(answers: &mut [ArrivalAnswer], i: usize, e: ArrivalAnswer)
+    requires { ⌜ i < length (now answers) ⌝ }
     ensures { λ _. ⌜ now (answers .exit) ≡ set (now (answers .entry)) i e ⌝ }
 {
-    if i < answers.len() {
-        answers[i] = e;
-    }
+    answers[i] = e;
 }
 
 // All frames, one after the other, until one is refused with 8.
@@ -215,6 +214,7 @@ fn fill(
     out: &mut [u8],
     answers: &mut [ArrivalAnswer],
 ) -> Cursor
+    requires { ⌜ framesMost ≤ length (now answers) ⌝ }
     ensures { λ r. ⌜ Fills (now (t .entry)) (record { network = network; count = count; frames = now (frames .entry); out = now (out .entry) }) (now (answers .entry)) (now (t .exit)) r (now (out .exit)) (now (answers .exit)) ⌝ }
 {
     let mut c = begin(t.len(), network, count, frames);

@@ -1,7 +1,8 @@
 -- `batch::batch` meets its contract: the 32 answers, a local, are lent to `fill` once; table, frames and output are handed on for good.
 -- A walk of its MIR, made by walks/walk.py from walks/batch/batch.walk: edit that. Assumes nothing.
 use mathlib.Core.Path.{_≡_, refl, sym, _∙_, subst}
-use Prim.Native.Nat.{ℕ, _<_, _^_}
+use Prim.Native.Nat.{ℕ, _<_, _≤_, _^_}
+use native.Mathlib.Omega.{arith}
 use mathlib.Core.List.{List, [], _∷_}
 use lib.ListN.{length}
 use lib.Dec.{lit<}
@@ -54,6 +55,7 @@ use Rattle.receiver.proofs.Rows.{R}
 use Rattle.batch.proofs.Arriving.{leaves}
 use Rattle.batch.proofs.Comes.{filled-is-batch}
 use Rattle.batch.proofs.Fields.{cursor-frames, cursor-refusal}
+use Rattle.batch.proofs.Lengths.{behind}
 use Rattle.batch.proofs.ThirtyTwo.{ThirtyTwo, thirtytwo-ty, thirtytwo-val, thirtytwo-tells, thirtytwo-typed, thirtytwo-has, thirtytwo-same, batched-made}
 use Rattle.batch.proofs.Values.{arrivalanswer-row, arrivalanswer-val, arrivalanswer-tells, cursor-val, cursor-tells, cursor-typed, batched-val, batched-ok, batched-typed, batched-has}
 use Rattle.batch.proofs.unreached as fn-unreached
@@ -147,6 +149,7 @@ module _ {M : Type 1} (𝓤 : URA M) (H : Heap 𝓤) (A : Atoms 𝓤) (W : Given
         assigns ! (addr ! (from ! (fld ! refl (hop ! (look-in ! 20 (sub ! 0 refl (whole !))) (stop !))))) (from ! (stop !)) (init ! 8 refl (tt, tt)) $
         assigns ! (agg ! (and-then ! (load ! (from ! (stop !)) (look-cell ! 8 refl)) (and-then ! (load ! (from ! (fld ! refl (stop !))) (look-in ! 20 (sub ! 1 refl (whole !)))) (no-more !)))) (from ! (stop !)) (init ! 6 refl (tt, (tt, (record { fits = g-us .0 }, tt)))) $
         let many : length es ≡ 32 = g-es .1 .0 .1 in
+        let enough : framesMost ≤ length es = (let h : length es ≡ 32 = many in omega (arith, h)) in
         let room : Room arrivalanswer-row (length es) = subst (Room arrivalanswer-row) (sym many) (lit< tt, lit< tt) in
         assigns ! (addr ! (from ! (stop !))) (from ! (stop !)) (init ! 4 refl (tt, tt)) $
         assigns ! (agg ! (and-then ! (load ! (from ! (stop !)) (look-cell ! 4 refl)) (and-then ! (lit ! tt) (no-more !)))) (from ! (stop !)) (init ! 2 refl (tt, (tt, (record { fits = lit< tt }, tt)))) $
@@ -161,7 +164,7 @@ module _ {M : Type 1} (𝓤 : URA M) (H : Heap 𝓤) (A : Atoms 𝓤) (W : Given
         -- [what `fill` is to own; the lender's part; ν's token; the tokens; the locals]
         move ! (3 ∷ []) $ split ! $ move ! (1 ∷ []) $ split ! $ move ! (1 ∷ []) $ split ! $ move ! (6 ∷ 1 ∷ []) $ join ! $ move ! (1 ∷ 0 ∷ []) $ join ! $ move ! (1 ∷ 0 ∷ []) $ join ! $ move ! (1 ∷ 0 ∷ []) $ join ! $ join ! $
         calls-with {𝓤 = 𝓤} {H = H} {A = A} ! fm fn-fill.ended (fn-fill.clauses 𝓤 H A mem run) (known .fill′) (((κ, (κ₁, (κ₂, (ν ∷ [], tt)))), (q, (q₁, (q₂, (fullShare, tt)))), tt, (x .0, (network, (count, (x .1 .1 .1 .0, (x .1 .1 .1 .1 .0, (record { ptr = (l₆, 0); name = δ; now = es }, tt)))))), (mv .0, (mv .1 .0, (mv .1 .1 .0, (mv .1 .1 .1 .0, (mv .1 .1 .1 .1 .0, (sliceVal (l₆, 0) (length es) ∷ [], tt))))))), tt)
-        (qed W ((tokens-with ν ⊛ ‵ (owned-with (mut-own arrivalanswer-row l₆ 0 ν δ es))) ∷ []) ∵ frame ! $ done !) (tokens-with ν) (id⊢ 𝓤 _)
+        (qed W ((tokens-with ν ⊛ ‵ (owned-with (mut-own arrivalanswer-row l₆ 0 ν δ es))) ∷ []) ∵ says ! enough $ split ! $ frame ! $ done !) (tokens-with ν) (id⊢ 𝓤 _)
         (λ ws. ‵ (fsep (fsep (finally R γ (ws .0)) (feq ℕ (length (ws .0)) (length ys))) (fsep ftrue (fsep ftrue (fsep ftrue (fsep (fsep (finally u8 γ₂ (ws .1 .1 .1 .1 .0)) (feq ℕ (length (ws .1 .1 .1 .1 .0)) (length us))) (fsep (fsep (finally arrivalanswer-row δ (ws .1 .1 .1 .1 .1 .0)) (feq ℕ (length (ws .1 .1 .1 .1 .1 .0)) (length es))) ftrue))))))) (λ ws. id⊢ 𝓤 _) cursor-val (λ r vs p. cursor-tells r vs p)
         (λ (r : Cursor) ws. Fills ys asked es (ws .0) r (ws .1 .1 .1 .1 .0) (ws .1 .1 .1 .1 .1 .0)) (λ r ws. id⊢ 𝓤 _)
         -- [what `fill` is handed; the lender's part; the locals]
