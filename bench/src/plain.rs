@@ -1,5 +1,6 @@
 //! The plain side: the same calls in safe Rust, written from documents 01 and 02 alone. Each is kept a call of its own, as the
-//! archive's are, so that both sides pay for one, and has C's convention, by which the answer comes back in registers.
+//! archive's are, so that both sides pay for one; tag calls and decisions have C's convention, by which the answer comes back in
+//! registers.
 use crate::record::{
     ArrivalAnswer, BatchAnswer, Decided, Stream, TagAnswer, DAMAGED, DUPLICATE, FRAMES_MOST,
     HANDED_UP, ROGUE,

@@ -194,7 +194,7 @@ nippitsun_arrival_answer nippitsun_arrival(nippitsun_stream *NIPPITSUN_APART tab
  * the call, a duplicate and a rogue too: they need the room as in a single arrival. That frame is answers[frames], and those
  * behind it were not reached: their answers are all 0, which no arrival answers. What the frames before it changed stays. So,
  * where `frames` is below `count`, make room and call again with the buffer from the frame at `frames` on (the lengths of those
- * before it lead there) and `count - frames`: together that is the batch with room enough.
+ * before it lead there) and `count - frames`.
  *
  * NIPPITSUN_FRAMES_MOST * (2 + NIPPITSUN_UNTAGGED_MOST) = 63872 bytes of output are always enough. With 1996 bytes, one such
  * frame, each call gets on by a frame at least. No byte of the output is one of the frames' buffer: no frame is handed up in

@@ -843,10 +843,14 @@ impl<S: Side> List<S> {
         // Where an 8 would come first.
         self.batch("2 frames, without the last byte", 0, 2, &two[..43], 0);
         self.batch("the length 65535", 0, 1, &[0xFF; 100], all);
-        for behind in [&[0][..], &[0xFF], &[0xFF; 3], &two[..22]] {
+        for (what, behind) in [
+            ("00", &[0][..]),
+            ("FF", &[0xFF]),
+            ("FFFFFF", &[0xFF; 3]),
+            ("the first once more", &two[..22]),
+        ] {
             let input = [&two[..], behind].concat();
-            let what = format!("2 frames, {} bytes behind them", behind.len());
-            self.batch(&what, 0, 2, &input, all);
+            self.batch(&format!("2 frames, {} behind them", what), 0, 2, &input, all);
         }
 
         self.section("Batches: tables of 0, 64 and 65 slots, the stream in the last one, and counters at 2^64 - 1");

@@ -33,7 +33,7 @@ pub struct Cursor {
     pub left: usize,
     // How many came before.
     pub frames: usize,
-    // 1, 2 or 15.
+    // 1, 2 or 15, and 0 where the call is not refused.
     pub refusal: u8,
 }
 
@@ -49,7 +49,7 @@ fn wide(x: u8) -> u32
     x as u32
 }
 
-// The length that stands at a place.
+// The length that stands at a place. (`frame` reads a number so too; a function that asks for something is not public.)
 fn length_at(frames: &[u8], at: usize) -> usize
     requires { ⌜ at + 2 ≤ length (now frames) ⌝ }
     ensures { λ r. ⌜ (r ≡ word (now (frames .entry)) at) × (r < 65536) ⌝ }

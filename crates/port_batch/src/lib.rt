@@ -1,5 +1,5 @@
 // The batch for C. It has a library of its own: in one with the single arrival the compiler would keep what both use once,
-// as a function that both call, and a single arrival would take a third longer (docs/SPEED.md).
+// as a function that both call, and a single arrival would take longer (docs/SPEED.md).
 use batch::Batched;
 use record::Stream;
 ghost use Rattle.batch.specs.Told.{MeetsBatch};
