@@ -850,7 +850,13 @@ impl<S: Side> List<S> {
             ("the first once more", &two[..22]),
         ] {
             let input = [&two[..], behind].concat();
-            self.batch(&format!("2 frames, {} behind them", what), 0, 2, &input, all);
+            self.batch(
+                &format!("2 frames, {} behind them", what),
+                0,
+                2,
+                &input,
+                all,
+            );
         }
 
         self.section("Batches: tables of 0, 64 and 65 slots, the stream in the last one, and counters at 2^64 - 1");
