@@ -17,10 +17,11 @@ pub mod Fields
 pub mod Packing
 pub mod Middle
 pub mod Comes
--- Of a batch: its refusals, its turns, what it tells, a batch of one frame, a batch in two parts, the example.
+-- Of a batch: its refusals, its turns, what it tells, that 8 ends it, a batch of one frame, a batch in two parts, the example.
 pub mod Refusing
 pub mod Turns
 pub mod Reading
+pub mod Eights
 pub mod One
 pub mod Parts
 pub mod Splitting

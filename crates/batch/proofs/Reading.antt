@@ -64,7 +64,7 @@ later t network f left h k = go (answer t (act t (arriving network f left))) ref
 
 -- ---- so no frame of a batch is answered with them
 
-no-mark : (m i : ℕ) → _≡_ {A = Option (Said Answer)} (getD (replicate m none) i none) none
+pub no-mark : (m i : ℕ) → _≡_ {A = Option (Said Answer)} (getD (replicate m none) i none) none
 no-mark zero i = refl
 no-mark (suc m) zero = refl
 no-mark (suc m) (suc i) = no-mark m i

@@ -10,7 +10,7 @@ use Rattle.calls.specs.Table.{search, someSlot, hasKey, isFree}
 use Rattle.calls.specs.Calls.{admitted, arrivalAt, arrival, open-call, checked, act, after, answer, output}
 use Rattle.batch.specs.Batch.{runsPast, framesIn, addsFor, ends, turnsIn, comesTo, tableAfter, packed, before, answersOf, bundle, batchOf}
 use Rattle.batch.specs.Laws.{inputBehind}
-use Rattle.batch.specs.Example.{FourReached, EndsWithRoom, SplittingMet, CountCases}
+use Rattle.batch.specs.Example.{FourReached, EndsWithRoom, NoRoom, SplittingMet, CountCases}
 
 pub four-reached : FourReached
 unfolding batchOf bundle comesTo runsPast framesIn turnsIn addsFor ends tableAfter packed before answersOf overlay act checked open-call admitted arrival arrivalAt answer after output search someSlot hasKey isFree yes groupSource hasVlan vlanOf typeAt isTagged headShort tagShort headerOf readOf cutAt bitOf bit within isEmpty isFresh settled shaped lawful signed difference vectorCase caseOf stateAfter outOfOrder losses tally countsAfter verdict decided
@@ -19,6 +19,10 @@ four-reached = (refl, refl, refl)
 pub ends-with-room : EndsWithRoom
 unfolding batchOf bundle comesTo runsPast framesIn turnsIn addsFor ends tableAfter packed before answersOf overlay act checked open-call admitted arrival arrivalAt answer after output search someSlot hasKey isFree yes groupSource hasVlan vlanOf typeAt isTagged headShort tagShort headerOf readOf cutAt bitOf bit within isEmpty isFresh settled shaped lawful signed difference vectorCase caseOf stateAfter outOfOrder losses tally countsAfter verdict decided
 ends-with-room = (refl, refl, refl)
+
+pub no-room : NoRoom
+unfolding batchOf bundle comesTo runsPast framesIn turnsIn addsFor ends tableAfter packed before answersOf overlay act checked open-call admitted arrival arrivalAt answer after output search someSlot hasKey isFree yes groupSource hasVlan vlanOf typeAt isTagged headShort tagShort headerOf readOf cutAt bitOf bit within isEmpty isFresh settled shaped lawful
+no-room = (refl, refl, refl, refl)
 
 pub splitting-met : SplittingMet
 unfolding inputBehind batchOf bundle comesTo runsPast framesIn turnsIn addsFor ends tableAfter packed before answersOf overlay act checked open-call admitted arrival arrivalAt answer after output search someSlot hasKey isFree yes groupSource hasVlan vlanOf typeAt isTagged headShort tagShort headerOf readOf cutAt bitOf bit within isEmpty isFresh settled shaped lawful signed difference vectorCase caseOf stateAfter outOfOrder losses tally countsAfter verdict decided

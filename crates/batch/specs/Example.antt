@@ -6,7 +6,7 @@ use mathlib.Core.Option.{none, some}
 use mathlib.Core.List.{List, [], _∷_, _++_}
 use lib.ListN.{replicate}
 use Rattle.refusal.specs.Checks.Said.{refused, answers}
-use Rattle.refusal.specs.Numbers.{TABLE, NETWORK, UNTAGGED, UNKNOWN, ROOM, BATCH}
+use Rattle.refusal.specs.Numbers.{TABLE, NETWORK, LONG, SHORT, UNTAGGED, UNKNOWN, ROOM, BATCH}
 use Rattle.frame.specs.Frame.{untagged}
 use Rattle.calls.specs.Table.{blank}
 use Rattle.calls.specs.Calls.{arrived, handedUp, duplicate}
@@ -42,6 +42,24 @@ EndsWithRoom =
     (batchOf filled (burstInto (replicate 16 0)) .said ≡ answers 1)
     × (batchOf filled (burstInto (replicate 16 0)) .answers ≡ some (answers (arrived 0 7 (handedUp 14))) ∷ some (refused ROOM) ∷ replicate 30 none)
     × (batchOf filled (burstInto (replicate 16 0)) .output ≡ packedFrame)
+
+-- Into no output at all: the call goes on past 5, 6, 4 (a length of 0) and 3 (one of 2001), and ends with 8 at the first frame
+-- that gets as far as the room. Table and output are as they were.
+abbrev pub intoNone : Batch
+intoNone = record {
+  network = 0;
+  count = 6;
+  frames = preceded (untagged frame) ++ preceded (sentTo 0x04) ++ preceded [] ++ preceded (replicate 2001 0) ++ preceded frame ++ preceded frame;
+  out = [];
+}
+
+abbrev pub NoRoom : Type 0
+NoRoom =
+    (batchOf filled intoNone .said ≡ answers 4)
+    × (batchOf filled intoNone .answers
+    ≡ some (refused UNTAGGED) ∷ some (refused UNKNOWN) ∷ some (refused SHORT) ∷ some (refused LONG) ∷ some (refused ROOM) ∷ replicate 27 none)
+    × (batchOf filled intoNone .table ≡ filled)
+    × (batchOf filled intoNone .output ≡ [])
 
 -- The premises of `Splitting` are met by two frames and two.
 abbrev pub SplittingMet : Type 0

@@ -1,16 +1,19 @@
 -- Document 02, order 3: what holds of a batch. Assumes nothing.
 use Prim.Native.Nat.{ℕ, zero, suc, _+_, _-_, _/_, _%_, _≤_, _<_}
 use mathlib.Core.Path.{_≡_}
-use mathlib.Core.Option.{none, some}
+use mathlib.Core.Logic.{_⊎_}
+use mathlib.Core.Bool.{false}
+use mathlib.Core.Option.{Option, none, some}
 use mathlib.Core.List.{List, _∷_, _++_}
 use lib.ListN.{length, take, drop, getD, replicate}
+use Rattle.refusal.specs.Checks.{Said}
 use Rattle.refusal.specs.Checks.Said.{refused, answers}
-use Rattle.refusal.specs.Numbers.{TABLE, NETWORK}
+use Rattle.refusal.specs.Numbers.{TABLE, NETWORK, ROOM}
 use Rattle.record.specs.Words.{if_then_else_}
 use Rattle.record.specs.Sizes.{slotsMost}
 use Rattle.frame.specs.Bytes.{word, overlay}
 use Rattle.calls.specs.Table.{Table}
-use Rattle.calls.specs.Calls.{arriving, Result, resultOf}
+use Rattle.calls.specs.Calls.{arriving, Answer, Result, resultOf}
 use Rattle.batch.specs.Batch.{Batch, framesMost, adds, ends, turnsOf, comesTo, packed, Bundle, batchOf}
 use Rattle.batch.specs.Told.{tellBatch, MeetsBatch}
 use Rattle.batch.specs.declared.Batched.{Batched}
@@ -43,6 +46,32 @@ abbrev pub EachTold : Type 0
 EachTold =
     (t : Table) (b : Batch) (u : Table) (c : Batch) → tellBatch (batchOf t b) ≡ tellBatch (batchOf u c)
     → (batchOf t b .said ≡ batchOf u c .said) × (batchOf t b .answers ≡ batchOf u c .answers)
+
+-- ---- 8
+
+-- an answer with which the call goes on: neither the mark nor 8
+pub record Passes (a : Option (Said Answer)) : Type 0 where
+  pub said : Said Answer
+  pub answered : a ≡ some said
+  pub not-eight : ends said ≡ false
+
+-- "those not reached .. as one fixed mark": every place from k on
+abbrev pub MarksFrom : (k : ℕ) → List (Option (Said Answer)) → Type 0
+MarksFrom k given = (i : ℕ) → k ≤ i → getD given i none ≡ none
+
+-- "8, answered there too, ends the call": all frames came before, or the one in place k is answered 8
+abbrev pub EndsAt : (k count : ℕ) → List (Option (Said Answer)) → Type 0
+EndsAt k count given =
+    ((k ≡ count) × MarksFrom k given)
+    ⊎ ((k < count) × (getD given k none ≡ some (refused ROOM)) × MarksFrom (suc k) given)
+
+-- "The call tells how many frames came before that, else the count"
+abbrev pub EightEnds : Type 0
+EightEnds =
+    (t : Table) (b : Batch) (k : ℕ) → batchOf t b .said ≡ answers k
+    → (k ≤ b .count)
+    × ((i : ℕ) → i < k → Passes (getD (batchOf t b .answers) i none))
+    × EndsAt k (b .count) (batchOf t b .answers)
 
 -- ---- one frame
 
