@@ -92,26 +92,14 @@ class Walk(Steps):
                     f'{ind}assigns ! (agg ! (and-then ! {self.opd(p)} (and-then ! {self.opd(sl + ".1")} (no-more !)))) {self.cell(":=", d, f"(tt, (tt, (record {{ fits = {ev} .0 }}, tt)))")} $')
         m = re.fullmatch(r'part (\d+) := (\d+)\[(\d+)\.\.(\d+)\] via (\d+) (\d+) (\d+)', body)
         if m:
-            d, sl, i, e, p, n, r = m.groups()
+            d, sl, i, e, *via = m.groups()
             xs, first, end, within, room = self.arguments('|' + ev)[0][0]
-            _, _, b, o, _ = self.names(self.ref(self.params[int(sl) - 1]))
-            fits = f'record {{ fits = lt-of-le-of-lt (sub-le {end} {first}) {room} }}'
-            return (f'{ind}assigns ! (bin ! {self.opd(sl + ".0")} {self.opd(i)} tt) {self.cell(":=", p, "(tt, tt)")} $\n'
-                    f'{ind}assigns ! (bin ! {self.opd(e)} {self.opd(i)} ({within} .0)) {self.cell(":=", n, f"(tt, {fits})")} $\n'
-                    f'{ind}assigns ! (addr ! (from ! (hop ! (look-cell ! {self.pos(p)} refl) (stop !)))) {self.cell(":=", r, "(tt, tt)")} $\n'
-                    f'{ind}assigns ! (agg ! (and-then ! {self.opd(r)} (and-then ! {self.opd(n)} (no-more !)))) {self.cell(":=", d, f"(tt, (tt, ({fits}, tt)))")} $\n'
-                    f'{ind}rewrite ! {self.pos(d)} (λ (m : ℕ). ‵ (fat fullShare {paren(self.ty[int(d)])} {local(d)} 0 (sliceVal ({b}, {first} + {o}) m))) (part-count {xs} {first} {end} {within}) refl $')
+            return self.piece(ind, d, sl, i, e, via, first, end, f'({within} .0)', room, f'part-count {xs} {first} {end} {within}')
         m = re.fullmatch(r'tail (\d+) := (\d+)\[(\d+)\.\.\] via (\d+) (\d+) (\d+)', body)
         if m:
-            d, sl, i, p, n, r = m.groups()
+            d, sl, i, *via = m.groups()
             xs, first, within, room = self.arguments('|' + ev)[0][0]
-            _, _, b, o, _ = self.names(self.ref(self.params[int(sl) - 1]))
-            fits = f'record {{ fits = lt-of-le-of-lt (sub-le (length {xs}) {first}) ({room} .0) }}'
-            return (f'{ind}assigns ! (bin ! {self.opd(sl + ".0")} {self.opd(i)} tt) {self.cell(":=", p, "(tt, tt)")} $\n'
-                    f'{ind}assigns ! (bin ! {self.opd(sl + ".1")} {self.opd(i)} {within}) {self.cell(":=", n, f"(tt, {fits})")} $\n'
-                    f'{ind}assigns ! (addr ! (from ! (hop ! (look-cell ! {self.pos(p)} refl) (stop !)))) {self.cell(":=", r, "(tt, tt)")} $\n'
-                    f'{ind}assigns ! (agg ! (and-then ! {self.opd(r)} (and-then ! {self.opd(n)} (no-more !)))) {self.cell(":=", d, f"(tt, (tt, ({fits}, tt)))")} $\n'
-                    f'{ind}rewrite ! {self.pos(d)} (λ (m : ℕ). ‵ (fat fullShare {paren(self.ty[int(d)])} {local(d)} 0 (sliceVal ({b}, {first} + {o}) m))) (sym (length-drop {first} {xs})) refl $')
+            return self.piece(ind, d, sl, i, sl + '.1', via, first, f'(length {xs})', within, f'({room} .0)', f'sym (length-drop {first} {xs})')
         m = re.fullmatch(r'ends (\S+)', body)
         if m:
             return ind + self.ends(m[1], *self.arguments('|' + ev)[0][0])
@@ -140,6 +128,17 @@ class Walk(Steps):
         if m:
             return f'{ind}{step} ! (of-opd ! {self.opd(m[3])}) {self.cell(m[2], m[1], self.shown(ev))} $'
         raise SystemExit(f'{self.name}: no such statement: {text}')
+
+    # ---- local d is the piece of the slice from number _i up to the operand e, which are `first` and `end`; `count` is how long it is
+    def piece(self, ind, d, sl, i, e, via, first, end, within, room, count):
+        p, n, r = via
+        _, _, b, o, _ = self.names(self.ref(self.params[int(sl) - 1]))
+        fits = f'record {{ fits = lt-of-le-of-lt (sub-le {end} {first}) {room} }}'
+        return (f'{ind}assigns ! (bin ! {self.opd(sl + ".0")} {self.opd(i)} tt) {self.cell(":=", p, "(tt, tt)")} $\n'
+                f'{ind}assigns ! (bin ! {self.opd(e)} {self.opd(i)} {within}) {self.cell(":=", n, f"(tt, {fits})")} $\n'
+                f'{ind}assigns ! (addr ! (from ! (hop ! (look-cell ! {self.pos(p)} refl) (stop !)))) {self.cell(":=", r, "(tt, tt)")} $\n'
+                f'{ind}assigns ! (agg ! (and-then ! {self.opd(r)} (and-then ! {self.opd(n)} (no-more !)))) {self.cell(":=", d, f"(tt, (tt, ({fits}, tt)))")} $\n'
+                f'{ind}rewrite ! {self.pos(d)} (λ (m : ℕ). ‵ (fat fullShare {paren(self.ty[int(d)])} {local(d)} 0 (sliceVal ({b}, {first} + {o}) m))) ({count}) refl $')
 
     # ---- a loop that counts up to the table's length: its state is (i, .., facts), and n - i falls
     @staticmethod
