@@ -94,14 +94,16 @@ enum nippitsun_refusal {
  *
  * A table is an array of these, made and kept by the caller. All bytes zero is a table of free slots. The fields may be read
  * between two calls; a caller who writes to them may damage a record, which a call then refuses or a tick then counts. The
- * three bytes behind `any` belong to no field, and a call that is not refused may leave anything there: compare records field
- * by field. */
+ * byte behind `any` belongs to no field, and a call that is not refused may leave anything there: compare records field by
+ * field. */
 
 /* What an arrival and a tick change. */
 typedef struct nippitsun_state {
     uint64_t history;   /* bit k stands for the number anchor - k */
     uint16_t anchor;    /* the number that differences are taken from */
     uint16_t remaining; /* ticks left until the stream is reset */
+    uint16_t early;     /* places left for numbers older than the first that was handed up since the reset; a place that
+                           leaves while there are some is not lost */
     uint8_t any;        /* take-any: 0 is no, every other value is yes; calls write 0 and 1 */
 } nippitsun_state;
 
@@ -113,9 +115,8 @@ typedef struct nippitsun_counts {
     uint64_t discarded; /* duplicates */
     uint64_t rogue;     /* outside the window */
     uint64_t disorder;  /* handed up out of order */
-    uint64_t lost;      /* places that left the window empty: numbers that had not come by then, and behind each start (an
-                           open or a reset) those of the L - 1 places before the first number that no late one filled;
-                           0 with the match rule */
+    uint64_t lost;      /* numbers after the first of a start (an open or a reset) that left the window and had not come by
+                           then; 0 with the match rule */
     uint64_t resets;    /* times the stream became fresh, by ticks or by reset */
 } nippitsun_counts;
 
@@ -246,7 +247,8 @@ NIPPITSUN_TYPE(nippitsun_state, 16);
 NIPPITSUN_FIELD(nippitsun_state, history, 0, 8);
 NIPPITSUN_FIELD(nippitsun_state, anchor, 8, 2);
 NIPPITSUN_FIELD(nippitsun_state, remaining, 10, 2);
-NIPPITSUN_FIELD(nippitsun_state, any, 12, 1);
+NIPPITSUN_FIELD(nippitsun_state, early, 12, 2);
+NIPPITSUN_FIELD(nippitsun_state, any, 14, 1);
 
 NIPPITSUN_TYPE(nippitsun_counts, 64);
 NIPPITSUN_FIELD(nippitsun_counts, arrivals0, 0, 8);

@@ -12,6 +12,9 @@ pub struct State {
     pub anchor: u16,
     /// Ticks left until the stream is reset.
     pub remaining: u16,
+    /// Places left for numbers older than the first that was handed up since the reset. A place that leaves while there are
+    /// some is not lost.
+    pub early: u16,
     /// Take-any: 0 is no, every other value is yes.
     pub any: u8,
 }
@@ -32,8 +35,8 @@ pub struct Counts {
     pub rogue: u64,
     /// Frames handed up out of order.
     pub disorder: u64,
-    /// Places that left the window empty: numbers that had not come by then, and behind each start (an open or a reset) those of
-    /// the L - 1 places before the first number that no late one filled. 0 with the match rule.
+    /// Numbers after the first of a start (an open or a reset) that left the window and had not come by then. 0 with the match
+    /// rule.
     pub lost: u64,
     /// How often the stream became fresh, by ticks or by a reset.
     pub resets: u64,
@@ -114,7 +117,8 @@ impl Stream {
         bytes.extend_from_slice(&state.history.to_le_bytes());
         bytes.extend_from_slice(&state.anchor.to_le_bytes());
         bytes.extend_from_slice(&state.remaining.to_le_bytes());
-        bytes.extend_from_slice(&[state.any, 0, 0, 0]);
+        bytes.extend_from_slice(&state.early.to_le_bytes());
+        bytes.extend_from_slice(&[state.any, 0]);
         for counter in self.counts.all() {
             bytes.extend_from_slice(&counter.to_le_bytes());
         }

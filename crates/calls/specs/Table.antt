@@ -23,7 +23,7 @@ blank = record {
   time = 0;
   rule = 0;
   used = 0;
-  state = record { history = 0; anchor = 0; remaining = 0; any = 0 };
+  state = record { history = 0; anchor = 0; remaining = 0; early = 0; any = 0 };
   counts = record { arrivals0 = 0; arrivals1 = 0; passed = 0; discarded = 0; rogue = 0; disorder = 0; lost = 0; resets = 0 };
 }
 

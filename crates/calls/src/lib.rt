@@ -137,6 +137,7 @@ pub fn blank() -> Stream
         history: 0,
         anchor: 0,
         remaining: 0,
+        early: 0,
         any: 0,
     };
     let counts = Counts {

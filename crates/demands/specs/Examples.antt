@@ -40,7 +40,7 @@ stream k rule window time t = with (opened (destOf (address k)) 0 rule window ti
 
 -- a state that has handed up
 abbrev pub since : (anchor history remaining : ℕ) → State
-since anchor history remaining = record { history = history; anchor = anchor; remaining = remaining; any = 0 }
+since anchor history remaining = record { history = history; anchor = anchor; remaining = remaining; early = 0; any = 0 }
 
 -- what slot 0 sees of a run after another
 abbrev pub seenAfter : Table → (before after : List Call) → List Seen

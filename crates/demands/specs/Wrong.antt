@@ -48,7 +48,7 @@ marksNothing = deciding verdict (λ s n network. with s (s .state) (decided s n 
 unfoldable pub handsUpAll : Receiver
 handsUpAll = deciding (λ s n. up) (λ s n network.
     if yes (s .state .any) then decided s n network
-    else with s (handedUp s (s .state .anchor) (s .state .history)) (tally (s .counts) network up false 0))
+    else with s (handedUp s (s .state .anchor) (s .state .early) (s .state .history)) (tally (s .counts) network up false 0))
 
 -- "one with invented counters": every arrival counts as passed
 unfoldable pub inventsCounters : Receiver
@@ -56,7 +56,7 @@ inventsCounters = deciding verdict (λ s n network. with s (decided s n network 
 
 -- "Letting a duplicate ..
 abbrev pub renewed : Stream → Stream
-renewed s = with s (handedUp s (s .state .anchor) (s .state .history)) (s .counts)
+renewed s = with s (handedUp s (s .state .anchor) (s .state .early) (s .state .history)) (s .counts)
 
 unfoldable pub duplicateRenews : Receiver
 duplicateRenews = deciding verdict (λ s n network.

@@ -10,6 +10,8 @@ pub struct State {
     pub anchor: u16,
     // Ticks remaining.
     pub remaining: u16,
+    // Places left for numbers older than the first that was handed up since the reset.
+    pub early: u16,
     // Take-any: 0 is no, every other value is yes.
     pub any: u8,
 }

@@ -20,7 +20,7 @@ pub rest : (a b r : Bool) → true ≡ a → r ≡ b → r ≡ (a && b)
 rest true b r e f = f
 rest false b r e f = cc
 
-pub last : (a : Bool) → a ≡ (a && true && true)
+pub last : (a : Bool) → a ≡ (a && true && true && true)
 last true = refl
 last false = refl
 

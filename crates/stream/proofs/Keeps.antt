@@ -8,12 +8,13 @@ use borrow.Author.Tests.{eqb-false, ne-eqb}
 use Rattle.record.specs.Words.{if_then_else_, yes}
 use Rattle.record.specs.Sizes.{vectorRule}
 use Rattle.stream.specs.History.{History, empty, isEmpty, single}
-use Rattle.stream.specs.Record.{State, Counts, Stream, fresh, isFresh, settled, shaped, lawful}
+use Rattle.stream.specs.Record.{State, Counts, Stream, fresh, isFresh, settled, placed, shaped, lawful}
 use Rattle.stream.specs.Decisions.{Case, first, far, again, late, next, moved, caseOf, handedUp, with, stateAfter, countsAfter, decided, reset, expires, aged, ticked}
 use Rattle.stream.specs.Laws.{LawfulWithoutCounters, DecidedLawful, TickedLawful, ResetLawful, OpenedLawful}
 use Rattle.stream.proofs.Logic.{tests}
 use Rattle.stream.proofs.Law.{Law, Sizes, law, unlaw, size}
 use Rattle.stream.proofs.Told.{Fact, case-told}
+use Rattle.stream.proofs.Early.{none-placed, first-placed, late-placed, next-placed}
 use Rattle.stream.proofs.Past.{empty-is, set-bit, set-within, single-bit, single-within, advance-zero, advance-within}
 
 pub lawful-without-counters : LawfulWithoutCounters
@@ -27,6 +28,7 @@ law-with {s} t c l e = record {
   settled = l .settled;
   rest = rw e (l .rest);
   idle = rw e (l .idle);
+  place = rw e (l .place);
   shape = rw e (l .shape);
 }
 
@@ -45,7 +47,7 @@ fresh-shape rule window = refl
 pub after-reset : (s : Stream) → yes (s .used) ≡ true → settled s ≡ true → Aged s (reset s)
 unfolding reset settled yes
 after-reset s u e = record {
-  law = record { used = u; settled = e; rest = zero-le; idle = refl; shape = fresh-shape (s .rule) (s .window) };
+  law = record { used = u; settled = e; rest = zero-le; idle = refl; place = none-placed (s .window) empty; shape = fresh-shape (s .rule) (s .window) };
   rule = refl;
   window = refl;
   time = refl;
@@ -58,7 +60,7 @@ reset-lawful s u e = unlaw (after-reset s u e .law)
 pub opened-lawful : OpenedLawful
 unfolding yes
 opened-lawful dest vlan rule window time e =
-    unlaw (record { used = refl; settled = e; rest = zero-le; idle = refl; shape = fresh-shape rule window })
+    unlaw (record { used = refl; settled = e; rest = zero-le; idle = refl; place = none-placed window empty; shape = fresh-shape rule window })
 
 idle-aged : (n : ℕ) → eqb n 1 ≡ false → eqb (n - 1) 0 ≡ eqb n 0
 idle-aged zero e = refl
@@ -74,6 +76,7 @@ after-age {s} l e = record {
     settled = l .settled;
     rest = omega (arith, l .rest);
     idle = idle-aged (s .state .remaining) e ∙ l .idle;
+    place = l .place;
     shape = rw (idle-aged (s .state .remaining) e) (l .shape);
   };
   rule = refl;
@@ -93,40 +96,48 @@ after-tick {s} l = go (eqb (s .state .remaining) 1) refl
 pub ticked-lawful : TickedLawful
 ticked-lawful s l = unlaw (after-tick (law l) .law)
 
--- The decision: what is handed up leaves a lawful record if its history has the right shape.
+-- The decision: what is handed up leaves a lawful record if its history is placed and has the right shape.
 or-true : (b : Bool) → b || true ≡ true
 or-true true = refl
 or-true false = refl
 
-handed : {s : Stream} → Law s → (anchor : ℕ) (history : History) (c : Counts)
-    → shaped (s .rule) (s .window) (handedUp s anchor history) ≡ true
-    → Law (with s (handedUp s anchor history) c)
+handed : {s : Stream} → Law s → (anchor n : ℕ) (history : History) (c : Counts)
+    → placed (s .window) n history ≡ true
+    → shaped (s .rule) (s .window) (handedUp s anchor n history) ≡ true
+    → Law (with s (handedUp s anchor n history) c)
 unfolding settled yes
-handed {s} l anchor history c p = record {
+handed {s} l anchor n history c q p = record {
   used = l .used;
   settled = l .settled;
   rest = omega arith;
   idle = let z : Sizes s = size l in ne-eqb (s .time) 0 (omega arith);
+  place = q;
   shape = p;
 }
 
 keeps-case : {s : Stream} (n : ℕ) (c : Case) (d : Counts) → Law s → Fact s c → Law (with s (stateAfter s n c) d)
 unfolding stateAfter shaped yes
-keeps-case {s} n first d l f = handed l _ _ d (go (eqb (s .rule) vectorRule) refl)
+keeps-case {s} n first d l f = handed l _ _ _ d (set (eqb (s .rule) vectorRule) refl) (go (eqb (s .rule) vectorRule) refl)
   where
+    set : (b : Bool) → eqb (s .rule) vectorRule ≡ b
+        → placed (s .window) (if eqb (s .rule) vectorRule then s .window - 1 else 0) (if eqb (s .rule) vectorRule then single else empty) ≡ true
+    set true e = rw e (first-placed (s .window))
+    set false e = rw e (none-placed (s .window) empty)
+
     go : (b : Bool) → eqb (s .rule) vectorRule ≡ b
-        → shaped (s .rule) (s .window) (handedUp s n (if eqb (s .rule) vectorRule then single else empty)) ≡ true
+        → shaped (s .rule) (s .window) (handedUp s n (if eqb (s .rule) vectorRule then s .window - 1 else 0) (if eqb (s .rule) vectorRule then single else empty)) ≡ true
     go true e = rw e (rw (single-bit 0, single-within (s .window) (size l .most) (omega (arith, size l .least))))
     go false e = rw e empty-is
 keeps-case {s} n far d l f = law-with (s .state) d l refl
 keeps-case {s} n again d l f = law-with (s .state) d l refl
 keeps-case {s} n (late k) d l (a, r, b, z) =
     let p = simp tests at (rw (a, r) at (l .shape)) in
-    handed l _ _ d (rw r (rw (set-bit (s .window) (size l .most) k 0 (s .state .history) b (omega (arith, size l .least)), p .0, or-true (eqb 0 k), set-within (s .window) (size l .most) k (s .state .history) b (p .1))))
-keeps-case {s} n (next e) d l (a, r, f) =
+    let o : 0 < s .window = omega arith in
+    handed l _ _ _ d (late-placed (s .window) (size l .most) (s .state .early) k (s .state .history) o b (l .place)) (rw r (rw (set-bit (s .window) (size l .most) k 0 (s .state .history) b (omega (arith, size l .least)), p .0, or-true (eqb 0 k), set-within (s .window) (size l .most) k (s .state .history) b (p .1))))
+keeps-case {s} n (next e) d l (a, r, f, g) =
     let w : 0 < s .window = omega (arith, size l .least) in
-    handed l _ _ d (rw r (rw (advance-zero (s .window) (size l .most) e (s .state .history) w, advance-within (s .window) (size l .most) e (s .state .history) f w)))
-keeps-case {s} n (moved b) d l (a, r) = handed l _ _ d (rw r (rw (a, r) at (l .shape)))
+    handed l _ _ _ d (next-placed (s .window) (size l .most) (s .state .early) e (s .state .history) w f (l .place)) (rw r (rw (advance-zero (s .window) (size l .most) e (s .state .history) w, advance-within (s .window) (size l .most) e (s .state .history) f w)))
+keeps-case {s} n (moved b) d l (a, r) = handed l _ _ _ d (l .place) (rw r (rw (a, r) at (l .shape)))
 
 pub decided-lawful : DecidedLawful
 unfolding decided

@@ -12,6 +12,7 @@ pub mod Wrap
 mod Bits
 mod Digits
 mod Moves
+mod Early
 mod Flags
 mod Reading
 mod Sorts

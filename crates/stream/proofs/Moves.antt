@@ -1,15 +1,17 @@
 -- d places up at once: the history is shifted and cut once, and lost are the zeros among the d places that leave. It is
 -- what d single places give. Assumes nothing.
-use mathlib.Core.Path.{_≡_, refl, ap, _∙_, sym}
-use mathlib.Core.Bool.{not}
+use mathlib.Core.Path.{_≡_, refl, ap, ap₂, _∙_, sym}
+use mathlib.Core.Bool.{false, not, _&&_}
+use borrow.Author.Tests.{ne-eqb}
+use native.Mathlib.Decide.{decLt}
 use Prim.Native.Nat.{ℕ, zero, suc, _+_, _-_, _*_, _/_, _%_, _^_, _<_, _≤_}
-use native.Mathlib.Nat.{mod-lt, mod-mod, mul-assoc, mul-right-comm, add-comm, add-mul, div-add-mod', add-mul-mod-self-right}
+use native.Mathlib.Nat.{mod-lt, mod-mod, mod-one, zero-add, mul-assoc, mul-right-comm, add-comm, add-mul, div-add-mod', add-mul-mod-self-right}
 use native.Mathlib.Omega.{arith}
 use lib.Dec.{eqb, lit<}
 use lib.Count.{ones, ones-cat, ones-le}
-use lib.Pow.{pow-pos, field, shr-shr, shl-shr}
+use lib.Pow.{pow-pos, field, shr-shr, shl-shr, mod-mod-pow}
 use lib.Arith.{mod-mul}
-use Rattle.stream.specs.History.{bitOf, bit, one, push, pushes, leaving}
+use Rattle.stream.specs.History.{bitOf, bit, one, push, pushes, setIn, leaving}
 
 mod-times : (x c m : ℕ) → (x % m * c) % m ≡ (x * c) % m
 mod-times x c m =
@@ -28,10 +30,6 @@ pushes-at-once l (suc (suc d)) h p =
     pushes-at-once l (suc d) (h * 2 % 2 ^ l) (omega arith)
     ∙ mod-times (h * 2) (2 ^ suc d) (2 ^ l)
     ∙ ap (λ (y : ℕ). y % 2 ^ l) (mul-assoc h 2 (2 ^ suc d) ∙ ap (λ (y : ℕ). h * y) twice)
-
--- how many of the d places below place L are set
-abbrev setIn : (l d h : ℕ) → ℕ
-setIn l d h = ones (h / 2 ^ (l - d) % 2 ^ d)
 
 pub set-le : (l d h : ℕ) → setIn l d h ≤ d
 set-le l d h = ones-le d (h / 2 ^ (l - d) % 2 ^ d) (mod-lt (h / 2 ^ (l - d)) (pow-pos d))
@@ -55,36 +53,84 @@ top-apart l d h p =
     ∙ ones-cat d (x / 2 ^ d % 2) (x % 2 ^ d) (mod-lt x (pow-pos d))
     ∙ ap (λ (n : ℕ). n + ones (x % 2 ^ d)) (ones-bit (x / 2 ^ d % 2) (omega arith) ∙ top)
 
-rest-pushed : (l d h : ℕ) → d < l → setIn l d (push l h) ≡ ones (h / 2 ^ (l - suc d) % 2 ^ d)
+-- the m places from place a on, one place up
+pushed-field : (l a m h : ℕ) → suc a + m ≤ l → push l h / 2 ^ suc a % 2 ^ m ≡ h / 2 ^ a % 2 ^ m
 unfolding push
-rest-pushed l d h p =
-    let whole : l ≡ d + (l - d) = omega arith in
-    let next : l - d ≡ 1 + (l - suc d) = omega arith in
+pushed-field l a m h p =
+    let r : ℕ = l - suc a - m in
+    let whole : l ≡ r + m + suc a = omega arith in
+    let next : suc a ≡ 1 + a = omega arith in
     let half : h * 2 / 2 ≡ h = omega arith in
-    ap (λ (y : ℕ). ones (y % 2 ^ d))
-    (ap (λ (n : ℕ). h * 2 % 2 ^ n / 2 ^ (l - d)) whole
-    ∙ field (h * 2) d (l - d))
-    ∙ ap ones (mod-mod (h * 2 / 2 ^ (l - d)) (2 ^ d))
-    ∙ ap (λ (n : ℕ). ones (h * 2 / 2 ^ n % 2 ^ d)) next
-    ∙ ap (λ (y : ℕ). ones (y % 2 ^ d)) (sym (shr-shr (h * 2) 1 (l - suc d)) ∙ ap (λ (y : ℕ). y / 2 ^ (l - suc d)) half)
+    ap (λ (y : ℕ). y % 2 ^ m) (ap (λ (n : ℕ). h * 2 % 2 ^ n / 2 ^ suc a) whole ∙ field (h * 2) (r + m) (suc a))
+    ∙ mod-mod-pow (h * 2 / 2 ^ suc a) r m
+    ∙ ap (λ (n : ℕ). h * 2 / 2 ^ n % 2 ^ m) next
+    ∙ ap (λ (y : ℕ). y % 2 ^ m) (sym (shr-shr (h * 2) 1 a) ∙ ap (λ (y : ℕ). y / 2 ^ a) half)
+
+rest-pushed : (l d n h : ℕ) → d < l → setIn (l - n) (d - n) (push l h) ≡ ones (h / 2 ^ (l - suc d) % 2 ^ (d - n))
+rest-pushed l d n h p = elim (decLt d n) [
+  | yes q ↦
+      let z : d - n ≡ 0 = omega arith in
+      ap ones (rw z (mod-one (push l h / 2 ^ (l - n - 0)) ∙ sym (mod-one (h / 2 ^ (l - suc d)))))
+  | no q ↦
+      let place : l - n - (d - n) ≡ suc (l - suc d) = omega arith in
+      ap ones (ap (λ (k : ℕ). push l h / 2 ^ k % 2 ^ (d - n)) place ∙ pushed-field l (l - suc d) (d - n) h (omega arith))
+]
 
 one-leaves : (b d o : ℕ) → b < 2 → o ≤ d → one (not (eqb b 1)) + (d - o) ≡ suc d - (b + o)
 one-leaves zero d o p q = omega arith
 one-leaves (suc zero) d o p q = omega arith
 one-leaves (suc (suc b)) d o p q = absurd (omega arith)
 
--- what is lost
-pub leaving-at-once : (l d h : ℕ) → d ≤ l → leaving l d h ≡ d - setIn l d h
-unfolding leaving bit bitOf
-leaving-at-once l zero h p = omega arith
-leaving-at-once l (suc d) h p =
-    ap (λ (n : ℕ). one (not (eqb (h / 2 ^ (l - 1) % 2) 1)) + n)
-    (leaving-at-once l d (push l h) (omega arith) ∙ ap (λ (n : ℕ). d - n) (rest-pushed l d h p))
-    ∙ one-leaves (h / 2 ^ (l - 1) % 2) d (ones (h / 2 ^ (l - suc d) % 2 ^ d)) (omega arith)
-    (ones-le d (h / 2 ^ (l - suc d) % 2 ^ d) (mod-lt (h / 2 ^ (l - suc d)) (pow-pos d)))
-    ∙ ap (λ (n : ℕ). suc d - n) (sym (top-apart l d h p))
+-- the place where the counted ones begin
+early-place : (l d n h : ℕ) → ones (h / 2 ^ (l - suc d) % 2 ^ (d - n)) ≡ setIn (l - suc n) (d - n) h
+early-place l d n h = elim (decLt d n) [
+  | yes q ↦
+      let z : d - n ≡ 0 = omega arith in
+      ap ones (rw z (mod-one (h / 2 ^ (l - suc d)) ∙ sym (mod-one (h / 2 ^ (l - suc n - 0)))))
+  | no q ↦
+      let place : l - suc d ≡ l - suc n - (d - n) = omega arith in
+      ap (λ (k : ℕ). ones (h / 2 ^ k % 2 ^ (d - n))) place
+]
 
-pub leaving-one : (l h : ℕ) → leaving l 1 h ≡ 1 - h / 2 ^ (l - 1) % 2
+last-leaves : (l d h : ℕ) → d < l → one (not (bit (l - 1) h)) + (d - 0 - ones (h / 2 ^ (l - suc d) % 2 ^ (d - 0))) ≡ suc d - 0 - setIn (l - 0) (suc d - 0) h
+unfolding bit bitOf
+last-leaves l d h p =
+    let a : d - 0 ≡ d = omega arith in
+    let b : suc d - 0 ≡ suc d = omega arith in
+    let c : l - 0 ≡ l = omega arith in
+    rw (a, b, c) (one-leaves (h / 2 ^ (l - 1) % 2) d (ones (h / 2 ^ (l - suc d) % 2 ^ d)) (omega arith)
+    (ones-le d (h / 2 ^ (l - suc d) % 2 ^ d) (mod-lt (h / 2 ^ (l - suc d)) (pow-pos d)))
+    ∙ ap (λ (n : ℕ). suc d - n) (sym (top-apart l d h p)))
+
+-- what is lost: nothing while the places for older numbers last, and then the zeros below them
+pub leaving-at-once : (l d n h : ℕ) → d ≤ l → leaving l d n h ≡ d - n - setIn (l - n) (d - n) h
+unfolding leaving
+leaving-at-once l zero n h p = omega arith
+leaving-at-once l (suc d) (suc n) h p =
+    let none : eqb (suc n) 0 ≡ false = ne-eqb (suc n) 0 (omega arith) in
+    let less : suc n - 1 ≡ n = omega arith in
+    let rest : suc d - suc n ≡ d - n = omega arith in
+    let sum : one (eqb (suc n) 0 && not (bit (l - 1) h)) ≡ 0 = rw none in
+    ap₂ (λ (x k : ℕ). x + leaving l d k (push l h)) sum less
+    ∙ zero-add (leaving l d n (push l h))
+    ∙ leaving-at-once l d n (push l h) (omega arith)
+    ∙ ap (λ (x : ℕ). d - n - x) (rest-pushed l d n h p ∙ early-place l d n h)
+    ∙ ap (λ (m : ℕ). m - setIn (l - suc n) m h) (sym rest)
+leaving-at-once l (suc d) zero h p =
+    ap (λ (x : ℕ). one (not (bit (l - 1) h)) + x)
+    (leaving-at-once l d 0 (push l h) (omega arith)
+    ∙ ap (λ (x : ℕ). d - 0 - x) (rest-pushed l d 0 h p))
+    ∙ last-leaves l d h p
+
+pub leaving-none : (l d n h : ℕ) → d ≤ l → d ≤ n → leaving l d n h ≡ 0
+leaving-none l d n h p q =
+    let z : d - n ≡ 0 = omega arith in
+    leaving-at-once l d n h p ∙ ap (λ (m : ℕ). m - setIn (l - n) m h) z ∙ zero-less (setIn (l - n) 0 h)
+  where
+    zero-less : (x : ℕ) → 0 - x ≡ 0
+    zero-less x = omega arith
+
+pub leaving-one : (l h : ℕ) → leaving l 1 0 h ≡ 1 - h / 2 ^ (l - 1) % 2
 unfolding leaving bit bitOf
 leaving-one l h = one-leaves (h / 2 ^ (l - 1) % 2) 0 0 (omega arith) (omega arith) ∙ omega arith
 

@@ -19,7 +19,7 @@ unfolding ticked expires
 tick-none-left s l e =
     let z : s .state .remaining - 1 ≡ s .state .remaining = omega arith in
     rw (l, ne-eqb (s .state .remaining) 1 (λ o. omega arith))
-    (λ i. with s (record { history = s .state .history; anchor = s .state .anchor; remaining = z i; any = s .state .any }) (s .counts))
+    (λ i. with s (record { history = s .state .history; anchor = s .state .anchor; remaining = z i; early = s .state .early; any = s .state .any }) (s .counts))
 
 module _ (s : Stream) where
   -- damaged or free

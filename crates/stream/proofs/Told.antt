@@ -16,7 +16,7 @@ Fact s first = Unit {0}
 Fact s far = Unit {0}
 Fact s again = Unit {0}
 Fact s (late k) = (yes (s .state .any) ≡ false) × (eqb (s .rule) vectorRule ≡ true) × (k < s .window) × (bit k (s .state .history) ≡ false)
-Fact s (next d) = (yes (s .state .any) ≡ false) × (eqb (s .rule) vectorRule ≡ true) × (0 < d)
+Fact s (next d) = (yes (s .state .any) ≡ false) × (eqb (s .rule) vectorRule ≡ true) × (0 < d) × (d < s .window)
 Fact s (moved b) = (yes (s .state .any) ≡ false) × (eqb (s .rule) vectorRule ≡ false)
 
 pub record Told (s : Stream) (c : Case) : Type 0 where
@@ -29,7 +29,7 @@ told false f g = g refl
 vector-told : (s : Stream) (d : Signed) → yes (s .state .any) ≡ false → eqb (s .rule) vectorRule ≡ true → Forward d
     → Told s (vectorCase (s .window) (s .state .history) d)
 unfolding vectorCase
-vector-told s (ahead d) a r f = told (ltb d (s .window)) (λ e. record { fact = (a, r, f) }) (λ e. record { fact = tt })
+vector-told s (ahead d) a r f = told (ltb d (s .window)) (λ e. record { fact = (a, r, f, ltb-true d (s .window) e) }) (λ e. record { fact = tt })
 vector-told s (behind k) a r f =
     told (ltb k (s .window))
     (λ e. told (bit k (s .state .history)) (λ z. record { fact = tt })

@@ -80,17 +80,19 @@ isRogue duplicate = false
 isRogue rogue = true
 
 -- Handed up ends take-any and sets remaining to R. A late number leaves the anchor; every other one becomes it.
-abbrev pub handedUp : Stream → (anchor : ℕ) → History → State
-handedUp s anchor history = record { history = history; anchor = anchor; remaining = s .time; any = 0 }
+abbrev pub handedUp : Stream → (anchor n : ℕ) → History → State
+handedUp s anchor n history = record { history = history; anchor = anchor; remaining = s .time; early = n; any = 0 }
 
--- The state after each case: a discard of either kind leaves it.
+-- The state after each case: a discard of either kind leaves it. Of the places for older numbers there are L - 1 once a vector
+-- record has its first, and one less with each place that the history moves.
 unfoldable pub stateAfter : Stream → (number : ℕ) → Case → State
-stateAfter s number first = handedUp s number (if eqb (s .rule) vectorRule then single else empty)
+stateAfter s number first =
+    handedUp s number (if eqb (s .rule) vectorRule then s .window - 1 else 0) (if eqb (s .rule) vectorRule then single else empty)
 stateAfter s number far = s .state
 stateAfter s number again = s .state
-stateAfter s number (late k) = handedUp s (s .state .anchor) (setBit k (s .state .history))
-stateAfter s number (next d) = handedUp s number (advance (s .window) d (s .state .history))
-stateAfter s number (moved inOrder) = handedUp s number (s .state .history)
+stateAfter s number (late k) = handedUp s (s .state .anchor) (s .state .early) (setBit k (s .state .history))
+stateAfter s number (next d) = handedUp s number (s .state .early - d) (advance (s .window) d (s .state .history))
+stateAfter s number (moved inOrder) = handedUp s number (s .state .early) (s .state .history)
 
 -- Out of order rises with a late number, and where d is not 1; never with the first arrival or a discard.
 unfoldable pub outOfOrder : Case → Bool
@@ -101,13 +103,13 @@ outOfOrder (late k) = true
 outOfOrder (next d) = not (eqb d 1)
 outOfOrder (moved inOrder) = not inOrder
 
--- Each zero bit that leaves at place L-1 adds 1 to lost.
+-- Each zero bit that leaves at place L-1, and whose number comes after the first since the reset, adds 1 to lost.
 unfoldable pub losses : Stream → Case → ℕ
 losses s first = 0
 losses s far = 0
 losses s again = 0
 losses s (late k) = 0
-losses s (next d) = leaving (s .window) d (s .state .history)
+losses s (next d) = leaving (s .window) d (s .state .early) (s .state .history)
 losses s (moved inOrder) = 0
 
 -- Counters are 64 bits wide and wrap to zero after 2^64 - 1.
@@ -175,7 +177,7 @@ unfoldable pub expires : Stream → Bool
 expires s = lawful s && eqb (s .state .remaining) 1
 
 abbrev pub aged : State → State
-aged t = record { history = t .history; anchor = t .anchor; remaining = t .remaining - 1; any = t .any }
+aged t = record { history = t .history; anchor = t .anchor; remaining = t .remaining - 1; early = t .early; any = t .any }
 
 unfoldable pub ticked : Stream → Stream
 ticked s =

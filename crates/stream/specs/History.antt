@@ -1,7 +1,8 @@
 -- Document 01, "The stream record": the history, whose bit k stands for the number anchor - k. This file alone knows how
 -- a history is held; every other file goes through these names. Assumes nothing.
 use Prim.Native.Nat.{ℕ, zero, suc, _+_, _-_, _*_, _/_, _%_, _^_}
-use mathlib.Core.Bool.{Bool, not}
+use mathlib.Core.Bool.{Bool, not, _&&_}
+use lib.Count.{ones}
 use lib.Dec.{eqb, ltb}
 use Rattle.record.specs.Words.{if_then_else_}
 
@@ -48,10 +49,15 @@ unfoldable pub pushes : (window d : ℕ) (history : History) → History
 pushes window zero history = history
 pushes window (suc d) history = pushes window d (push window history)
 
--- how many zero bits leave at place L - 1 on the way
-unfoldable pub leaving : (window d : ℕ) (history : History) → ℕ
-leaving window zero history = 0
-leaving window (suc d) history = one (not (bit (window - 1) history)) + leaving window d (push window history)
+-- how many zero bits leave at place L - 1 on the way and count: not the first n, which stand for numbers older than the first
+unfoldable pub leaving : (window d n : ℕ) (history : History) → ℕ
+leaving window zero n history = 0
+leaving window (suc d) n history =
+    one (eqb n 0 && not (bit (window - 1) history)) + leaving window d (n - 1) (push window history)
+
+-- how many of the d places below place L are set
+abbrev pub setIn : (window d : ℕ) (history : History) → ℕ
+setIn window d history = ones (history / 2 ^ (window - d) % 2 ^ d)
 
 -- d places up, and bit 0 set
 unfoldable pub advance : (window d : ℕ) (history : History) → History

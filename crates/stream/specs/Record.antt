@@ -1,5 +1,5 @@
 -- Document 01, "The stream record": the fresh state, and when a record is lawful or damaged. Assumes nothing.
-use Prim.Native.Nat.{ℕ}
+use Prim.Native.Nat.{ℕ, _-_}
 use mathlib.Core.Bool.{Bool, _&&_, _||_, not, Bool·beq}
 use lib.Dec.{eqb, leb}
 pub use Rattle.record.specs.declared.State.{State}
@@ -7,17 +7,17 @@ pub use Rattle.record.specs.declared.Counts.{Counts}
 pub use Rattle.record.specs.declared.Stream.{Stream}
 use Rattle.record.specs.Words.{if_then_else_, yes}
 use Rattle.record.specs.Sizes.{windowLeast, windowMost, timeLeast, timeMost, vlanMost, vectorRule, matchRule}
-use Rattle.stream.specs.History.{empty, isEmpty, bit, within}
+use Rattle.stream.specs.History.{History, empty, isEmpty, bit, within}
 
--- The fresh state is anchor 65535, history zero, take-any, remaining 0.
+-- The fresh state is anchor 65535, history zero, take-any, remaining 0, and no place left for older numbers.
 abbrev pub anchorFresh : ℕ
 anchorFresh = 65535
 
 abbrev pub fresh : State
-fresh = record { history = empty; anchor = anchorFresh; remaining = 0; any = 1 }
+fresh = record { history = empty; anchor = anchorFresh; remaining = 0; early = 0; any = 1 }
 
 unfoldable pub isFresh : State → Bool
-isFresh t = eqb (t .anchor) anchorFresh && isEmpty (t .history) && yes (t .any) && eqb (t .remaining) 0
+isFresh t = eqb (t .anchor) anchorFresh && isEmpty (t .history) && yes (t .any) && eqb (t .remaining) 0 && eqb (t .early) 0
 
 -- The settings (rule, L, R, VLAN id) are within the sizes.
 unfoldable pub settled : Stream → Bool
@@ -35,14 +35,19 @@ shaped rule window t =
     else if eqb rule vectorRule then bit 0 (t .history) && within window (t .history)
     else isEmpty (t .history)
 
+-- n, the places left for numbers older than the first, is at most L - 1; with n above 0 the first stands at place L - 1 - n.
+unfoldable pub placed : (window n : ℕ) → History → Bool
+placed window n history = leb n (window - 1) && (eqb n 0 || bit (window - 1 - n) history)
+
 -- A record in use is lawful when its settings are within the sizes, remaining is at most R, and remaining is 0 exactly if
--- take-any holds; and its state is shaped as above. Counters may hold anything.
+-- take-any holds; and its state is placed and shaped as above. Counters may hold anything.
 unfoldable pub lawful : Stream → Bool
 lawful s =
     yes (s .used)
     && settled s
     && leb (s .state .remaining) (s .time)
     && Bool·beq (eqb (s .state .remaining) 0) (yes (s .state .any))
+    && placed (s .window) (s .state .early) (s .state .history)
     && shaped (s .rule) (s .window) (s .state)
 
 -- In use and not lawful.

@@ -17,6 +17,7 @@ marksOf s number c = record {
   history = stateAfter s number c .history;
   lost = losses s c;
   anchor = stateAfter s number c .anchor;
+  early = stateAfter s number c .early;
   disorder = outOfOrder c;
 }
 
@@ -44,7 +45,7 @@ said Rogue = some rogue
 unfoldable pub recordAfter : Stream → (network : ℕ) → Weighed → Stream
 recordAfter s network Damaged = s
 recordAfter s network (HandedUp m) =
-    with s (handedUp s (m .anchor) (m .history)) (tally (s .counts) network up (m .disorder) (m .lost))
+    with s (handedUp s (m .anchor) (m .early) (m .history)) (tally (s .counts) network up (m .disorder) (m .lost))
 recordAfter s network Duplicate = with s (s .state) (tally (s .counts) network duplicate false 0)
 recordAfter s network Rogue = with s (s .state) (tally (s .counts) network rogue false 0)
 

@@ -46,7 +46,7 @@ four rule = opened 7 0 rule 4 3
 
 abbrev pub held : (rule anchor : ℕ) → History → (remaining : ℕ) → Stream
 held rule anchor history remaining =
-    with (four rule) (record { history = history; anchor = anchor; remaining = remaining; any = 0 }) (four rule .counts)
+    with (four rule) (record { history = history; anchor = anchor; remaining = remaining; early = 0; any = 0 }) (four rule .counts)
 
 unfoldable pub computed : List Line
 computed =
@@ -60,14 +60,14 @@ computed =
 unfoldable pub written : List Line
 written =
     step 65534 none up 0b0001 0  -- a
-    ∷ step 65535 (d (pos 1)) up 0b0011 1  -- b
-    ∷ step 65534 (d (negℤ (pos 1))) duplicate 0b0011 1  -- c
-    ∷ step 1 (d (pos 2)) up 0b1101 3  -- d
-    ∷ step 0 (d (negℤ (pos 1))) up 0b1111 3  -- e
-    ∷ step 5 (d (pos 4)) rogue 0b1111 3  -- f
-    ∷ step 65533 (d (negℤ (pos 4))) rogue 0b1111 3  -- g
-    ∷ step 65534 (d (negℤ (pos 3))) duplicate 0b1111 3  -- h
-    ∷ step 4 (d (pos 3)) up 0b1001 3  -- i
+    ∷ step 65535 (d (pos 1)) up 0b0011 0  -- b
+    ∷ step 65534 (d (negℤ (pos 1))) duplicate 0b0011 0  -- c
+    ∷ step 1 (d (pos 2)) up 0b1101 0  -- d
+    ∷ step 0 (d (negℤ (pos 1))) up 0b1111 0  -- e
+    ∷ step 5 (d (pos 4)) rogue 0b1111 0  -- f
+    ∷ step 65533 (d (negℤ (pos 4))) rogue 0b1111 0  -- g
+    ∷ step 65534 (d (negℤ (pos 3))) duplicate 0b1111 0  -- h
+    ∷ step 4 (d (pos 3)) up 0b1001 0  -- i
     ∷ totals 5 2 2 3
     ∷ arrival 32768 (d (negℤ (pos 32768))) rogue 0  -- j
     ∷ arrival 9 (d (pos 0)) duplicate 0  -- k

@@ -28,6 +28,7 @@ fn behind(s: Stream, k: u16) -> Weighed
         history: history::set_bit(h, k),
         lost: 0,
         anchor: s.state.anchor,
+        early: s.state.early,
         disorder: true,
     })
 }
@@ -37,11 +38,13 @@ fn ahead(s: Stream, number: u16, k: u16) -> Weighed
     requires { ⌜ (1 ≤ k) × ((k < s .window) × (s .window ≤ windowMost)) ⌝ }
     ensures { λ r. ⌜ r ≡ weighedAs s number (next k) ⌝ }
 {
-    let m = history::advanced(s.state.history, s.window, k);
+    let h = s.state.history;
+    let n = s.state.early;
     Weighed::HandedUp(Marks {
-        history: m.history,
-        lost: m.lost,
+        history: history::advanced(h, s.window, k),
+        lost: history::lost(h, s.window, k, n),
         anchor: number,
+        early: history::fewer(n, k),
         disorder: k != 1,
     })
 }
@@ -56,6 +59,7 @@ pub fn by_vector(s: Stream, number: u16) -> Weighed
             history: history::SINGLE,
             lost: 0,
             anchor: number,
+            early: s.window - 1,
             disorder: false,
         });
     }
@@ -84,6 +88,7 @@ pub fn by_match(s: Stream, number: u16) -> Weighed
             history: history::EMPTY,
             lost: 0,
             anchor: number,
+            early: 0,
             disorder: false,
         });
     }
@@ -95,6 +100,7 @@ pub fn by_match(s: Stream, number: u16) -> Weighed
         history: s.state.history,
         lost: 0,
         anchor: number,
+        early: s.state.early,
         disorder: d != 1,
     })
 }

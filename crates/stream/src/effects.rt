@@ -30,6 +30,7 @@ pub fn handed_up(s: Stream, network: u8, m: Marks) -> Stream
         history: m.history,
         anchor: m.anchor,
         remaining: s.time,
+        early: m.early,
         any: 0,
     };
     let mut t = s;

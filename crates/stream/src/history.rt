@@ -1,8 +1,8 @@
 // The history of a vector record: bit k stands for the number anchor - k. This file alone knows how a history is held.
 ghost use mathlib.Core.Path.{_≡_};
-ghost use Prim.Native.Nat.{_<_, _≤_};
+ghost use Prim.Native.Nat.{_-_, _<_, _≤_};
 ghost use Rattle.record.specs.Sizes.{windowMost};
-ghost use Rattle.stream.specs.History.{isEmpty, bit, within, setBit, pushes, leaving, advance};
+ghost use Rattle.stream.specs.History.{isEmpty, bit, within, setBit, pushes, setIn, leaving, advance};
 
 // Bits in the word that holds it.
 const WORD: u16 = 64;
@@ -40,54 +40,66 @@ pub fn set_bit(h: u64, k: u16) -> u64
     h | (1 << k)
 }
 
-// A history after a move, and how many zero bits left on the way.
-pub struct Moved {
-    pub history: u64,
-    pub lost: u64,
-}
-
 // One place up in a window of w.
-fn one_up(h: u64, w: u16) -> Moved
+fn one_up(h: u64, w: u16) -> u64
     requires { ⌜ (1 ≤ w) × (w ≤ windowMost) ⌝ }
-    ensures { λ r. ⌜ (r .history ≡ pushes w 1 h) × (r .lost ≡ leaving w 1 h) ⌝ }
+    ensures { λ r. ⌜ r ≡ pushes w 1 h ⌝ }
 {
-    let top = w - 1;
-    Moved {
-        history: h % (1 << top) * 2,
-        lost: 1 - (h >> top) % 2,
-    }
+    h % (1 << (w - 1)) * 2
 }
 
-// d places up at once. The window stands at the word's top, so that the d places that leave are counted by one shift.
-fn places_up(h: u64, w: u16, d: u16) -> Moved
+// d places up at once: the window stands at the word's top.
+fn places_up(h: u64, w: u16, d: u16) -> u64
     requires { ⌜ (1 ≤ d) × ((d < w) × (w ≤ windowMost)) ⌝ }
-    ensures { λ r. ⌜ (r .history ≡ pushes w d h) × (r .lost ≡ leaving w d h) ⌝ }
+    ensures { λ r. ⌜ r ≡ pushes w d h ⌝ }
 {
     let up = WORD - w;
-    let a = h << up;
-    let ones = u64::count_ones(a >> (WORD - d));
-    let zeros = (d as u32) - ones;
-    Moved {
-        history: (a << d) >> up,
-        lost: zeros as u64,
-    }
+    ((h << up) << d) >> up
 }
 
-// d places up, and bit 0 set. The next number is the common case, and has no bits to count.
-pub fn advanced(h: u64, w: u16, d: u16) -> Moved
+// d places up, and bit 0 set. The next number is the common case.
+pub fn advanced(h: u64, w: u16, d: u16) -> u64
     requires { ⌜ (1 ≤ d) × ((d < w) × (w ≤ windowMost)) ⌝ }
-    ensures { λ r. ⌜ (r .history ≡ advance w d h) × (r .lost ≡ leaving w d h) ⌝ }
+    ensures { λ r. ⌜ r ≡ advance w d h ⌝ }
 {
     if d == 1 {
-        let m = one_up(h, w);
-        return Moved {
-            history: set_bit(m.history, 0),
-            lost: m.lost,
-        };
+        return set_bit(one_up(h, w), 0);
     }
-    let m = places_up(h, w, d);
-    Moved {
-        history: set_bit(m.history, 0),
-        lost: m.lost,
+    set_bit(places_up(h, w, d), 0)
+}
+
+// How many of the d places below place w are clear. They stand at the word's top, so that one shift counts them.
+fn zeros(h: u64, w: u16, d: u16) -> u64
+    requires { ⌜ (1 ≤ d) × ((d ≤ w) × (w ≤ windowMost)) ⌝ }
+    ensures { λ r. ⌜ r ≡ d - setIn w d h ⌝ }
+{
+    let a = h << (WORD - w);
+    let ones = u64::count_ones(a >> (WORD - d));
+    let zeros = (d as u32) - ones;
+    zeros as u64
+}
+
+// How many zero bits leave and count on the way of d places up, where n places are left for numbers older than the first.
+// The next number is the common case, and has no bits to count.
+pub fn lost(h: u64, w: u16, d: u16, n: u16) -> u64
+    requires { ⌜ (1 ≤ d) × ((d < w) × (w ≤ windowMost)) ⌝ }
+    ensures { λ r. ⌜ r ≡ leaving w d n h ⌝ }
+{
+    if d <= n {
+        return 0;
     }
+    if d == 1 {
+        return 1 - (h >> (w - 1)) % 2;
+    }
+    zeros(h, w - n, d - n)
+}
+
+// n, less d.
+pub fn fewer(n: u16, d: u16) -> u16
+    ensures { λ r. ⌜ r ≡ n - d ⌝ }
+{
+    if n <= d {
+        return 0;
+    }
+    n - d
 }

@@ -16,18 +16,20 @@ ghost use lib.Dec.{eqb};
 ghost use Rattle.record.specs.Words.{if_then_else_, yes};
 ghost use Rattle.record.specs.Sizes.{windowLeast, windowMost, vectorRule, matchRule};
 ghost use Rattle.stream.specs.History.{bit, within, isEmpty};
-ghost use Rattle.stream.specs.Record.{fresh, isFresh, settled, lawful, opened, closed};
+ghost use Rattle.stream.specs.Record.{fresh, isFresh, settled, placed, lawful, opened, closed};
 ghost use Rattle.stream.specs.Decisions.{reset};
 ghost use Rattle.stream.specs.Steps.{weighed, recordAfter, tickOf};
 
 // The anchor of the fresh state.
 const FRESH_ANCHOR: u16 = 65535;
 
-// What an arrival that is handed up leaves: the history, how many more are lost, the anchor, and whether it is out of order.
+// What an arrival that is handed up leaves: the history, how many more are lost, the anchor, the places left for older numbers,
+// and whether it is out of order.
 pub struct Marks {
     pub history: u64,
     pub lost: u64,
     pub anchor: u16,
+    pub early: u16,
     pub disorder: bool,
 }
 
@@ -53,6 +55,7 @@ fn fresh_state() -> State
         history: history::EMPTY,
         anchor: FRESH_ANCHOR,
         remaining: 0,
+        early: 0,
         any: 1,
     }
 }
@@ -132,7 +135,24 @@ fn is_fresh(t: State) -> bool
     if t.remaining != 0 {
         return false;
     }
+    if t.early != 0 {
+        return false;
+    }
     history::is_empty(t.history)
+}
+
+// The places left for numbers older than the first: the first stands next to them.
+fn is_placed(window: u16, n: u16, h: u64) -> bool
+    requires { ⌜ (windowLeast ≤ window) × (window ≤ windowMost) ⌝ }
+    ensures { λ r. ⌜ r ≡ placed window n h ⌝ }
+{
+    if n == 0 {
+        return true;
+    }
+    if window <= n {
+        return false;
+    }
+    history::has_bit(h, window - 1 - n)
 }
 
 // What a history has to be without take-any.
@@ -161,6 +181,9 @@ pub fn lawful(s: Stream) -> bool
     }
     let t = s.state;
     if s.time < t.remaining {
+        return false;
+    }
+    if !is_placed(s.window, t.early, t.history) {
         return false;
     }
     if t.any != 0 {

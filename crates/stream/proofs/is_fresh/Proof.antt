@@ -18,16 +18,21 @@ returns-2 : tie.Need-returns-2
 unfolding isFresh
 returns-2 c = search flags depth 8
 
+returns-3 : tie.Need-returns-3
+unfolding isFresh
+returns-3 c = search flags depth 8
+
 is-empty-requires : tie.Need-is-empty-requires
 is-empty-requires c κs = search needs
 
-returns-3 : tie.Need-returns-3
+returns-4 : tie.Need-returns-4
 unfolding isFresh
-returns-3 c =
-    let t = c .before .before .before .before .before .args .t in
+returns-4 c =
+    let t = c .before .before .before .before .before .before .before .args .t in
     let a : eqb (t .anchor) anchorFresh ≡ true = eq-eqb (t .anchor) anchorFresh (search needs) in
     let z : eqb (t .remaining) 0 ≡ true = eq-eqb (t .remaining) 0 (search needs) in
-    rw (a, z, c .before .before .before .before .before .pre, c .is-empty .ensures) (last (isEmpty (t .history)))
+    let y : eqb (t .early) 0 ≡ true = eq-eqb (t .early) 0 (search needs) in
+    rw (a, z, y, c .before .before .before .before .before .before .before .pre, c .is-empty .ensures) (last (isEmpty (t .history)))
 
 pub is-fresh-spec : {M : Type 1} → statement M
-is-fresh-spec = tie.close (tie.spec returns returns-2 is-empty-requires returns-3)
+is-fresh-spec = tie.close (tie.spec returns returns-2 returns-3 is-empty-requires returns-4)

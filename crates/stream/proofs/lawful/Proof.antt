@@ -1,8 +1,8 @@
 -- `stream::lawful` meets its contract. Assumes nothing.
 use mathlib.Core.Path.{_∙_, sym}
-use Rattle.stream.specs.Record.{shaped, lawful}
+use Rattle.stream.specs.Record.{lawful}
 use Rattle.stream.proofs.Flags.{flags}
-use Rattle.stream.proofs.Law.{sizes, taking-any}
+use Rattle.stream.proofs.Law.{sizes, taking-any, not-any}
 use borrow.Author.Needs.{needs}
 use Rattle.stream.proofs.lawful.Statement.{statement}
 use Rattle.stream.proofs.lawful.Tie as tie
@@ -22,25 +22,34 @@ returns-3 : tie.Need-returns-3
 unfolding lawful
 returns-3 c = search flags depth 8
 
-is-fresh-requires : tie.Need-is-fresh-requires
-is-fresh-requires c κs = search flags
-
-returns-4 : tie.Need-returns-4
-returns-4 c = c .is-fresh .ensures ∙ sym (taking-any (c .before .before .before .before .before .before .before .before .before .before .before .args .s) (search flags) (search flags) (search flags) (search flags))
-
-returns-5 : tie.Need-returns-5
-unfolding lawful
-returns-5 c = search flags depth 8
-
-is-marked-requires : tie.Need-is-marked-requires
-is-marked-requires c κs =
-    let s = c .before .before .before .before .before .before .before .before .before .before .before .before .args .s in
+is-placed-requires : tie.Need-is-placed-requires
+is-placed-requires c κs =
+    let s = c .before .before .before .before .before .before .before .before .args .s in
     let f = sizes {s = s} (sym (search flags)) in
     (f .least, f .most)
 
+returns-4 : tie.Need-returns-4
+unfolding lawful
+returns-4 c = search flags depth 8
+
+is-fresh-requires : tie.Need-is-fresh-requires
+is-fresh-requires c κs = search flags
+
+returns-5 : tie.Need-returns-5
+returns-5 c = c .is-fresh .ensures ∙ sym (taking-any (c .before .before .before .before .before .before .before .before .before .before .before .before .before .args .s) (search flags) (search flags) (search flags) (search flags) (search flags))
+
 returns-6 : tie.Need-returns-6
-unfolding lawful shaped
+unfolding lawful
 returns-6 c = search flags depth 8
+
+is-marked-requires : tie.Need-is-marked-requires
+is-marked-requires c κs =
+    let s = c .before .before .before .before .before .before .before .before .before .before .before .before .before .before .args .s in
+    let f = sizes {s = s} (sym (search flags)) in
+    (f .least, f .most)
+
+returns-7 : tie.Need-returns-7
+returns-7 c = c .is-marked .ensures ∙ sym (not-any (c .before .before .before .before .before .before .before .before .before .before .before .before .before .before .before .args .s) (search flags) (search flags) (search flags) (search flags) (search flags) (sym (search flags)))
 
 pub lawful-spec : {M : Type 1} → statement M
 lawful-spec =
@@ -50,8 +59,10 @@ lawful-spec =
     settled-requires
     returns-2
     returns-3
-    is-fresh-requires
+    is-placed-requires
     returns-4
+    is-fresh-requires
     returns-5
+    returns-6
     is-marked-requires
-    returns-6)
+    returns-7)

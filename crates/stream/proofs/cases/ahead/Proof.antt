@@ -1,5 +1,5 @@
 -- `stream::cases::ahead` meets its contract. Assumes nothing.
-use mathlib.Core.Path.{ap₂}
+use mathlib.Core.Path.{_≡_}
 use mathlib.Core.Bool.{not}
 use Prim.Native.Nat.{ℕ}
 use lib.Dec.{eqb}
@@ -12,14 +12,15 @@ use Rattle.stream.proofs.cases.ahead.Tie as tie
 advanced-requires : tie.Need-advanced-requires
 advanced-requires c κs = search needs
 
+lost-requires : tie.Need-lost-requires
+lost-requires c κs = search needs
+
+fewer-requires : tie.Need-fewer-requires
+fewer-requires c κs = search needs
+
 returns : tie.Need-returns
 unfolding weighedAs stateAfter losses outOfOrder
-returns c =
-    let a = c .before .args in
-    ap₂
-    (λ (history lost : ℕ). HandedUp (record { history = history; lost = lost; anchor = a .number; disorder = not (eqb (a .k) 1) }))
-    (c .advanced .ensures .0)
-    (c .advanced .ensures .1)
+returns c = cc
 
 pub ahead-spec : {M : Type 1} → statement M
-ahead-spec = tie.close (tie.spec advanced-requires returns)
+ahead-spec = tie.close (tie.spec advanced-requires lost-requires fewer-requires returns)

@@ -20,35 +20,35 @@ use Rattle.stream.proofs.cases.by_vector.Statement.{statement}
 use Rattle.stream.proofs.cases.by_vector.Tie as tie
 
 -- Where d and the window are known: the function's start, and d as the definitions have it.
-abbrev start : tie.After-struct-known2 → tie.Start
+abbrev start : tie.After-struct-known3 → tie.Start
 start c = c .before .before .before .before
 
-abbrev d : tie.After-struct-known2 → Signed
+abbrev d : tie.After-struct-known3 → Signed
 d c = difference (start c .args .number) (start c .args .s .state .anchor)
 
 -- The case is the vector rule's at d,
-sorted : (c : tie.After-struct-known2)
+sorted : (c : tie.After-struct-known3)
     → caseOf (start c .args .s) (start c .args .number) ≡ vectorCase (start c .args .s .window) (start c .args .s .state .history) (d c)
 sorted c =
     let s = start c .args .s in
     case-vector s (start c .args .number) (is-no (s .state .any) (c .before .before .if1 .left)) (eq-eqb (s .rule) vectorRule (start c .pre .1 .1))
 
 -- and the tests on the local are tests on d.
-over : (c : tie.After-struct-known2) (b : Bool)
+over : (c : tie.After-struct-known3) (b : Bool)
     → leZ (toZ w32 (start c .args .s .window)) (toZ w32 (ofZ w32 (c .before .difference .result))) ≡ b
     → leZ (pos (start c .args .s .window)) (asInt (d c)) ≡ b
 over c b e =
     let fits : SFits w32 (c .before .difference .result) = search needs in
     rw (← c .before .difference .ensures) (at-least (start c .args .s .window) (c .before .difference .result) (omega arith) fits b e)
 
-under : (c : tie.After-struct-known2) (b : Bool)
+under : (c : tie.After-struct-known3) (b : Bool)
     → leZ (toZ w32 (ofZ w32 (c .before .difference .result))) (toZ w32 (ofZ w32 (pos 0 -ℤ toZ w32 (start c .args .s .window)))) ≡ b
     → leZ (asInt (d c)) (negℤ (pos (start c .args .s .window))) ≡ b
 under c b e =
     let fits : SFits w32 (c .before .difference .result) = search needs in
     rw (← c .before .difference .ensures) (at-most (start c .args .s .window) (c .before .difference .result) (omega arith) fits b e)
 
-not-ahead : (c : tie.After-struct-known2) (b : Bool)
+not-ahead : (c : tie.After-struct-known3) (b : Bool)
     → leZ (toZ w32 (ofZ w32 (c .before .difference .result))) (pos 0) ≡ b → leZ (asInt (d c)) (pos 0) ≡ b
 not-ahead c b e =
     let fits : SFits w32 (c .before .difference .result) = search needs in
@@ -66,12 +66,15 @@ sized c =
     let fits : SFits w32 (k .before .difference .result) = search needs in
     c .size .ensures ∙ ap natAbs (toZ-ofZ fits ∙ k .before .difference .ensures)
 
+sub-t7 : tie.Need-sub-t7
+sub-t7 c = search needs
+
 returns : tie.Need-returns
 unfolding weighedAs stateAfter losses outOfOrder
 returns c =
-    let a = c .before .before in
+    let a = c .before .before .before in
     let s = a .args .s in
-    rw (case-first s (a .args .number) (is-yes (s .state .any) (c .if1 .taken)), eq-eqb (s .rule) vectorRule (a .pre .1 .1))
+    rw (case-first s (a .args .number) (is-yes (s .state .any) (c .before .if1 .taken)), eq-eqb (s .rule) vectorRule (a .pre .1 .1))
 
 difference-requires : tie.Need-difference-requires
 difference-requires c κs = search needs
@@ -136,6 +139,7 @@ pub by-vector-spec : {M : Type 1} → statement M
 by-vector-spec =
     tie.close
     (tie.spec
+    sub-t7
     returns
     difference-requires
     cast-w

@@ -14,9 +14,8 @@ set-bit-requires c κs = search needs
 returns : tie.Need-returns
 unfolding advance
 returns c =
-    let m = c .before .one-up .ensures in
     let d = c .before .before .if1 .taken in
-    rw d (c .set-bit .ensures ∙ ap (setBit 0) (m .0), m .1)
+    rw d (c .set-bit .ensures ∙ ap (setBit 0) (c .before .one-up .ensures))
 
 places-up-requires : tie.Need-places-up-requires
 places-up-requires c κs = search needs
@@ -26,9 +25,7 @@ set-bit-requires-2 c κs = search needs
 
 returns-2 : tie.Need-returns-2
 unfolding advance
-returns-2 c =
-    let m = c .before .places-up .ensures in
-    (c .set-bit2 .ensures ∙ ap (setBit 0) (m .0), m .1)
+returns-2 c = c .set-bit2 .ensures ∙ ap (setBit 0) (c .before .places-up .ensures)
 
 pub advanced-spec : {M : Type 1} → statement M
 advanced-spec =
