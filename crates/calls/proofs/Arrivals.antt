@@ -54,6 +54,10 @@ weighed-verdict : (s : Stream) (number : ℕ) → lawful s ≡ true
 unfolding weighed weighedAs decisions.verdict
 weighed-verdict s number l = rw l
 
+no-verdict : (s : Stream) (network : ℕ) → recordAfter s network weighs.Damaged ≡ s
+unfolding recordAfter
+no-verdict s network = refl
+
 after-judged : (s : Stream) (network : ℕ) (w : Weighed) → recordOf s network (judgedAs w) ≡ recordAfter s network w
 unfolding recordAfter
 after-judged s network weighs.Damaged = refl
@@ -152,10 +156,10 @@ module _ (t : Table) (network : ℕ) (f out : List ℕ) where
               → Meets t (arriving network f out) (record { said = saidArrival r; table = u; output = o })
           go false m l k g =
               let d : j ≡ judges.Refused DAMAGED = g ∙ rw l in
-              by-act t (arriving network f out) (refuse DAMAGED) (damaged-act l) (b ∙ rw d) (a ∙ rw d (set-getD t i blank)) (c ∙ rw d)
+              by-act t (arriving network f out) (refuse DAMAGED) (damaged-act l) (b ∙ rw d) (a ∙ rw (d, no-verdict (at t i) network) (set-getD t i blank)) (c ∙ rw d)
           go true false l k g =
               let d : j ≡ judges.Refused ROOM = g ∙ rw l in
-              by-act t (arriving network f out) (refuse ROOM) (small-act l (sym k)) (b ∙ rw d) (a ∙ rw d (set-getD t i blank)) (c ∙ rw d)
+              by-act t (arriving network f out) (refuse ROOM) (small-act l (sym k)) (b ∙ rw d) (a ∙ rw (d, no-verdict (at t i) network) (set-getD t i blank)) (c ∙ rw d)
           go true true l k g =
               let v = decisions.verdict (at t i) number in
               let m = marksOf (at t i) number (decisions.caseOf (at t i) number) in

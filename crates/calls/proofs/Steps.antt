@@ -1,10 +1,8 @@
 -- What the steps of a call come to, by the tests that the code makes. Assumes nothing.
 use Prim.Native.Nat.{ℕ, _≤_, _<_}
-use mathlib.Core.Path.{_≡_, refl, sym, ap, _∙_}
+use mathlib.Core.Path.{_≡_, sym, ap, _∙_}
 use mathlib.Core.Bool.{Bool, true, false, _&&_, and-true, and-false}
 use mathlib.Core.List.{List}
-use mathlib.Core.Option.{none, some}
-use native.Mathlib.Omega.{arith}
 use lib.Dec.{ltb}
 use borrow.Author.Tests.{lt-ltb, le-ltb, eq-eqb, ne-eqb}
 use Rattle.refusal.specs.Checks.Said.{refused, answers}
@@ -20,9 +18,7 @@ use Rattle.frame.specs.declared.TagRead.the-variants as read
 use Rattle.stream.specs.Record.{settled, lawful, closed}
 use Rattle.stream.specs.Decisions as decisions
 use Rattle.stream.specs.declared.Weighed.{Weighed}
-use Rattle.stream.specs.declared.Weighed.the-variants.{Damaged}
-use Rattle.stream.specs.Steps.{weighed, said}
-use Rattle.stream.proofs.Steps.{steps-tell-verdict}
+use Rattle.stream.specs.Steps.{weighed}
 use Rattle.calls.specs.Calls.{admitted}
 use Rattle.calls.specs.declared.Found.the-variants.{At, Nothing}
 use Rattle.calls.specs.declared.Survey.{Survey}
@@ -64,17 +60,6 @@ module _ (slots network : ℕ) (f : List ℕ) where
       ask-tagged s = sym (of-tag ∙ admits-all f _ (sym e ∙ s))
 
 -- ---- judge
-
--- A record that was weighed and has no verdict is not lawful,
-pub no-verdict : (s : Stream) (number : ℕ) → weighed s number ≡ Damaged → lawful s ≡ false
-no-verdict s n e = go (lawful s) refl
-  where
-    clash : {v : decisions.Verdict} → none ≡ some v → ⊥
-    clash x = let z : _≡_ {A = ℕ} 0 1 = cc in omega arith
-
-    go : (b : Bool) → lawful s ≡ b → lawful s ≡ false
-    go true l = absurd (clash (ap said (sym e) ∙ steps-tell-verdict s n l))
-    go false l = l
 
 module _ (s : Stream) (number : ℕ) (room : Bool) where
   pub judge-damaged : lawful s ≡ false → judges.Refused DAMAGED ≡ judged s number room

@@ -68,12 +68,15 @@ judged s number room =
     else if not room then judges.Refused ROOM
     else judgedAs (weighed s number)
 
--- The record after it; a refused arrival leaves it.
+-- The record after it; a refused arrival leaves it, as one without a verdict does.
+abbrev pub weighedIn : Judged → Weighed
+weighedIn (judges.Refused n) = weighs.Damaged
+weighedIn (judges.HandedUp m) = weighs.HandedUp m
+weighedIn judges.Duplicate = weighs.Duplicate
+weighedIn judges.Rogue = weighs.Rogue
+
 abbrev pub recordOf : Stream → (network : ℕ) → Judged → Stream
-recordOf s network (judges.Refused n) = s
-recordOf s network (judges.HandedUp m) = recordAfter s network (weighs.HandedUp m)
-recordOf s network judges.Duplicate = recordAfter s network weighs.Duplicate
-recordOf s network judges.Rogue = recordAfter s network weighs.Rogue
+recordOf s network j = recordAfter s network (weighedIn j)
 
 -- The answer.
 abbrev pub finished : Judged → (slot number : ℕ) (frame : List ℕ) → Said Answer

@@ -13,7 +13,7 @@ ghost use lib.ListN.{length};
 ghost use Rattle.refusal.specs.Checks.Said.{refused};
 ghost use Rattle.refusal.specs.Numbers.{UNKNOWN};
 ghost use Rattle.calls.specs.Said.{saidArrival};
-ghost use Rattle.calls.specs.Steps.{saidAsked, asked, refusalIn, hasRoom, judgedAs, judged, recordOf, finished, bytesOf};
+ghost use Rattle.calls.specs.Steps.{saidAsked, asked, refusalIn, hasRoom, judgedAs, judged, weighedIn, recordOf, finished, bytesOf};
 
 // Arrival: 1 and 2, then 3, 4 and 5 as the frame's reader gives them, then 14.
 pub fn ask(slots: usize, network: u8, frame: &[u8]) -> Asked
@@ -69,19 +69,19 @@ fn bare_length(frame: &[u8]) -> usize
     frame.len() - 6
 }
 
-// Arrival: 7, then 8, then what it is to its record. Nothing is marked yet: the room for it has to be known before.
+// Arrival: 7, then 8, then what it is to its record. Nothing is marked yet: the room for it has to be known before. `weigh`
+// asks for a lawful record again: the compiler leaves that out, and so nothing of what the arrival is has to be kept over 8.
 pub fn judge(s: Stream, number: u16, room: bool) -> Judged
     ensures { λ r. ⌜ r ≡ judged s number room ⌝ }
 {
-    let w = stream::weigh(s, number);
-    let j = judged_as(w);
-    if let Weighed::Damaged = w {
+    if !stream::lawful(s) {
         return Judged::Refused(refusal::DAMAGED);
     }
     if !room {
         return Judged::Refused(refusal::ROOM);
     }
-    j
+    let w = stream::weigh(s, number);
+    judged_as(w)
 }
 
 // What the first step of the decision found: 7 where there is no verdict.
@@ -96,16 +96,23 @@ fn judged_as(w: Weighed) -> Judged
     }
 }
 
-// The record after it. A refused arrival leaves it as it is.
+// The same for the second step. A refused arrival leaves the record as it is, as one without a verdict does.
+fn weighed_as(j: Judged) -> Weighed
+    ensures { λ r. ⌜ r ≡ weighedIn j ⌝ }
+{
+    match j {
+        Judged::Refused(_) => Weighed::Damaged,
+        Judged::HandedUp(m) => Weighed::HandedUp(m),
+        Judged::Duplicate => Weighed::Duplicate,
+        Judged::Rogue => Weighed::Rogue,
+    }
+}
+
+// The record after it. The second step is called at one place, so that no record is copied around a call.
 pub fn record_after(s: Stream, network: u8, j: Judged) -> Stream
     ensures { λ r. ⌜ r ≡ recordOf s network j ⌝ }
 {
-    match j {
-        Judged::Refused(_) => s,
-        Judged::HandedUp(m) => stream::next(s, network, Weighed::HandedUp(m)),
-        Judged::Duplicate => stream::next(s, network, Weighed::Duplicate),
-        Judged::Rogue => stream::next(s, network, Weighed::Rogue),
-    }
+    stream::next(s, network, weighed_as(j))
 }
 
 // The answer; and where the frame is handed up, the frame without its tag at the start of the output.

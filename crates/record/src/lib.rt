@@ -2,7 +2,8 @@
 // No functions: the crate `stream` decides on a record, and `receiver` walks over the table that a caller lends. Each type
 // is `repr(C)`, since that caller may be written in C.
 
-// What an arrival and a tick change. This order of the fields leaves no padding between them.
+// What an arrival and a tick change. With fields of these sizes in this order no byte of a record is padding: `any` has two,
+// so that a record is copied without a rest.
 #[repr(C)]
 pub struct State {
     // Bit k stands for the number anchor - k.
@@ -13,7 +14,7 @@ pub struct State {
     // Places left for numbers older than the first that was handed up since the reset.
     pub early: u16,
     // Take-any: 0 is no, every other value is yes.
-    pub any: u8,
+    pub any: u16,
 }
 
 // The counters. They wrap to zero after 2^64 - 1.

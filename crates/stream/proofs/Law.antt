@@ -1,15 +1,18 @@
 -- What a lawful record is, part by part. Assumes nothing.
-use Prim.Native.Nat.{_≤_}
-use mathlib.Core.Path.{_≡_, refl, sym, _∙_}
-use mathlib.Core.Bool.{Bool, true, false, _&&_, Bool·beq}
+use Prim.Native.Nat.{ℕ, _-_, _≤_}
+use mathlib.Core.Path.{_≡_, refl, sym, ap, _∙_}
+use mathlib.Core.Bool.{Bool, true, false, not, _&&_, Bool·beq, and-false}
 use lib.Dec.{eqb, leb}
-use borrow.Author.Tests.{eq-eqb}
+use borrow.Author.Tests.{eq-eqb, eqb-true}
 use Rattle.record.specs.Words.{if_then_else_, yes}
 use Rattle.record.specs.Sizes.{windowLeast, windowMost, timeLeast, timeMost, vlanMost, vectorRule}
-use Rattle.stream.specs.History.{empty, isEmpty, bit, within}
+use Rattle.stream.specs.History.{History, empty, isEmpty, bit, within}
 use Rattle.stream.specs.Record.{State, Stream, anchorFresh, isFresh, settled, placed, shaped, lawful}
+use Rattle.stream.specs.Steps.{plain, right}
 use Rattle.stream.proofs.Logic.{tests}
-use Rattle.stream.proofs.Past.{is-empty}
+use Rattle.stream.proofs.Flags.{is-no}
+use Rattle.stream.proofs.Past.{is-empty, empty-bit}
+use Rattle.stream.proofs.Early.{none-placed}
 
 pub record Law (s : Stream) : Type 0 where
   pub used : yes (s .used) ≡ true
@@ -60,29 +63,101 @@ fresh-parts {t} e =
     let p = simp tests at e in
     record { anchor = p .0 .0 .0 .0; history = is-empty (t .history) (p .0 .0 .0 .1); any = p .0 .0 .1; remaining = p .0 .1; early = p .1 }
 
--- With take-any, being lawful is being fresh: the rest of it is then there.
-pub taking-any : (s : Stream) → true ≡ yes (s .used) → true ≡ settled s → true ≡ leb (s .state .remaining) (s .time)
-    → true ≡ placed (s .window) (s .state .early) (s .state .history) → true ≡ yes (s .state .any) → lawful s ≡ isFresh (s .state)
-unfolding lawful shaped isFresh
-taking-any s u e r p a = rw (← u, ← e, ← r, ← p, ← a) (go (eqb (s .state .anchor) anchorFresh && isEmpty (s .state .history)) (eqb (s .state .remaining) 0) (eqb (s .state .early) 0))
-  where
-    go : (x z y : Bool) → (Bool·beq z true && true && (x && true && z && y)) ≡ (x && true && z && y)
-    go true true y = refl
-    go true false y = refl
-    go false true y = refl
-    go false false y = refl
+-- Lawful, in the two halves that the code asks for. What is asked of n comes to n = 0 where the history is zero.
+placed-none : (w n : ℕ) (h : History) → eqb n 0 ≡ true → placed w n h ≡ true
+placed-none w n h e = let z : n ≡ 0 = eqb-true n 0 e in rw z (none-placed w h)
 
--- Without it, the history's shape is left.
-pub not-any : (s : Stream) → true ≡ yes (s .used) → true ≡ settled s → true ≡ leb (s .state .remaining) (s .time)
-    → true ≡ placed (s .window) (s .state .early) (s .state .history) → false ≡ eqb (s .state .remaining) 0 → false ≡ yes (s .state .any)
-    → lawful s ≡ (if eqb (s .rule) vectorRule then bit 0 (s .state .history) && within (s .window) (s .state .history) else isEmpty (s .state .history))
-unfolding lawful shaped
-not-any s u e r p z a = rw (← u, ← e, ← r, ← p, ← z, ← a)
+placed-empty : (w n : ℕ) (h : History) → eqb n 0 ≡ false → isEmpty h ≡ true → placed w n h ≡ false
+unfolding placed
+placed-empty w n h e f = let z : h ≡ empty = is-empty h f in rw (z, e, empty-bit (w - 1 - n)) (and-false (leb n (w - 1)))
+
+swap : (a b : Bool) → (a && b) ≡ (b && a)
+swap true true = refl
+swap true false = refl
+swap false true = refl
+swap false false = refl
+
+-- p is what is asked of n, o whether n is 0, and y whether the history is zero
+without : (p o y : Bool) → (o ≡ true → p ≡ true) → (o ≡ false → y ≡ true → p ≡ false) → (p && y) ≡ (o && y)
+without p true y f g = rw (f refl)
+without p false true f g = rw (g refl refl)
+without p false false f g = and-false p
+
+fresh-half : (p o y x : Bool) → (o ≡ true → p ≡ true) → (p && (x && y && true && true && o)) ≡ (x && (o && y))
+fresh-half p true y true f = rw (f refl) (tail y)
+  where
+    tail : (y : Bool) → (y && true && true && true) ≡ y
+    tail true = refl
+    tail false = refl
+fresh-half p true y false f = and-false p
+fresh-half p false y true f = ap (λ (b : Bool). p && b) (and-false (y && true && true)) ∙ and-false p
+fresh-half p false y false f = and-false p
+
+pub halves : (s : Stream) → lawful s ≡ (plain s && right (s .rule) (s .window) (s .state .any) (s .state .early) (s .state .history))
+unfolding lawful plain right shaped isFresh
+halves s =
+    go (yes (s .used) && settled s && leb (s .state .remaining) (s .time)) (eqb (s .state .remaining) 0) (yes (s .state .any))
+    (eqb (s .state .anchor) anchorFresh) (eqb (s .rule) vectorRule)
+    (bit 0 (s .state .history) && within (s .window) (s .state .history))
+  where
+    h : History
+    h = s .state .history
+
+    p : Bool
+    p = placed (s .window) (s .state .early) h
+
+    o : Bool
+    o = eqb (s .state .early) 0
+
+    y : Bool
+    y = isEmpty h
+
+    f : o ≡ true → p ≡ true
+    f = placed-none (s .window) (s .state .early) h
+
+    go : (k z a x v m : Bool)
+        → (k && Bool·beq z a && p && (if a then x && y && a && z && o else if v then m else y))
+        ≡ (k && Bool·beq z a && (if a then x else true) && (if a then o && y else if v then m && p else o && y))
+    go false z a x v m = refl
+    go true true false x v m = refl
+    go true false true x v m = refl
+    go true false false x true m = swap p m
+    go true false false x false m = without p o y f (placed-empty (s .window) (s .state .early) h)
+    go true true true x v m = fresh-half p o y x f
+
+-- the second half of a vector record without take-any
+pub vector-right : (rule window any n : ℕ) (h : History) → any ≡ 0 → rule ≡ vectorRule
+    → right rule window any n h ≡ (bit 0 h && within window h && placed window n h)
+unfolding right
+vector-right rule window any n h a r = rw (is-no any a, eq-eqb rule vectorRule r)
+
+pub not-plain : (s : Stream) → plain s ≡ false → lawful s ≡ false
+not-plain s e = halves s ∙ rw e
+
+pub plain-is : (s : Stream) → true ≡ yes (s .used) → true ≡ settled s → true ≡ leb (s .state .remaining) (s .time)
+    → (z a : Bool) → eqb (s .state .remaining) 0 ≡ z → yes (s .state .any) ≡ a
+    → plain s ≡ (Bool·beq z a && (if a then eqb (s .state .anchor) anchorFresh else true))
+unfolding plain
+plain-is s u e r z a p q = rw (← u, ← e, ← r, p, q)
+
+pub not-left : (z : Bool) → not z ≡ (Bool·beq z false && true)
+not-left true = refl
+not-left false = refl
+
+-- the settings of a record whose first half is right
+pub plain-settled : (s : Stream) → plain s ≡ true → settled s ≡ true
+unfolding plain
+plain-settled s t = let p = simp tests at t in p .0 .0 .0 .1
 
 -- A lawful record with take-any is fresh, and so is one with no ticks left.
 pub idle-fresh : {s : Stream} → Law s → yes (s .state .any) ≡ true → isFresh (s .state) ≡ true
 unfolding shaped
 idle-fresh {s} l a = rw a at (l .shape)
+
+-- Without it, a vector record has no bit at L or above.
+pub vector-within : {s : Stream} → Law s → yes (s .state .any) ≡ false → eqb (s .rule) vectorRule ≡ true → within (s .window) (s .state .history) ≡ true
+unfolding shaped
+vector-within {s} l a r = let p = simp tests at (rw (a, r) at (l .shape)) in p .1
 
 pub spent : {s : Stream} → Law s → s .state .remaining ≡ 0 → isFresh (s .state) ≡ true
 spent {s} l z = idle-fresh l (sym (l .idle) ∙ eq-eqb (s .state .remaining) 0 z)

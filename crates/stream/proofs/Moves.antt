@@ -11,7 +11,7 @@ use lib.Dec.{eqb, lit<}
 use lib.Count.{ones, ones-cat, ones-le}
 use lib.Pow.{pow-pos, field, shr-shr, shl-shr, mod-mod-pow}
 use lib.Arith.{mod-mul}
-use Rattle.stream.specs.History.{bitOf, bit, one, push, pushes, setIn, leaving}
+use Rattle.stream.specs.History.{History, bitOf, bit, one, setBit, push, pushes, leaving, marked}
 
 mod-times : (x c m : ℕ) → (x % m * c) % m ≡ (x * c) % m
 mod-times x c m =
@@ -30,6 +30,16 @@ pushes-at-once l (suc (suc d)) h p =
     pushes-at-once l (suc d) (h * 2 % 2 ^ l) (omega arith)
     ∙ mod-times (h * 2) (2 ^ suc d) (2 ^ l)
     ∙ ap (λ (y : ℕ). y % 2 ^ l) (mul-assoc h 2 (2 ^ suc d) ∙ ap (λ (y : ℕ). h * y) twice)
+
+-- also where it does not move, once it is cut
+pub cut-at-once : (l d h : ℕ) → pushes l d h % 2 ^ l ≡ h * 2 ^ d % 2 ^ l
+unfolding pushes
+cut-at-once l zero h = ap (λ (y : ℕ). y % 2 ^ l) (omega arith)
+cut-at-once l (suc d) h = ap (λ (y : ℕ). y % 2 ^ l) (pushes-at-once l (suc d) h (omega arith)) ∙ mod-mod (h * 2 ^ suc d) (2 ^ l)
+
+-- how many of the d places below place l are set
+abbrev pub setIn : (l d h : ℕ) → ℕ
+setIn l d h = ones (h / 2 ^ (l - d) % 2 ^ d)
 
 pub set-le : (l d h : ℕ) → setIn l d h ≤ d
 set-le l d h = ones-le d (h / 2 ^ (l - d) % 2 ^ d) (mod-lt (h / 2 ^ (l - d)) (pow-pos d))
@@ -134,6 +144,13 @@ pub leaving-one : (l h : ℕ) → leaving l 1 0 h ≡ 1 - h / 2 ^ (l - 1) % 2
 unfolding leaving bit bitOf
 leaving-one l h = one-leaves (h / 2 ^ (l - 1) % 2) 0 0 (omega arith) (omega arith) ∙ omega arith
 
+-- so the places for older numbers are as good as no part of the window
+pub leaving-below : (l d n h : ℕ) → d ≤ l → n < d → leaving (l - n) (d - n) 0 h ≡ leaving l d n h
+leaving-below l d n h p q =
+    let a : d - n - 0 ≡ d - n = omega arith in
+    let b : l - n - 0 ≡ l - n = omega arith in
+    leaving-at-once (l - n) (d - n) 0 h (omega arith) ∙ rw (a, b) (sym (leaving-at-once l d n h p))
+
 -- the same in one word of 64 bits, the window at its top
 pub top-field : (h l d : ℕ) → d ≤ l → l ≤ 64 → (h * 2 ^ (64 - l)) % 2 ^ 64 / 2 ^ (64 - d) ≡ h / 2 ^ (l - d) % 2 ^ d
 top-field h l d p q =
@@ -145,11 +162,11 @@ top-field h l d p q =
     ∙ ap (λ (n : ℕ). x / 2 ^ n % 2 ^ d) parts
     ∙ ap (λ (y : ℕ). y % 2 ^ d) (sym (shr-shr x (64 - l) (l - d)) ∙ ap (λ (y : ℕ). y / 2 ^ (l - d)) (shl-shr h (64 - l)))
 
-pub top-shift : (h l d : ℕ) → l ≤ 64 → (h * 2 ^ (64 - l)) % 2 ^ 64 * 2 ^ d % 2 ^ 64 / 2 ^ (64 - l) ≡ h * 2 ^ d % 2 ^ l
+pub top-shift : (h l d : ℕ) → l ≤ 64 → (h * 2 ^ d) % 2 ^ 64 * 2 ^ (64 - l) % 2 ^ 64 / 2 ^ (64 - l) ≡ h * 2 ^ d % 2 ^ l
 top-shift h l d q =
     let up : ℕ = 64 - l in
     let whole : 64 ≡ l + (64 - l) = omega arith in
-    ap (λ (y : ℕ). y / 2 ^ up) (mod-times (h * 2 ^ up) (2 ^ d) (2 ^ 64) ∙ ap (λ (y : ℕ). y % 2 ^ 64) (mul-right-comm h (2 ^ up) (2 ^ d)))
+    ap (λ (y : ℕ). y / 2 ^ up) (mod-times (h * 2 ^ d) (2 ^ up) (2 ^ 64))
     ∙ ap (λ (n : ℕ). (h * 2 ^ d * 2 ^ up) % 2 ^ n / 2 ^ up) whole
     ∙ field (h * 2 ^ d * 2 ^ up) l up
     ∙ ap (λ (y : ℕ). y % 2 ^ l) (shl-shr (h * 2 ^ d) up)

@@ -2,7 +2,7 @@
 use Prim.Native.Nat.{ℕ, zero, suc, _+_, _-_, _*_, _%_, _^_, _≤_, _<_}
 use mathlib.Core.Path.{_≡_, refl, ap, _∙_}
 use mathlib.Core.Bool.{Bool, true, false, _||_}
-use native.Mathlib.Nat.{add-zero, mod-lt}
+use native.Mathlib.Nat.{add-zero, mod-lt, mod-eq-of-lt, zero-mod}
 use native.Mathlib.Omega.{arith}
 use native.Mathlib.Decide.{decLt}
 use lib.Dec.{eqb, ltb, eqb·suc-zero}
@@ -10,7 +10,7 @@ use lib.Pow.{pow-pos, pow-lt}
 use borrow.Author.Tests.{lt-ltb, ltb-true, eqb-true, ne-eqb}
 use Rattle.record.specs.Words.{if_then_else_}
 use Rattle.record.specs.Sizes.{windowMost}
-use Rattle.stream.specs.History.{History, bitOf, empty, isEmpty, bit, single, setBit, push, pushes, advance, within}
+use Rattle.stream.specs.History.{History, bitOf, empty, isEmpty, bit, single, setBit, push, pushes, advance, within, marked}
 use Rattle.stream.proofs.Bits.{even, double, below, added, added-lt, none}
 
 -- 1. What rests on the form of the history. L is at most the greatest window.
@@ -21,6 +21,10 @@ empty-is = refl
 pub is-empty : (h : History) → isEmpty h ≡ true → h ≡ empty
 unfolding isEmpty
 is-empty h e = eqb-true h 0 e
+
+pub empty-bit : (k : ℕ) → bit k empty ≡ false
+unfolding bit
+empty-bit k = none k
 
 pub single-bit : (k : ℕ) → bit k single ≡ eqb k 0
 unfolding bit
@@ -109,3 +113,20 @@ module _ (l : ℕ) (most : l ≤ windowMost) where
   pub advance-within : (d : ℕ) (h : History) → 0 < d → 0 < l → within l (advance l d h) ≡ true
   unfolding advance
   advance-within d h a b = set-within 0 (pushes l d h) b (pushes-within d h a)
+
+  -- 3. Marked in one go: nothing is cut of a history within the window, nor of one that has moved.
+  cut-within : (h : History) → within l h ≡ true → h % 2 ^ l ≡ h
+  unfolding within
+  cut-within h e = mod-eq-of-lt (ltb-true h (2 ^ l) e)
+
+  pub marked-late : (k : ℕ) (h : History) → within l h ≡ true → marked l 0 k h ≡ setBit k h
+  unfolding marked pushes
+  marked-late k h e = ap (setBit k) (cut-within h e)
+
+  pub marked-next : (d : ℕ) (h : History) → 0 < d → marked l d 0 h ≡ advance l d h
+  unfolding marked advance
+  marked-next d h a = ap (setBit 0) (cut-within (pushes l d h) (pushes-within d h a))
+
+pub marked-first : (l : ℕ) → marked l 0 0 empty ≡ single
+unfolding marked pushes setBit bit
+marked-first l = ap (λ (h : ℕ). if bitOf 0 h then h else h + 2 ^ 0) (zero-mod (2 ^ l)) ∙ rw (none 0)

@@ -12,7 +12,7 @@ use Rattle.stream.specs.Decisions.{Signed, ahead, behind, Case, first, f
 use Rattle.stream.proofs.Reading.{Forward, forward}
 
 abbrev pub Fact : Stream → Case → Type 0
-Fact s first = Unit {0}
+Fact s first = yes (s .state .any) ≡ true
 Fact s far = Unit {0}
 Fact s again = Unit {0}
 Fact s (late k) = (yes (s .state .any) ≡ false) × (eqb (s .rule) vectorRule ≡ true) × (k < s .window) × (bit k (s .state .history) ≡ false)
@@ -44,5 +44,5 @@ match-told s (behind k) a r = told (eqb k 0) (λ e. record { fact = tt }) (λ e.
 pub case-told : (s : Stream) (n : ℕ) → Told s (caseOf s n)
 unfolding caseOf
 case-told s n =
-    told (yes (s .state .any)) (λ a. record { fact = tt }) (λ a.
+    told (yes (s .state .any)) (λ a. record { fact = a }) (λ a.
     told (eqb (s .rule) vectorRule) (λ r. vector-told s _ a r (forward _ _)) (λ r. match-told s _ a r))

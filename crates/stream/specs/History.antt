@@ -2,7 +2,6 @@
 -- a history is held; every other file goes through these names. Assumes nothing.
 use Prim.Native.Nat.{ℕ, zero, suc, _+_, _-_, _*_, _/_, _%_, _^_}
 use mathlib.Core.Bool.{Bool, not, _&&_}
-use lib.Count.{ones}
 use lib.Dec.{eqb, ltb}
 use Rattle.record.specs.Words.{if_then_else_}
 
@@ -55,10 +54,10 @@ leaving window zero n history = 0
 leaving window (suc d) n history =
     one (eqb n 0 && not (bit (window - 1) history)) + leaving window d (n - 1) (push window history)
 
--- how many of the d places below place L are set
-abbrev pub setIn : (window d : ℕ) (history : History) → ℕ
-setIn window d history = ones (history / 2 ^ (window - d) % 2 ^ d)
-
 -- d places up, and bit 0 set
 unfoldable pub advance : (window d : ℕ) (history : History) → History
 advance window d history = setBit 0 (pushes window d history)
+
+-- d places up, cut at L, and bit k set: what the code does in one go (a lawful history needs no cut)
+unfoldable pub marked : (window d k : ℕ) (history : History) → History
+marked window d k history = setBit k (pushes window d history % 2 ^ window)

@@ -25,7 +25,8 @@ fn behind(s: Stream, k: u16) -> Weighed
         return Weighed::Duplicate;
     }
     Weighed::HandedUp(Marks {
-        history: history::set_bit(h, k),
+        places: 0,
+        bit: k,
         lost: 0,
         anchor: s.state.anchor,
         early: s.state.early,
@@ -41,7 +42,8 @@ fn ahead(s: Stream, number: u16, k: u16) -> Weighed
     let h = s.state.history;
     let n = s.state.early;
     Weighed::HandedUp(Marks {
-        history: history::advanced(h, s.window, k),
+        places: k,
+        bit: 0,
         lost: history::lost(h, s.window, k, n),
         anchor: number,
         early: history::fewer(n, k),
@@ -56,7 +58,8 @@ pub fn by_vector(s: Stream, number: u16) -> Weighed
 {
     if s.state.any != 0 {
         return Weighed::HandedUp(Marks {
-            history: history::SINGLE,
+            places: 0,
+            bit: 0,
             lost: 0,
             anchor: number,
             early: s.window - 1,
@@ -85,7 +88,8 @@ pub fn by_match(s: Stream, number: u16) -> Weighed
 {
     if s.state.any != 0 {
         return Weighed::HandedUp(Marks {
-            history: history::EMPTY,
+            places: 0,
+            bit: 0,
             lost: 0,
             anchor: number,
             early: 0,
@@ -97,7 +101,8 @@ pub fn by_match(s: Stream, number: u16) -> Weighed
         return Weighed::Duplicate;
     }
     Weighed::HandedUp(Marks {
-        history: s.state.history,
+        places: 0,
+        bit: 0,
         lost: 0,
         anchor: number,
         early: s.state.early,

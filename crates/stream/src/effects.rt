@@ -1,11 +1,12 @@
 // The record after a verdict: the effects of the decision (document 01, "Decisions").
 use super::Marks;
 use super::Weighed;
+use super::history;
 use record::State;
 use record::Stream;
 ghost use mathlib.Core.Path.{_≡_};
 ghost use Rattle.stream.specs.Decisions.{counted};
-ghost use Rattle.stream.specs.Steps.{recordAfter};
+ghost use Rattle.stream.specs.Steps.{historyAfter, recordAfter};
 
 // A counter, risen by 1 where the test holds.
 pub fn counted(test: bool, count: u64) -> u64
@@ -17,6 +18,25 @@ pub fn counted(test: bool, count: u64) -> u64
     count
 }
 
+// The history after marks. That of a match record stays, and so does one that the marks do not fit.
+fn history_after(h: u64, rule: u8, window: u16, m: Marks) -> u64
+    ensures { λ r. ⌜ r ≡ historyAfter rule window m h ⌝ }
+{
+    if rule != Stream::VECTOR_RULE {
+        return h;
+    }
+    if window <= m.places {
+        return h;
+    }
+    if Stream::WINDOW_MOST < window {
+        return h;
+    }
+    if Stream::WINDOW_MOST <= m.bit {
+        return h;
+    }
+    history::marked(h, window, m.places, m.bit)
+}
+
 pub fn handed_up(s: Stream, network: u8, m: Marks) -> Stream
     ensures { λ r. ⌜ r ≡ recordAfter s network (Weighed.HandedUp m) ⌝ }
 {
@@ -26,8 +46,9 @@ pub fn handed_up(s: Stream, network: u8, m: Marks) -> Stream
     c.passed = std::num::wrapping_add_u64(s.counts.passed, 1);
     c.disorder = counted(m.disorder, s.counts.disorder);
     c.lost = std::num::wrapping_add_u64(s.counts.lost, m.lost);
+    let history = history_after(s.state.history, s.rule, s.window, m);
     let state = State {
-        history: m.history,
+        history,
         anchor: m.anchor,
         remaining: s.time,
         early: m.early,

@@ -2,15 +2,12 @@
 ghost use mathlib.Core.Path.{_≡_};
 ghost use Prim.Native.Nat.{_-_, _<_, _≤_};
 ghost use Rattle.record.specs.Sizes.{windowMost};
-ghost use Rattle.stream.specs.History.{isEmpty, bit, within, setBit, pushes, setIn, leaving, advance};
+ghost use Rattle.stream.specs.History.{isEmpty, bit, within, setBit, leaving, marked};
 
 // Bits in the word that holds it.
 const WORD: u16 = 64;
 
 pub const EMPTY: u64 = 0;
-
-// Only bit 0.
-pub const SINGLE: u64 = 1;
 
 pub fn is_empty(h: u64) -> bool
     ensures { λ r. ⌜ r ≡ isEmpty h ⌝ }
@@ -40,38 +37,19 @@ pub fn set_bit(h: u64, k: u16) -> u64
     h | (1 << k)
 }
 
-// One place up in a window of w.
-fn one_up(h: u64, w: u16) -> u64
-    requires { ⌜ (1 ≤ w) × (w ≤ windowMost) ⌝ }
-    ensures { λ r. ⌜ r ≡ pushes w 1 h ⌝ }
-{
-    h % (1 << (w - 1)) * 2
-}
-
-// d places up at once: the window stands at the word's top.
-fn places_up(h: u64, w: u16, d: u16) -> u64
-    requires { ⌜ (1 ≤ d) × ((d < w) × (w ≤ windowMost)) ⌝ }
-    ensures { λ r. ⌜ r ≡ pushes w d h ⌝ }
+// d places up in a window of w, and then bit k set. The window stands at the word's top when it is cut.
+pub fn marked(h: u64, w: u16, d: u16, k: u16) -> u64
+    requires { ⌜ (k < windowMost) × ((d < w) × (w ≤ windowMost)) ⌝ }
+    ensures { λ r. ⌜ r ≡ marked w d k h ⌝ }
 {
     let up = WORD - w;
-    ((h << up) << d) >> up
+    set_bit(((h << d) << up) >> up, k)
 }
 
-// d places up, and bit 0 set. The next number is the common case.
-pub fn advanced(h: u64, w: u16, d: u16) -> u64
-    requires { ⌜ (1 ≤ d) × ((d < w) × (w ≤ windowMost)) ⌝ }
-    ensures { λ r. ⌜ r ≡ advance w d h ⌝ }
-{
-    if d == 1 {
-        return set_bit(one_up(h, w), 0);
-    }
-    set_bit(places_up(h, w, d), 0)
-}
-
-// How many of the d places below place w are clear. They stand at the word's top, so that one shift counts them.
+// How many zero bits leave on the way of d places up. They stand at the word's top, so that one shift counts them.
 fn zeros(h: u64, w: u16, d: u16) -> u64
     requires { ⌜ (1 ≤ d) × ((d ≤ w) × (w ≤ windowMost)) ⌝ }
-    ensures { λ r. ⌜ r ≡ d - setIn w d h ⌝ }
+    ensures { λ r. ⌜ r ≡ leaving w d 0 h ⌝ }
 {
     let a = h << (WORD - w);
     let ones = u64::count_ones(a >> (WORD - d));

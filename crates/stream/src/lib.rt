@@ -10,24 +10,23 @@ use record::Counts;
 use record::State;
 use record::Stream;
 ghost use mathlib.Core.Path.{_≡_};
-ghost use mathlib.Core.Bool.{true, false, _&&_, _||_};
+ghost use mathlib.Core.Bool.{true, _||_};
 ghost use Prim.Native.Nat.{_≤_};
 ghost use lib.Dec.{eqb};
-ghost use Rattle.record.specs.Words.{if_then_else_, yes};
 ghost use Rattle.record.specs.Sizes.{windowLeast, windowMost, vectorRule, matchRule};
-ghost use Rattle.stream.specs.History.{bit, within, isEmpty};
-ghost use Rattle.stream.specs.Record.{fresh, isFresh, settled, placed, lawful, opened, closed};
+ghost use Rattle.stream.specs.Record.{fresh, settled, placed, lawful, opened, closed};
 ghost use Rattle.stream.specs.Decisions.{reset};
-ghost use Rattle.stream.specs.Steps.{weighed, recordAfter, tickOf};
+ghost use Rattle.stream.specs.Steps.{plain, right, weighed, recordAfter, tickOf};
 
 // The anchor of the fresh state.
 const FRESH_ANCHOR: u16 = 65535;
 
-// What an arrival that is handed up leaves: the history, how many more are lost, the anchor, the places left for older numbers,
-// and whether it is out of order.
+// What an arrival that is handed up leaves: how many more are lost, how many places the history moves up and which bit is then
+// set, the anchor, the places left for older numbers, and whether it is out of order.
 pub struct Marks {
-    pub history: u64,
     pub lost: u64,
+    pub places: u16,
+    pub bit: u16,
     pub anchor: u16,
     pub early: u16,
     pub disorder: bool,
@@ -124,23 +123,6 @@ pub fn settled(s: Stream) -> bool
     s.vlan <= Stream::VLAN_MOST
 }
 
-// A state with take-any: is it the fresh one?
-fn is_fresh(t: State) -> bool
-    requires { ⌜ yes (t .any) ≡ true ⌝ }
-    ensures { λ r. ⌜ r ≡ isFresh t ⌝ }
-{
-    if t.anchor != FRESH_ANCHOR {
-        return false;
-    }
-    if t.remaining != 0 {
-        return false;
-    }
-    if t.early != 0 {
-        return false;
-    }
-    history::is_empty(t.history)
-}
-
 // The places left for numbers older than the first: the first stands next to them.
 fn is_placed(window: u16, n: u16, h: u64) -> bool
     requires { ⌜ (windowLeast ≤ window) × (window ≤ windowMost) ⌝ }
@@ -155,23 +137,9 @@ fn is_placed(window: u16, n: u16, h: u64) -> bool
     history::has_bit(h, window - 1 - n)
 }
 
-// What a history has to be without take-any.
-fn is_marked(rule: u8, window: u16, h: u64) -> bool
-    requires { ⌜ (windowLeast ≤ window) × (window ≤ windowMost) ⌝ }
-    ensures { λ r. ⌜ r ≡ (if eqb rule vectorRule then bit 0 h && within window h else isEmpty h) ⌝ }
-{
-    if rule == Stream::VECTOR_RULE {
-        if history::has_bit(h, 0) {
-            return history::is_within(h, window);
-        }
-        return false;
-    }
-    history::is_empty(h)
-}
-
-// In use, its settings within the sizes, and its state as document 01 shapes it. Counters may hold anything.
-pub fn lawful(s: Stream) -> bool
-    ensures { λ r. ⌜ r ≡ lawful s ⌝ }
+// The half of `lawful` that asks for no history: in use, the settings and the ticks; with take-any also the anchor.
+fn is_plain(s: Stream) -> bool
+    ensures { λ r. ⌜ r ≡ plain s ⌝ }
 {
     if s.used == 0 {
         return false;
@@ -179,20 +147,59 @@ pub fn lawful(s: Stream) -> bool
     if !settled(s) {
         return false;
     }
-    let t = s.state;
-    if s.time < t.remaining {
+    if s.time < s.state.remaining {
         return false;
     }
-    if !is_placed(s.window, t.early, t.history) {
+    if s.state.any != 0 {
+        if s.state.remaining != 0 {
+            return false;
+        }
+        return s.state.anchor == FRESH_ANCHOR;
+    }
+    s.state.remaining != 0
+}
+
+// The other half: the history, and the places for older numbers, which are asked for last, since most often there are none.
+fn is_right(rule: u8, window: u16, any: u16, n: u16, h: u64) -> bool
+    requires { ⌜ (windowLeast ≤ window) × (window ≤ windowMost) ⌝ }
+    ensures { λ r. ⌜ r ≡ right rule window any n h ⌝ }
+{
+    if any != 0 {
+        if n != 0 {
+            return false;
+        }
+        return history::is_empty(h);
+    }
+    if rule == Stream::VECTOR_RULE {
+        if !history::has_bit(h, 0) {
+            return false;
+        }
+        if !history::is_within(h, window) {
+            return false;
+        }
+        return is_placed(window, n, h);
+    }
+    if n != 0 {
         return false;
     }
-    if t.any != 0 {
-        return is_fresh(t);
-    }
-    if t.remaining == 0 {
+    history::is_empty(h)
+}
+
+// In use, its settings within the sizes, and its state as document 01 shapes it, with order 4. Counters may hold anything.
+// In two halves, of which the second gets fields alone: so no record is copied around a call.
+pub fn lawful(s: Stream) -> bool
+    ensures { λ r. ⌜ r ≡ lawful s ⌝ }
+{
+    if !is_plain(s) {
         return false;
     }
-    is_marked(s.rule, s.window, t.history)
+    is_right(
+        s.rule,
+        s.window,
+        s.state.any,
+        s.state.early,
+        s.state.history,
+    )
 }
 
 // The first step of the decision: what an arrival is to the record. It makes no record and reads no counter.

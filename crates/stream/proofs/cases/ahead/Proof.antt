@@ -9,9 +9,6 @@ use borrow.Author.Needs.{needs}
 use Rattle.stream.proofs.cases.ahead.Statement.{statement}
 use Rattle.stream.proofs.cases.ahead.Tie as tie
 
-advanced-requires : tie.Need-advanced-requires
-advanced-requires c κs = search needs
-
 lost-requires : tie.Need-lost-requires
 lost-requires c κs = search needs
 
@@ -23,4 +20,4 @@ unfolding weighedAs stateAfter losses outOfOrder
 returns c = cc
 
 pub ahead-spec : {M : Type 1} → statement M
-ahead-spec = tie.close (tie.spec advanced-requires lost-requires fewer-requires returns)
+ahead-spec = tie.close (tie.spec lost-requires fewer-requires returns)

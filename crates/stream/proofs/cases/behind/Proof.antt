@@ -19,15 +19,12 @@ returns c =
     let b : bit (a .k) (a .s .state .history) ≡ true = sym (search flags) in
     λ number. rw b
 
-set-bit-requires : tie.Need-set-bit-requires
-set-bit-requires c κs = search needs
-
 returns-2 : tie.Need-returns-2
 unfolding weighedAs stateAfter losses outOfOrder
 returns-2 c =
-    let a = c .before .before .before .args in
+    let a = c .before .before .args in
     let b : bit (a .k) (a .s .state .history) ≡ false = sym (search flags) in
-    λ number. rw (b, c .set-bit .ensures)
+    λ number. rw b
 
 pub behind-spec : {M : Type 1} → statement M
-behind-spec = tie.close (tie.spec has-bit-requires returns set-bit-requires returns-2)
+behind-spec = tie.close (tie.spec has-bit-requires returns returns-2)

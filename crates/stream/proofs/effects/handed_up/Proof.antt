@@ -20,6 +20,9 @@ counted-requires-3 c κs = search needs
 wrapping-add-u64-requires-2 : tie.Need-wrapping-add-u64-requires-2
 wrapping-add-u64-requires-2 c κs = search needs
 
+history-after-requires : tie.Need-history-after-requires
+history-after-requires c κs = search needs
+
 returns : tie.Need-returns
 unfolding recordAfter tally
 returns c = cc
@@ -33,4 +36,5 @@ handed-up-spec =
     wrapping-add-u64-requires
     counted-requires-3
     wrapping-add-u64-requires-2
+    history-after-requires
     returns)

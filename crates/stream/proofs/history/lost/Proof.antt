@@ -1,8 +1,7 @@
 -- `stream::history::lost` meets its contract. Assumes nothing.
-use mathlib.Core.Path.{_≡_, sym, ap, ap₂, _∙_}
-use Prim.Native.Nat.{ℕ, _-_}
+use mathlib.Core.Path.{_≡_, sym, _∙_}
 use native.Mathlib.Omega.{arith}
-use Rattle.stream.proofs.Moves.{leaving-none, leaving-one, leaving-at-once}
+use Rattle.stream.proofs.Moves.{leaving-none, leaving-one, leaving-below}
 use borrow.Author.Needs.{needs}
 use Rattle.stream.proofs.history.lost.Statement.{statement}
 use Rattle.stream.proofs.history.lost.Tie as tie
@@ -43,7 +42,7 @@ zeros-requires c κs = search needs
 returns-3 : tie.Need-returns-3
 returns-3 c =
     let a = c .before .before .before .args in
-    c .zeros .ensures ∙ sym (leaving-at-once (a .w) (a .d) (a .n) (a .h) (omega arith))
+    c .zeros .ensures ∙ leaving-below (a .w) (a .d) (a .n) (a .h) (omega arith) (omega arith)
 
 pub lost-spec : {M : Type 1} → statement M
 lost-spec =

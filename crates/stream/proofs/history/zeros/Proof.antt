@@ -1,9 +1,9 @@
 -- `stream::history::zeros` meets its contract. Assumes nothing.
-use mathlib.Core.Path.{ap}
+use mathlib.Core.Path.{_≡_, ap, sym, _∙_}
 use Prim.Native.Nat.{ℕ, _-_}
 use native.Mathlib.Omega.{arith}
 use lib.Count.{ones}
-use Rattle.stream.proofs.Moves.{top-field, set-le}
+use Rattle.stream.proofs.Moves.{top-field, set-le, leaving-at-once}
 use borrow.Author.Needs.{needs}
 use Rattle.stream.proofs.history.zeros.Statement.{statement}
 use Rattle.stream.proofs.history.zeros.Tie as tie
@@ -37,7 +37,10 @@ cast-result c = search needs
 returns : tie.Need-returns
 returns c =
     let a = c .args in
+    let n : a .d - 0 ≡ a .d = omega arith in
+    let w : a .w - 0 ≡ a .w = omega arith in
     ap (λ (n : ℕ). a .d - ones n) (top-field (a .h) (a .w) (a .d) (omega arith) (omega arith))
+    ∙ sym (leaving-at-once (a .w) (a .d) 0 (a .h) (omega arith) ∙ rw (n, w))
 
 pub zeros-spec : {M : Type 1} → statement M
 zeros-spec =
