@@ -53,13 +53,18 @@ impl Slow {
         "up"
     }
 
-    /// Indices that the window has left behind and that were never handed up.
-    /// It starts L - 1 below the first index: step b of the run at the wrap
-    /// counts a number from before the first one.
+    /// Indices after the first one that the window has left behind and that
+    /// were never handed up. Those before the first are no loss (order 4).
     fn lost(&self) -> u64 {
-        let from = self.first - (self.window - 1);
         let to = self.highest - self.window;
-        (from..=to).filter(|i| !self.seen.contains(i)).count() as u64
+        let after_first = self.first + 1..=to;
+        after_first.filter(|i| !self.seen.contains(i)).count() as u64
+    }
+
+    /// Indices in the window that are older than the first one.
+    fn early(&self) -> u16 {
+        let from = self.highest - (self.window - 1);
+        (from..self.first).count() as u16
     }
 
     fn history(&self) -> u64 {
@@ -77,6 +82,7 @@ fn compare(table: &[Stream], slow: &Slow) {
     let stream = table[0];
     assert_eq!(stream.anchor, number(slow.highest));
     assert_eq!(stream.history, slow.history());
+    assert_eq!(stream.early, slow.early());
     assert_eq!(stream.passed, slow.seen.len() as u64);
     assert_eq!(stream.discarded, slow.discarded);
     assert_eq!(stream.rogue, slow.rogue);
