@@ -51,7 +51,7 @@ static u64 number(int bytes) {
 static int same(const stream *a, const stream *b) {
     return a->dest == b->dest && a->vlan == b->vlan && a->window == b->window && a->time == b->time && a->rule == b->rule
         && a->used == b->used && a->state.history == b->state.history && a->state.anchor == b->state.anchor
-        && a->state.remaining == b->state.remaining && a->state.any == b->state.any
+        && a->state.remaining == b->state.remaining && a->state.early == b->state.early && a->state.any == b->state.any
         && memcmp(&a->counts, &b->counts, sizeof a->counts) == 0;
 }
 

@@ -236,6 +236,7 @@ impl Side for Second {
             history: s.state.history,
             take_any: s.state.any,
             remaining: s.state.remaining,
+            early: s.state.early,
             arrivals: [s.counts.arrivals0, s.counts.arrivals1],
             passed: s.counts.passed,
             discarded: s.counts.discarded,
@@ -268,6 +269,7 @@ impl Side for Second {
                 history: s.history,
                 anchor: s.anchor,
                 remaining: s.remaining,
+                early: s.early,
                 any: s.take_any,
             },
             counts: Counts {

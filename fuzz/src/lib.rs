@@ -52,7 +52,8 @@ fn from_bytes(b: &[u8; RECORD]) -> Stream {
             history: eight(16),
             anchor: two(24),
             remaining: two(26),
-            any: b[28],
+            early: two(28),
+            any: b[30],
         },
         counts: Counts {
             arrivals0: eight(32),

@@ -1,8 +1,8 @@
 //! The stream record, when it is lawful, and the decision on one record.
 //! Document 01: "Sizes", "The stream record", "Decisions". The size of a batch
-//! is that of order 3 of document 02.
+//! is that of order 3 of document 02; what is no loss is order 4's.
 
-use crate::wrong::rule;
+use crate::wrong::{self, rule};
 
 /// One slot of a table.
 ///
@@ -31,6 +31,9 @@ pub struct Stream {
     pub take_any: u8,
     /// Ticks left until the stream is reset.
     pub remaining: u16,
+    /// n of order 4: the places left for numbers older than the first one
+    /// handed up since the reset.
+    pub early: u16,
     /// Arrivals on network 0 and on network 1.
     pub arrivals: [u64; 2],
     /// Frames handed up.
@@ -41,7 +44,7 @@ pub struct Stream {
     pub rogue: u64,
     /// Frames handed up that did not follow the anchor.
     pub out_of_order: u64,
-    /// Numbers that left the window without having come.
+    /// Numbers after the first one that left the window without having come.
     pub lost: u64,
     /// How often the stream went back to the fresh state.
     pub resets: u64,
@@ -98,6 +101,7 @@ impl Stream {
         history: 0,
         take_any: 1,
         remaining: 0,
+        early: 0,
         arrivals: [0; 2],
         passed: 0,
         discarded: 0,
@@ -138,7 +142,7 @@ impl Stream {
     }
 
     /// Is this record, taken as one in use, lawful? "The stream record" has
-    /// the rules in the same order.
+    /// the rules in the same order; order 4 adds the last one.
     pub fn is_lawful(&self) -> bool {
         if !self.settings_in_range() || self.remaining > self.reset_time {
             return false;
@@ -146,15 +150,39 @@ impl Stream {
         if (self.remaining == 0) != self.takes_any() {
             return false;
         }
-        if self.takes_any() {
+        let shaped = if self.takes_any() {
             // Remaining is already known to be 0 here.
-            return self.anchor == Stream::FRESH_ANCHOR && self.history == 0;
-        }
-        if self.rule == Stream::VECTOR {
+            self.anchor == Stream::FRESH_ANCHOR && self.history == 0
+        } else if self.rule == Stream::VECTOR {
             self.history & 1 == 1 && self.history & !self.window_mask() == 0
         } else {
             self.history == 0
+        };
+        shaped && self.early_fits()
+    }
+
+    /// Does n fit to the window and the history? While it is above 0, the first
+    /// number handed up still stands at place L - 1 - n. A history of zero, as
+    /// fresh and match records have, has it nowhere, so n is 0 there. Only for
+    /// records with L in range.
+    fn early_fits(&self) -> bool {
+        let some = self.early > 0;
+        if !rule!(
+            some,
+            EarlyInMatch: some && self.rule == Stream::VECTOR,
+            EarlyInFresh: some && !self.takes_any()
+        ) {
+            return true;
         }
+        match self.most_early().checked_sub(self.early) {
+            Some(first) => rule!(self.history >> first & 1 == 1, EarlyWithoutBit: true),
+            None => rule!(false, EarlyTooHigh: true),
+        }
+    }
+
+    /// L - 1: all places of the window but that of the anchor.
+    fn most_early(&self) -> u16 {
+        u16::from(self.window) - 1
     }
 
     /// The lowest L bits. A shift by 64 is not allowed, so L = 64 stands
@@ -173,6 +201,7 @@ impl Stream {
         self.history = 0;
         self.take_any = 1;
         self.remaining = 0;
+        rule!(self.early = 0, ResetKeepsEarly: ());
     }
 
     /// A reset: the fresh state, and resets rises.
@@ -190,8 +219,12 @@ impl Stream {
         let decision = if self.takes_any() {
             self.take_any = 0;
             self.anchor = number;
-            // A match record keeps its history zero.
-            self.history = u64::from(self.rule == Stream::VECTOR);
+            // A match record keeps its history zero, and n with it.
+            let vector = self.rule == Stream::VECTOR;
+            self.history = u64::from(vector);
+            if rule!(vector, MatchHasEarly: true) {
+                self.early = rule!(self.most_early(), EarlyIsL: u16::from(self.window));
+            }
             Decision::HandedUp
         } else {
             // Modulo 65536, then read as signed. Comparing the numbers as
@@ -215,7 +248,11 @@ impl Stream {
             // restarted sender never gets through.
             Decision::Duplicate => {
                 rise(&mut self.discarded);
-                rule!((), DuplicateRenews: self.remaining = self.reset_time);
+                rule!(
+                    (),
+                    DuplicateRenews: self.remaining = self.reset_time,
+                    DuplicateTakesEarly: self.early = self.early.saturating_sub(1)
+                );
             }
             Decision::Rogue => {
                 rise(&mut self.rogue);
@@ -236,7 +273,11 @@ impl Stream {
                 return Decision::Duplicate;
             }
             self.history |= rule!(bit, LateUnmarked: 0);
-            rule!((), AnchorGoesBack: self.anchor = number);
+            rule!(
+                (),
+                AnchorGoesBack: self.anchor = number,
+                LateTakesEarly: self.early -= u16::from(wrong::is_older(self, d))
+            );
             rise(&mut self.out_of_order);
             return Decision::HandedUp;
         }
@@ -245,16 +286,31 @@ impl Stream {
         }
         let top = 1u64 << (self.window - 1);
         let mask = self.window_mask();
-        let lost_before = self.lost;
+        let (lost_before, early_before) = (self.lost, self.early);
         let lost_bit = rule!(0, LostCountsMarked: top);
-        // One place at a time, so that each zero that leaves is one loss.
+        // One place at a time, so that each zero that leaves is one loss. While
+        // n is above 0, the place that leaves is older than the first number.
         for _ in 0..rule!(d, HistoryStays: 0) {
-            if self.history & top == lost_bit {
+            let (zero, older) = (self.history & top == lost_bit, self.early > 0);
+            let counts = rule!(
+                !older,
+                EarlyIsLost: true,
+                LastEarlyIsLost: self.early <= 1,
+                MoveWithoutLoss: early_before == 0
+            );
+            if zero && counts {
                 rise(&mut self.lost);
+            }
+            if rule!(older, EarlyStays: false, ZerosTakeEarly: older && zero) {
+                self.early -= 1;
             }
             self.history = (self.history << 1) & mask;
         }
-        rule!((), OneLossAMove: self.lost = self.lost.min(lost_before.wrapping_add(1)));
+        rule!(
+            (),
+            OneLossAMove: self.lost = self.lost.min(lost_before.wrapping_add(1)),
+            OneEarlyAMove: self.early = early_before.saturating_sub(1)
+        );
         self.history |= 1;
         self.anchor = number;
         Decision::HandedUp

@@ -177,6 +177,7 @@ pub fn open(table: &mut [Stream], settings: Settings) -> Result<usize, Refusal> 
     table[slot] = rule!(
         stream,
         ReopenKeepsState: wrong::keep_state(stream, table[slot]),
+        OpenKeepsEarly: Stream { early: table[slot].early, ..stream },
         OpenKeepsCounters: wrong::keep_counters(stream, table[slot])
     );
     Ok(slot)

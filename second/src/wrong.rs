@@ -1,7 +1,7 @@
 //! Wrong variants of this program, each with one slip. A comparison with
 //! another program is only worth something if it finds them, so it is tried
 //! against each. Document 01 names some under "Errors that look right"; the
-//! others are slips that its text, or that of orders 1 to 3 of document 02, makes
+//! others are slips that its text, or that of orders 1 to 4 of document 02, makes
 //! easy.
 //!
 //! No variant is set at first. In the code a slip stands behind the right rule:
@@ -82,7 +82,7 @@ variants! {
     KeyBeforeSettings, Files, "refusal 10 comes before 9";
     FullBeforeKey, Files, "refusal 11 comes before 10";
     OpensHighest, Files, "open fills the highest free slot";
-    ReopenKeepsState, Files, "a slot opened again keeps its anchor, history and ticks";
+    ReopenKeepsState, Files, "a slot opened again keeps its anchor, history, ticks and n";
     ClosesLowest, Files, "close frees the lowest slot in use";
     ResetForgotten, Files, "reset answers ok and does nothing";
     ResetsEarly, Files, "a stream is reset one tick early";
@@ -133,6 +133,22 @@ variants! {
     CutLengthIsZero, CallsOnly, "length bytes that are cut are taken as a length of 0";
     LengthsJudged, CallsOnly, "a length of 0 or above 2000 in a batch is refused with 15";
     TrailingRefused, CallsOnly, "input behind the last frame of a batch is refused with 15";
+    EarlyStays, CallsOnly, "a move does not take n down";
+    OneEarlyAMove, Files, "a move takes n down by one, whatever its places";
+    ZerosTakeEarly, Files, "n falls only where a zero leaves";
+    LateTakesEarly, Files, "a late number older than the first takes n down";
+    DuplicateTakesEarly, Files, "a duplicate takes n down";
+    EarlyIsL, Files, "n is L when take-any ends";
+    MatchHasEarly, Files, "n is L - 1 when take-any ends in a match record too";
+    ResetKeepsEarly, Files, "a reset leaves n";
+    OpenKeepsEarly, Files, "a slot opened again keeps n alone";
+    EarlyIsLost, CallsOnly, "a zero that leaves counts as lost with n above 0 too";
+    LastEarlyIsLost, CallsOnly, "a zero that leaves with n = 1 counts as lost";
+    MoveWithoutLoss, CallsOnly, "a move that begins with n above 0 counts no loss";
+    EarlyTooHigh, CallsOnly, "n above L - 1 is lawful";
+    EarlyWithoutBit, CallsOnly, "n above 0 is lawful with bit L - 1 - n clear";
+    EarlyInMatch, CallsOnly, "any n is lawful in a match record";
+    EarlyInFresh, CallsOnly, "any n is lawful with take-any";
 }
 
 #[cfg(feature = "wrong")]
@@ -207,6 +223,7 @@ pub(crate) fn keep_state(opened: Stream, old: Stream) -> Stream {
         history: old.history,
         take_any: old.take_any,
         remaining: old.remaining,
+        early: old.early,
         ..opened
     }
 }
@@ -223,6 +240,12 @@ pub(crate) fn keep_counters(opened: Stream, old: Stream) -> Stream {
         resets: old.resets,
         ..opened
     }
+}
+
+/// Does the number that is d from the anchor stand among the n oldest places of
+/// the window, which are older than the first one handed up?
+pub(crate) fn is_older(stream: &Stream, d: i32) -> bool {
+    i32::from(stream.early) - d >= i32::from(stream.window)
 }
 
 /// Frees the lowest slot in use.

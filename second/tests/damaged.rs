@@ -89,6 +89,46 @@ fn damaged() -> Vec<(&'static str, Stream, bool)> {
             },
             false,
         ),
+        ("n = L", Stream { early: 4, ..v }, false),
+        ("n above L", Stream { early: 5, ..v }, false),
+        ("n 65535", Stream { early: 65535, ..v }, false),
+        // The bits of v are 2 and 0, for n of 1 and 3.
+        ("n 2, bit 1 clear", Stream { early: 2, ..v }, false),
+        (
+            "n 1, bit 2 clear",
+            Stream {
+                history: 0b1011,
+                early: 1,
+                ..v
+            },
+            false,
+        ),
+        (
+            "L 64, n 64",
+            Stream {
+                window: 64,
+                history: u64::MAX,
+                early: 64,
+                ..v
+            },
+            false,
+        ),
+        (
+            "L 64, n 1, bit 62 clear",
+            Stream {
+                window: 64,
+                history: u64::MAX ^ 1 << 62,
+                early: 1,
+                ..v
+            },
+            false,
+        ),
+        ("match with n 1", Stream { early: 1, ..m }, false),
+        ("match with n L - 1", Stream { early: 3, ..m }, false),
+        ("match with n L", Stream { early: 4, ..m }, false),
+        ("take-any, n 1", Stream { early: 1, ..f }, false),
+        ("take-any, n L - 1", Stream { early: 3, ..f }, false),
+        ("take-any, match, n 3", Stream { early: 3, ..g }, false),
         (
             "L 63, bit 63",
             Stream {
@@ -209,6 +249,13 @@ fn lawful_records_at_the_edges() {
         running(Stream::VECTOR, 64, 1, 65535, 1),
         running(Stream::VECTOR, 63, 1, 65535, u64::MAX >> 1),
         running(Stream::VECTOR, 2, 1, 0, 0b11),
+        with_early(running(Stream::VECTOR, 2, 1, 0, 0b11), 1),
+        with_early(running(Stream::VECTOR, 2, 1, 0, 0b01), 1),
+        with_early(running(Stream::VECTOR, 4, 1, 0, 0b0101), 1),
+        with_early(running(Stream::VECTOR, 4, 1, 0, 0b0011), 2),
+        with_early(running(Stream::VECTOR, 4, 1, 0, 0b1001), 3),
+        with_early(running(Stream::VECTOR, 64, 1, 0, 1), 63),
+        with_early(running(Stream::VECTOR, 64, 1, 0, 1 << 62 | 1), 1),
         running(Stream::MATCH, 2, 1, 65535, 0),
         Stream {
             vlan: 4094,
@@ -234,6 +281,7 @@ fn every_flag_value_but_0_is_yes() {
         assert_eq!(arrive(&mut table, 7), "up");
         let expected = Stream {
             in_use: flag,
+            early: 3,
             arrivals: [1, 0],
             passed: 1,
             ..running(Stream::VECTOR, 4, 3, 7, 1)

@@ -70,6 +70,11 @@ fn is_damaged(s: &Stream) -> bool {
         return true;
     }
     let bits: Vec<usize> = (0..64).filter(|k| s.history >> k & 1 == 1).collect();
+    // Where the first number stands as long as there are places before it.
+    let (last, early) = (usize::from(s.window) - 1, usize::from(s.early));
+    if early > last || (early > 0 && !bits.contains(&(last - early))) {
+        return true;
+    }
     match (s.take_any != 0, s.remaining) {
         (true, 0) => s.anchor != 65535 || !bits.is_empty(),
         (false, 1..) if s.rule == 1 => {
@@ -283,6 +288,7 @@ fn closes_and_resets() {
                 history: 0,
                 take_any: 1,
                 remaining: 0,
+                early: 0,
                 resets: before[slot].resets.wrapping_add(1),
                 ..before[slot]
             };
@@ -326,6 +332,7 @@ fn ticks() {
                     wanted.anchor = 65535;
                     wanted.history = 0;
                     wanted.take_any = 1;
+                    wanted.early = 0;
                     wanted.resets = old.resets.wrapping_add(1);
                     resets += 1;
                 }

@@ -12,7 +12,7 @@ use std::collections::HashSet;
 
 use common::*;
 use second::random::Random;
-use second::{arrival, Stream};
+use second::{arrival, reset, tick, Stream};
 
 struct Slow {
     window: i64,
@@ -53,13 +53,18 @@ impl Slow {
         "up"
     }
 
-    /// Indices that the window has left behind and that were never handed up.
-    /// It starts L - 1 below the first index: step b of the run at the wrap
-    /// counts a number from before the first one.
+    /// Indices after the first one that the window has left behind and that
+    /// were never handed up. Those before the first are no loss (order 4).
     fn lost(&self) -> u64 {
-        let from = self.first - (self.window - 1);
         let to = self.highest - self.window;
-        (from..=to).filter(|i| !self.seen.contains(i)).count() as u64
+        let after_first = self.first + 1..=to;
+        after_first.filter(|i| !self.seen.contains(i)).count() as u64
+    }
+
+    /// Indices in the window that are older than the first one.
+    fn early(&self) -> u16 {
+        let from = self.highest - (self.window - 1);
+        (from..self.first).count() as u16
     }
 
     fn history(&self) -> u64 {
@@ -77,6 +82,7 @@ fn compare(table: &[Stream], slow: &Slow) {
     let stream = table[0];
     assert_eq!(stream.anchor, number(slow.highest));
     assert_eq!(stream.history, slow.history());
+    assert_eq!(stream.early, slow.early());
     assert_eq!(stream.passed, slow.seen.len() as u64);
     assert_eq!(stream.discarded, slow.discarded);
     assert_eq!(stream.rogue, slow.rogue);
@@ -104,23 +110,32 @@ fn distance(random: &mut Random, window: i64) -> i64 {
     }
 }
 
+/// Every fourth one is at an end of its range.
+fn any_window(random: &mut Random, run: u32) -> i64 {
+    match run % 4 {
+        0 => random.pick(&[2, 3, 4, 63, 64]),
+        _ => random.between(2, 64),
+    }
+}
+
+/// Around a wrap at the start of the run, or anywhere.
+fn any_first(random: &mut Random) -> i64 {
+    match random.below(3) {
+        0 => random.between(65500, 65540),
+        1 => random.between(-3, 3),
+        _ => random.between(0, 1_000_000),
+    }
+}
+
 #[test]
 fn random_runs_agree() {
     let mut random = Random::new(21);
     let mut up = 0;
     let mut other = 0;
     for run in 0..300 {
-        let window = match run % 4 {
-            0 => random.pick(&[2, 3, 4, 63, 64]),
-            _ => random.between(2, 64),
-        };
+        let window = any_window(&mut random, run);
         let mut table = [fresh(Stream::VECTOR, window as u8, 3)];
-        // Around a wrap at the start of the run, or anywhere.
-        let first = match random.below(3) {
-            0 => random.between(65500, 65540),
-            1 => random.between(-3, 3),
-            _ => random.between(0, 1_000_000),
-        };
+        let first = any_first(&mut random);
         assert_eq!(arrive(&mut table, number(first)), "up");
         let mut slow = Slow::new(window, first);
         for step in 0..2000 {
@@ -146,6 +161,41 @@ fn random_runs_agree() {
         assert_eq!(table[0].lost, slow.lost());
     }
     assert!(up > 100_000 && other > 50_000);
+}
+
+#[test]
+fn lost_since_each_reset() {
+    // Order 4, said without n: since the fresh state lost has risen, modulo
+    // 2^64, by the indices after the first and at most highest - L that were
+    // never handed up. Those that the counter had before stay in it.
+    let mut random = Random::new(24);
+    let (mut rises, mut wraps) = (0, 0);
+    for run in 0..200 {
+        let window = any_window(&mut random, run);
+        let mut table = [fresh(Stream::VECTOR, window as u8, 3)];
+        table[0].lost = random.pick(&[0, 5, u64::MAX, u64::MAX - 20]);
+        for _ in 0..4 {
+            let before = table[0].lost;
+            let first = any_first(&mut random);
+            assert_eq!(arrive(&mut table, number(first)), "up");
+            let mut slow = Slow::new(window, first);
+            for _ in 0..random.below(60) {
+                let index = slow.highest + distance(&mut random, window);
+                let verdict = slow.arrive(index);
+                assert_eq!(arrive(&mut table, number(index)), verdict);
+                assert_eq!(table[0].lost, before.wrapping_add(slow.lost()));
+                assert_eq!(table[0].early, slow.early());
+            }
+            rises += u32::from(table[0].lost != before);
+            wraps += u32::from(table[0].lost < before);
+            match random.below(2) {
+                0 => assert_eq!(reset(&mut table, 0), Ok(())),
+                _ => (0..3).for_each(|_| assert_eq!(tick(&mut table).unwrap().damaged, 0)),
+            }
+            assert!(table[0].takes_any());
+        }
+    }
+    assert!(rises > 300 && wraps > 50, "{rises} {wraps}");
 }
 
 #[test]

@@ -197,6 +197,7 @@ fn the_first_number_may_be_any() {
         let mut table = [fresh(Stream::VECTOR, 4, 3)];
         assert_eq!(arrive(&mut table, number), "up");
         let expected = Stream {
+            early: 3,
             arrivals: [1, 0],
             passed: 1,
             ..running(Stream::VECTOR, 4, 3, number, 1)
@@ -397,6 +398,7 @@ fn reset_keeps_key_settings_and_counters() {
         history: 0,
         take_any: 1,
         remaining: 0,
+        early: 0,
         resets: 1,
         ..before
     };

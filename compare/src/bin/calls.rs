@@ -95,6 +95,16 @@ fn time(random: &mut Random) -> u16 {
     }
 }
 
+/// The places left for numbers older than the first, often none.
+fn early(random: &mut Random, window: u16) -> u16 {
+    match random.below(8) {
+        0..=2 => 0,
+        3 => 1,
+        4 => window - 1,
+        _ => random.below(window.into()) as u16,
+    }
+}
+
 /// A lawful record in use.
 fn lawful(random: &mut Random) -> Stream {
     let (destination, vlan) = key(random);
@@ -105,6 +115,7 @@ fn lawful(random: &mut Random) -> Stream {
             history: 0,
             anchor: 65535,
             remaining: 0,
+            early: 0,
             any: 1 + random.below(2) as u8 * 254,
         }
     } else {
@@ -114,12 +125,16 @@ fn lawful(random: &mut Random) -> Stream {
             } else {
                 u64::MAX
             };
+        let (history, early) = if rule == Stream::VECTOR_RULE {
+            let early = early(random, window);
+            // The first number stands in the window as long as there are places for older ones.
+            let first = u64::from(early > 0) << (window - 1 - early);
+            (bits >> (64 - window) | 1 | first, early)
+        } else {
+            (0, 0)
+        };
         State {
-            history: if rule == Stream::VECTOR_RULE {
-                bits >> (64 - window) | 1
-            } else {
-                0
-            },
+            history,
             anchor: if random.chance(1, 3) {
                 random.pick(&[0, 1, 65535, 32768, 65534])
             } else {
@@ -130,6 +145,7 @@ fn lawful(random: &mut Random) -> Stream {
             } else {
                 1 + random.below(time.into()) as u16
             },
+            early,
             any: 0,
         }
     };
@@ -152,7 +168,7 @@ fn lawful(random: &mut Random) -> Stream {
 /// A record with one fault, or with anything in it.
 fn damaged(random: &mut Random) -> Stream {
     let mut s = lawful(random);
-    match random.below(14) {
+    match random.below(18) {
         0 => s.rule = random.pick(&[0, 3, 255]),
         1 => s.window = random.pick(&[0, 1, 65, 255, 256, 260, 65535]),
         2 => s.time = 0,
@@ -165,6 +181,7 @@ fn damaged(random: &mut Random) -> Stream {
                 history: 0,
                 anchor: random.word(),
                 remaining: 0,
+                early: 0,
                 any: 1,
             }
         }
@@ -173,6 +190,7 @@ fn damaged(random: &mut Random) -> Stream {
                 history: random.bits(),
                 anchor: 65535,
                 remaining: 0,
+                early: 0,
                 any: 1,
             }
         }
@@ -180,11 +198,21 @@ fn damaged(random: &mut Random) -> Stream {
         10 => s.state.history |= 1u64.checked_shl(s.window.into()).unwrap_or(0),
         11 => s.state.history = random.bits(),
         12 => s.dest |= random.bits() << 48,
+        13 => s.state.early = s.window,
+        14 => s.state.early = s.window + 1 + random.below(8) as u16,
+        15 => s.state.early = 65535,
+        16 => {
+            // No number is at the place of the first, but where that is the anchor's.
+            let place = random.below(u64::from(s.window) - 1) as u16;
+            s.state.early = s.window - 1 - place;
+            s.state.history &= !(1 << place) | 1;
+        }
         _ => {
             s.state = State {
                 history: random.bits(),
                 anchor: random.word(),
                 remaining: random.word(),
+                early: random.word(),
                 any: random.byte(),
             };
             s.window = random.word();
@@ -496,6 +524,43 @@ struct Batches {
     network_before_count: u64,
 }
 
+/// The ways in which n alone makes a record damaged.
+const EARLY_FAULTS: [&str; 6] = [
+    "n = L",
+    "n above L",
+    "n = 65535",
+    "n above 0 and its bit clear",
+    "n above 0 in a match record",
+    "n above 0 with take-any",
+];
+/// The calls that meet such a record: an arrival is refused, a tick counts it, a reset mends it, a close frees it.
+const EARLY_MET: [&str; 4] = ["an arrival", "a tick", "a reset", "a close"];
+
+/// What must come up with n, the places left for numbers older than the first.
+#[derive(Default)]
+struct Early {
+    /// Verdicts of vector streams without take-any, by the window and n.
+    verdicts: BTreeMap<(u16, u16), u64>,
+    /// By [`EARLY_FAULTS`], then [`EARLY_MET`].
+    faults: [[u64; 4]; 6],
+    first_vector: u64,
+    first_match: u64,
+    move_leaves_some: u64,
+    move_leaves_none: u64,
+    move_ends_inside: u64,
+    loss_behind_the_first: u64,
+    older_zero_leaves: u64,
+    older_number_leaves: u64,
+    late_older: u64,
+    late_after_first: u64,
+    duplicate_older: u64,
+    across_the_wrap: u64,
+    reset_by_tick: u64,
+    reset_by_call: u64,
+    free_in_a_tick: u64,
+    opened_over: u64,
+}
+
 /// How often each thing came up.
 struct Seen {
     calls: [u64; 8],
@@ -515,6 +580,7 @@ struct Seen {
     groups: [u64; 4],
     slots: [u64; 66],
     batches: Batches,
+    early: Early,
 }
 
 /// The frames of a batch, as far as they stand whole in its input, and what stands behind them.
@@ -662,6 +728,149 @@ impl Batches {
     }
 }
 
+/// Is this record in use and damaged?
+fn is_damaged(s: Stream) -> bool {
+    let told = Product::new(&[s]).call(Call::Tick, &mut []);
+    matches!(told, Answer::Ticked { damaged: 1, .. })
+}
+
+/// Which of [`EARLY_FAULTS`] a record has that is damaged by its n alone.
+fn early_fault(s: &Stream) -> Option<usize> {
+    let early = s.state.early;
+    let mut other = *s;
+    other.state.early = 0;
+    if early == 0 || !is_damaged(*s) || is_damaged(other) {
+        return None;
+    }
+    Some(match (s.state.any, s.rule) {
+        (1.., _) => 5,
+        (0, Stream::MATCH_RULE) => 4,
+        _ if early == s.window => 0,
+        _ if early == 65535 => 2,
+        _ if early > s.window => 1,
+        _ => 3,
+    })
+}
+
+impl Early {
+    /// A call on a table that gave an answer other than a refusal.
+    fn note(&mut self, call: &Call, answer: &Answer, before: &[Stream], after: &[Stream]) {
+        match (call, answer) {
+            (_, &Answer::HandedUp { slot, number, .. }) => {
+                self.handed_up(number, &before[slot], &after[slot])
+            }
+            (_, &Answer::Duplicate { slot, number }) => {
+                self.duplicate_older += u64::from(is_older(number, &before[slot]));
+                self.verdict(&before[slot]);
+            }
+            (_, &Answer::Rogue { slot, .. }) => self.verdict(&before[slot]),
+            (Call::Tick, Answer::Ticked { .. }) => {
+                for (b, a) in before.iter().zip(after).filter(|(b, _)| b.state.early > 0) {
+                    self.met(1, b);
+                    self.free_in_a_tick += u64::from(!b.is_used());
+                    self.reset_by_tick += u64::from(a.counts != b.counts);
+                }
+            }
+            (&Call::Reset(slot), Answer::Done) => {
+                let b = &before[slot];
+                self.met(2, b);
+                self.reset_by_call += u64::from(b.state.early > 0 && !is_damaged(*b));
+            }
+            (&Call::Close(slot), Answer::Done) => self.met(3, &before[slot]),
+            (_, &Answer::Opened(slot)) => {
+                self.opened_over += u64::from(before[slot].state.early > 0)
+            }
+            _ => {}
+        }
+    }
+
+    /// A record that one of [`EARLY_MET`] has met.
+    fn met(&mut self, by: usize, s: &Stream) {
+        if let Some(fault) = early_fault(s) {
+            self.faults[fault][by] += 1;
+        }
+    }
+
+    fn verdict(&mut self, s: &Stream) {
+        if s.state.any == 0 && s.rule == Stream::VECTOR_RULE {
+            let n = (s.window, s.state.early);
+            *self.verdicts.entry(n).or_default() += 1;
+        }
+    }
+
+    fn handed_up(&mut self, number: u16, b: &Stream, a: &Stream) {
+        self.verdict(b);
+        if b.state.any != 0 {
+            let vector = b.rule == Stream::VECTOR_RULE;
+            self.first_vector += u64::from(vector);
+            self.first_match += u64::from(!vector);
+        }
+        let early = b.state.early;
+        if early == 0 {
+            return;
+        }
+        let first = b.window - 1 - early;
+        self.across_the_wrap += u64::from(first > a.state.anchor);
+        let moved = a.state.anchor.wrapping_sub(b.state.anchor);
+        if moved == 0 {
+            let older = is_older(number, b);
+            self.late_older += u64::from(older);
+            self.late_after_first += u64::from(!older);
+            return;
+        }
+        self.move_leaves_some += u64::from(early > moved);
+        self.move_leaves_none += u64::from(early == moved);
+        self.move_ends_inside += u64::from(early < moved);
+        self.loss_behind_the_first += u64::from(a.counts.lost != b.counts.lost);
+        // Of the places that leave, those older than the first.
+        let leave = early.min(moved);
+        let left = b.state.history >> (b.window - leave);
+        self.older_number_leaves += u64::from(left != 0);
+        self.older_zero_leaves += u64::from(left.count_ones() < leave.into());
+    }
+
+    fn list(&self, list: &mut Vec<(String, u64)>) {
+        for window in WINDOWS {
+            for n in 0..window {
+                let seen = self.verdicts.get(&(window, n)).copied().unwrap_or(0);
+                list.push((format!("a verdict with n = {} at L = {}", n, window), seen));
+            }
+        }
+        for (fault, met) in EARLY_FAULTS.iter().zip(self.faults) {
+            for (call, n) in EARLY_MET.iter().zip(met) {
+                list.push((format!("{} meets {}", call, fault), n));
+            }
+        }
+        for (rule, n) in [("vector", self.first_vector), ("match", self.first_match)] {
+            list.push((format!("take-any ends under the {} rule", rule), n));
+        }
+        for (what, n) in [
+            ("a move by fewer places", self.move_leaves_some),
+            ("a move by just so many places", self.move_leaves_none),
+            ("a move by more places", self.move_ends_inside),
+            ("a move by more that loses", self.loss_behind_the_first),
+            ("an older place leaves clear", self.older_zero_leaves),
+            ("an older place leaves marked", self.older_number_leaves),
+            ("a late number before the first", self.late_older),
+            ("a late number behind the first", self.late_after_first),
+            ("a duplicate before the first", self.duplicate_older),
+            ("the wrap since the first", self.across_the_wrap),
+            ("a tick resets", self.reset_by_tick),
+            ("a reset of a lawful record", self.reset_by_call),
+            ("a tick passes a free record", self.free_in_a_tick),
+            ("an open over a free record", self.opened_over),
+        ] {
+            list.push((format!("with n above 0: {}", what), n));
+        }
+    }
+}
+
+/// Is the number older than the first one, which still stands in the window?
+fn is_older(number: u16, s: &Stream) -> bool {
+    let place = s.state.anchor.wrapping_sub(number);
+    s.state.early > 0 && place > s.window - 1 - s.state.early
+}
+
 impl Seen {
     fn new() -> Seen {
         Seen {
@@ -680,6 +889,7 @@ impl Seen {
             groups: [0; 4],
             slots: [0; 66],
             batches: Batches::default(),
+            early: Early::default(),
         }
     }
 
@@ -693,6 +903,7 @@ impl Seen {
         room: usize,
     ) {
         let kind = place(call);
+        self.early.note(call, answer, before, after);
         self.calls[kind] += 1;
         self.slots[before.len()] += 1;
         if let Call::Batch {
@@ -719,9 +930,12 @@ impl Seen {
                     let dest = nippitsun::dest_of([
                         frame[0], frame[1], frame[2], frame[3], frame[4], frame[5],
                     ]);
-                    let slots = with_key(before, dest, vlan);
-                    self.shared_key_damaged += u64::from(n == 7 && slots > 1);
-                    self.groups[3] += u64::from(n == 14 && slots == 0);
+                    let mut slots = with_key(before, dest, vlan);
+                    self.groups[3] += u64::from(n == 14 && slots.clone().next().is_none());
+                    if let (7, Some(damaged)) = (n, slots.next()) {
+                        self.early.met(0, damaged);
+                        self.shared_key_damaged += u64::from(slots.next().is_some());
+                    }
                 }
             }
             Answer::HandedUp { slot, number, .. } => {
@@ -763,7 +977,7 @@ impl Seen {
 
     fn arrived(&mut self, call: &Call, verdict: usize, number: u16, s: &Stream, table: &[Stream]) {
         self.verdicts[usize::from(s.rule) - 1][verdict] += 1;
-        self.shared_key += u64::from(with_key(table, s.dest, s.vlan) > 1);
+        self.shared_key += u64::from(with_key(table, s.dest, s.vlan).count() > 1);
         if let Call::Arrival { frame, .. } = call {
             let at = if frame[12..14] == [0x81, 0x00] {
                 16
@@ -823,6 +1037,7 @@ impl Seen {
             list.push((format!("{}, from a group", name), self.groups[n]));
         }
         self.batches.list(&mut list);
+        self.early.list(&mut list);
         for slots in [0, 1, 63, 64, 65] {
             list.push((format!("calls on {} slots", slots), self.slots[slots]));
         }
@@ -850,11 +1065,10 @@ impl Seen {
 }
 
 /// Slots in use with this key.
-fn with_key(table: &[Stream], dest: u64, vlan: u16) -> usize {
+fn with_key(table: &[Stream], dest: u64, vlan: u16) -> impl Iterator<Item = &Stream> + Clone {
     table
         .iter()
-        .filter(|s| s.is_used() && s.dest == dest && s.vlan == vlan)
-        .count()
+        .filter(move |s| s.is_used() && s.dest == dest && s.vlan == vlan)
 }
 
 // ---- the run

@@ -1,5 +1,5 @@
 //! A fixed list of calls that are run and not proved, with what each answers and changes: document 01, "Run but not proved",
-//! and the places where a slip is likely, orders 1 and 3 of document 02 among them.
+//! and the places where a slip is likely, orders 1, 3 and 4 of document 02 among them.
 //!
 //!     vectors product    the list on the compiled product
 //!     vectors second     the list on the second program
@@ -106,23 +106,31 @@ fn fresh() -> Stream {
             history: 0,
             anchor: 65535,
             remaining: 0,
+            early: 0,
             any: 1,
         },
         ..Stream::default()
     }
 }
 
-/// The same stream where the numbers 98 and 100 came, and one tick since.
+/// The same stream long after its first number: 98 and 100 came, and one tick since.
 fn running() -> Stream {
     Stream {
         state: State {
             history: 0b101,
             anchor: 100,
             remaining: 2,
+            early: 0,
             any: 0,
         },
         ..fresh()
     }
+}
+
+/// The record with so many places left for numbers older than the first.
+fn with_early(mut record: Stream, early: u16) -> Stream {
+    record.state.early = early;
+    record
 }
 
 fn settings(rule: u8, window: u16, time: u16) -> Settings {
@@ -135,7 +143,7 @@ fn settings(rule: u8, window: u16, time: u16) -> Settings {
     }
 }
 
-fn fields(s: &Stream) -> [(&'static str, u64); 18] {
+fn fields(s: &Stream) -> [(&'static str, u64); 19] {
     let (state, counts) = (&s.state, &s.counts);
     [
         ("in use", s.used.into()),
@@ -148,6 +156,7 @@ fn fields(s: &Stream) -> [(&'static str, u64); 18] {
         ("history", state.history),
         ("take-any", state.any.into()),
         ("remaining", state.remaining.into()),
+        ("n", state.early.into()),
         ("arrivals 0", counts.arrivals0),
         ("arrivals 1", counts.arrivals1),
         ("passed", counts.passed),
@@ -976,8 +985,28 @@ impl<S: Side> List<S> {
                     ..running()
                 },
             ),
+            ("n = L", state(|s| s.early = 4)),
+            ("n above L", state(|s| s.early = 5)),
+            ("n = 65535", state(|s| s.early = 65535)),
+            ("n = 2, bit 1 clear", state(|s| s.early = 2)),
+            (
+                "n = L = 64",
+                Stream {
+                    window: 64,
+                    ..state(|s| {
+                        s.history = u64::MAX;
+                        s.early = 64;
+                    })
+                },
+            ),
+            ("match with n = 1", with_early(matching, 1)),
+            ("match with n = L - 1", with_early(matching, 3)),
+            ("take-any with n = 1", fresh_state(|s| s.early = 1)),
+            ("take-any with n = L - 1", fresh_state(|s| s.early = 3)),
             // Not damaged, beside those that are.
             ("lawful: vector", running()),
+            ("lawful: n = 1, bit 2 set", state(|s| s.early = 1)),
+            ("lawful: n = 3, bit 0 set", state(|s| s.early = 3)),
             ("lawful: match", matching),
             ("lawful: fresh", fresh()),
             (
@@ -1000,6 +1029,13 @@ impl<S: Side> List<S> {
                     used: 0,
                     rule: 3,
                     ..running()
+                },
+            ),
+            (
+                "free: n = 65535",
+                Stream {
+                    used: 0,
+                    ..state(|s| s.early = 65535)
                 },
             ),
         ];
@@ -1122,6 +1158,77 @@ impl<S: Side> List<S> {
         self.one(s);
         self.call("l: tick", Call::Tick, 0);
     }
+
+    fn older_than_the_first(&mut self) {
+        self.section(
+            "Numbers older than the first: n places are left for them, which are no loss when they leave",
+        );
+        for window in [2, 64] {
+            self.table(&[Stream::default()]);
+            let what = format!("open, L = {}", window);
+            self.call(&what, Call::Open(settings(1, window, 3)), 0);
+            self.number("the first", 0, 100);
+            let most = window - 1;
+            self.number("d = L - 1", 0, 100 + most);
+            self.number("d = L - 1", 0, 100 + 2 * most);
+            self.number("d = L - 1", 0, 100 + 3 * most);
+        }
+        let mut whole = with_early(running(), 63);
+        whole.window = 64;
+        whole.state.history = u64::MAX;
+        self.one(whole);
+        self.number("L = 64, n = 63, all came, d = 62", 0, 162);
+        self.number("d = 1", 0, 163);
+        self.number("d = 1", 0, 164);
+
+        self.one(fresh());
+        for (what, number) in [
+            ("the first", 100),
+            ("late, before the first", 98),
+            ("its twin", 98),
+            ("d = 2", 102),
+            ("late, before the first", 99),
+            ("late, behind the first", 101),
+            ("a rogue", 98),
+            ("d = 3, n = 1", 105),
+            ("d = 3, two are lost", 108),
+        ] {
+            self.number(what, 0, number);
+        }
+        for (d, number) in [(1, 101), (2, 102), (3, 103)] {
+            for early in [0, 1, 3] {
+                self.one(with_early(running(), early));
+                self.number(&format!("d = {}, n = {}", d, early), 0, number);
+            }
+        }
+        self.one(Stream {
+            counts: full_counts(),
+            ..with_early(running(), 1)
+        });
+        self.number("d = 3, n = 1, lost is 2^64 - 1", 0, 103);
+        self.one(fresh());
+        let frames = packed(&numbered(&[100, 98, 103, 106]));
+        self.batch_here("the first, one before it, d = 3, d = 3", 0, 4, &frames, 64);
+
+        self.section("Numbers older than the first: resets, a close, an open, and the match rule");
+        for (what, reset) in [
+            ("reset", Call::Reset(0)),
+            ("tick where 1 remains", Call::Tick),
+        ] {
+            let mut last = with_early(running(), 1);
+            last.state.remaining = 1;
+            self.one(last);
+            self.call(what, reset, 0);
+            self.number("the next first", 0, 5000);
+            self.number("d = 3", 0, 5003);
+        }
+        self.one(with_early(running(), 1));
+        self.call("tick where 2 remain", Call::Tick, 0);
+        self.call("close", Call::Close(0), 0);
+        self.call("open", Call::Open(settings(2, 4, 3)), 0);
+        self.number("the first, match", 0, 100);
+        self.number("d = 3, match", 0, 103);
+    }
 }
 
 fn full_counts() -> Counts {
@@ -1158,6 +1265,7 @@ fn run<S: Side>() -> List<S> {
     list.wrapping();
     list.shared_key();
     list.wrap_run();
+    list.older_than_the_first();
     list.batches();
     list
 }

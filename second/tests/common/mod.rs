@@ -53,6 +53,11 @@ pub fn running(rule: u8, window: u8, reset_time: u16, anchor: u16, history: u64)
     }
 }
 
+/// The record with so many places for numbers older than the first.
+pub fn with_early(stream: Stream, early: u16) -> Stream {
+    Stream { early, ..stream }
+}
+
 /// A tagged frame without a VLAN tag.
 pub fn tagged(number: u16) -> Vec<u8> {
     tagged_to(DESTINATION, None, number)
@@ -147,19 +152,32 @@ pub fn any_stream(random: &mut Random, destinations: &[[u8; 6]], vlans: &[u16]) 
                 _ => u64::MAX,
             };
             stream.history = (random.bits() & low) | 1;
+            stream.early = any_early(random, &stream);
         }
     }
     if random.chance(1, 5) {
         // One blow of damage, at times a harmless one.
-        match random.below(5) {
+        match random.below(6) {
             0 => stream.anchor = random.word(),
             1 => stream.history ^= 1 << random.below(64),
             2 => stream.take_any = random.pick(&[0, 1, 9]),
             3 => stream.remaining = random.pick(&[0, 1, 2, 3, 4, 65535]),
+            4 => stream.early = random.pick(&[1, 2, window.into(), 63, 64, 65535]),
             _ => stream.vlan = random.pick(&[4094, 4095, 4096, 65535]),
         }
     }
     stream
+}
+
+/// An n that fits to a vector record's history, often 0.
+fn any_early(random: &mut Random, stream: &Stream) -> u16 {
+    let first = random.below(64);
+    let early = u64::from(stream.window).saturating_sub(1 + first);
+    if random.chance(1, 2) && stream.history >> first & 1 == 1 {
+        early as u16
+    } else {
+        0
+    }
 }
 
 fn any_counter(random: &mut Random) -> u64 {
