@@ -169,6 +169,17 @@ fn decide_in(s: &mut Stream, number: u16, network: u8) -> u8 {
     decide_lawful(s, number, network)
 }
 
+/// How many are lost while there are places for numbers older than the first: those leave before the others and do not count.
+#[cold]
+fn lost_at_start(history: u64, window: u16, d: u16, early: u16) -> u64 {
+    if d <= early {
+        return 0;
+    }
+    let counted = d - early;
+    let leaving = history << (64 - window + early) >> (64 - counted);
+    counted as u64 - leaving.count_ones() as u64
+}
+
 #[inline(always)]
 fn decide_lawful(s: &mut Stream, number: u16, network: u8) -> u8 {
     let d = number.wrapping_sub(s.state.anchor) as i16 as i32;
@@ -199,17 +210,22 @@ fn decide_lawful(s: &mut Stream, number: u16, network: u8) -> u8 {
             s.state.history |= bit;
             s.counts.disorder = s.counts.disorder.wrapping_add(1);
         } else {
-            // The d places below L leave. Those above L - early are older than the first; each zero bit among the others is lost.
-            let early = s.state.early as i32;
-            if d > early {
-                let after = d - early;
-                let leaving = s.state.history << (64 - window + early) >> (64 - after);
-                s.counts.lost = s
-                    .counts
-                    .lost
-                    .wrapping_add((after as u32 - leaving.count_ones()) as u64);
-            }
-            s.state.early = s.state.early.saturating_sub(d as u16);
+            let lost = if s.state.early == 0 {
+                // The d places below L leave, and each zero bit among them is lost. The next number is the common case, and has
+                // no bits to count.
+                let leaving = s.state.history >> (window - d);
+                let ones = if d == 1 {
+                    leaving
+                } else {
+                    leaving.count_ones() as u64
+                };
+                d as u64 - ones
+            } else {
+                let early = s.state.early;
+                s.state.early = early.saturating_sub(d as u16);
+                lost_at_start(s.state.history, s.window, d as u16, early)
+            };
+            s.counts.lost = s.counts.lost.wrapping_add(lost);
             let cut = u64::MAX >> (64 - window);
             s.state.history = ((s.state.history << d) & cut) | 1;
             s.state.anchor = number;
