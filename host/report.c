@@ -165,7 +165,8 @@ static void write_all(FILE *f, const struct report *r)
     by_stream(f, r, "discarded_total", "Duplicates.", offsetof(nippitsun_counts, discarded));
     by_stream(f, r, "rogue_total", "Frames outside the window.", offsetof(nippitsun_counts, rogue));
     by_stream(f, r, "out_of_order_total", "Frames handed up out of order.", offsetof(nippitsun_counts, disorder));
-    by_stream(f, r, "lost_total", "Numbers that left the window and never came.", offsetof(nippitsun_counts, lost));
+    by_stream(f, r, "lost_total", "Numbers after the first that left the window and were not handed up.",
+              offsetof(nippitsun_counts, lost));
     by_stream(f, r, "resets_total", "Times the stream became fresh.", offsetof(nippitsun_counts, resets));
     by_stream_and_network(f, r, "silent", "gauge", "1 while a network has no arrivals of a stream and the other has.", silent);
     by_stream_and_network(f, r, "silences_total", "counter", "Times a network fell silent for a stream.", silences);

@@ -145,6 +145,7 @@ fn record(rule: u8) -> Stream {
             history: if rule == 1 { 0x5555_5555_5555_5555 } else { 0 },
             anchor: 65000,
             remaining: 100,
+            early: 0,
             any: 0,
         },
         ..Stream::default()

@@ -138,6 +138,16 @@ pub fn tags(cases: u64) -> Result<u64, String> {
     Ok(2 * cases)
 }
 
+/// The places left for numbers older than the first: none, or as many as are lawful, with the first marked next to them.
+pub fn early(dice: &mut Dice, window: u16, history: &mut u64) -> u16 {
+    if dice.one_in(2) {
+        return 0;
+    }
+    let early = dice.below(window as u64) as u16;
+    *history |= 1 << (window - 1 - early);
+    early
+}
+
 /// A random record: most often lawful, in all states; else damaged in one way or in all.
 fn record(dice: &mut Dice) -> Stream {
     let window = match dice.below(4) {
@@ -152,6 +162,7 @@ fn record(dice: &mut Dice) -> Stream {
         history &= dice.next();
     }
     history = history >> (64 - window) | 1;
+    let early = early(dice, window, &mut history);
     let mut s = Stream {
         dest: dice.next(),
         vlan: dice.below(4095) as u16,
@@ -163,6 +174,7 @@ fn record(dice: &mut Dice) -> Stream {
             history: if rule == 1 { history } else { 0 },
             anchor: dice.next() as u16,
             remaining: 1 + dice.below(time as u64) as u16,
+            early: if rule == 1 { early } else { 0 },
             any: 0,
         },
         counts: Counts {
@@ -181,6 +193,7 @@ fn record(dice: &mut Dice) -> Stream {
             history: 0,
             anchor: 65535,
             remaining: 0,
+            early: 0,
             any: 1 + dice.below(255) as u8,
         };
     }
@@ -201,6 +214,9 @@ fn record(dice: &mut Dice) -> Stream {
         9 => s.window = 1,
         10 => s.state.remaining = s.time.wrapping_add(1),
         11 => s.state.anchor = 65534,
+        12 => s.state.early = 1 + dice.below(65) as u16,
+        13 => s.state.early = s.window,
+        14 => s.state.early = dice.next() as u16,
         _ => {}
     }
     s

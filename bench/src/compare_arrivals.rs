@@ -1,6 +1,6 @@
 //! Random arrivals on random tables: the archive's call, the second program's and the plain one in place. Answers, every
 //! record field by field, and every output byte must be equal, and each refusal and verdict must have come up.
-use crate::compare::{all_seen, individual, wrong, Dice};
+use crate::compare::{all_seen, early, individual, wrong, Dice};
 use crate::record::{
     ArrivalAnswer, Counts, SlotAnswer, State, Stream, TickAnswer, DUPLICATE, HANDED_UP, ROGUE,
 };
@@ -22,6 +22,7 @@ pub fn record_of(s: &second::Stream) -> Stream {
             history: s.history,
             anchor: s.anchor,
             remaining: s.remaining,
+            early: s.early,
             any: s.take_any,
         },
         counts: Counts {
@@ -155,7 +156,7 @@ pub fn tables(dice: &mut Dice, case: u64) -> Result<Tables, String> {
 pub fn stir(dice: &mut Dice, t: &mut Tables) {
     let slot = dice.below(t.second.len() as u64) as usize;
     let mut s = t.second[slot];
-    match dice.below(10) {
+    match dice.below(11) {
         0 => s.in_use = dice.below(3) as u8,
         1 => s.rule = dice.below(4) as u8,
         2 => s.window = dice.next() as u8,
@@ -165,6 +166,7 @@ pub fn stir(dice: &mut Dice, t: &mut Tables) {
         6 => s.history = dice.next(),
         7 => s.anchor = dice.next() as u16,
         8 => s.destination = t.second[0].destination,
+        9 => s.early = dice.below(66) as u16,
         _ => {
             s.passed = u64::MAX;
             s.arrivals = [u64::MAX; 2];
@@ -182,11 +184,12 @@ pub fn stir(dice: &mut Dice, t: &mut Tables) {
         mended.vlan = mended.vlan.min(4094);
         mended.take_any = 0;
         mended.remaining = mended.reset_time;
-        mended.history = if mended.rule == 1 {
-            s.history >> (64 - mended.window) | 1
-        } else {
-            0
-        };
+        mended.history = 0;
+        mended.early = 0;
+        if mended.rule == 1 {
+            mended.history = s.history >> (64 - mended.window) | 1;
+            mended.early = early(dice, mended.window as u16, &mut mended.history);
+        }
         t.set(slot, mended);
     }
 }

@@ -148,12 +148,16 @@ fn lawful(s: &Stream) -> bool {
         return false;
     }
     if t.any != 0 {
-        return t.anchor == 65535 && t.history == 0;
+        return t.anchor == 65535 && t.history == 0 && t.early == 0;
     }
     if s.rule == 2 {
-        return t.history == 0;
+        return t.history == 0 && t.early == 0;
     }
-    t.history & 1 == 1 && t.history >> (s.window - 1) <= 1
+    if t.history & 1 == 0 || t.history >> (s.window - 1) > 1 {
+        return false;
+    }
+    // Most often no place is left for numbers older than the first; else the first stands next to them.
+    t.early == 0 || t.early < s.window && t.history >> (s.window - 1 - t.early) & 1 == 1
 }
 
 /// The decision in place: what a program in Rust would write. A record that is not lawful stays as it is.
@@ -163,6 +167,17 @@ fn decide_in(s: &mut Stream, number: u16, network: u8) -> u8 {
         return DAMAGED;
     }
     decide_lawful(s, number, network)
+}
+
+/// How many are lost while there are places for numbers older than the first: those leave before the others and do not count.
+#[cold]
+fn lost_at_start(history: u64, window: u16, d: u16, early: u16) -> u64 {
+    if d <= early {
+        return 0;
+    }
+    let counted = d - early;
+    let leaving = history << (64 - window + early) >> (64 - counted);
+    counted as u64 - leaving.count_ones() as u64
 }
 
 #[inline(always)]
@@ -177,7 +192,10 @@ fn decide_lawful(s: &mut Stream, number: u16, network: u8) -> u8 {
     if s.state.any != 0 {
         s.state.any = 0;
         s.state.anchor = number;
-        s.state.history = if s.rule == 1 { 1 } else { 0 };
+        if s.rule == 1 {
+            s.state.history = 1;
+            s.state.early = s.window - 1;
+        }
     } else if s.rule == 1 {
         if d >= window || d <= -window {
             s.counts.rogue = s.counts.rogue.wrapping_add(1);
@@ -192,12 +210,22 @@ fn decide_lawful(s: &mut Stream, number: u16, network: u8) -> u8 {
             s.state.history |= bit;
             s.counts.disorder = s.counts.disorder.wrapping_add(1);
         } else {
-            // The d places below L leave; each zero bit among them is lost.
-            let leaving = s.state.history >> (window - d);
-            s.counts.lost = s
-                .counts
-                .lost
-                .wrapping_add((d as u32 - leaving.count_ones()) as u64);
+            let lost = if s.state.early == 0 {
+                // The d places below L leave, and each zero bit among them is lost. The next number is the common case, and has
+                // no bits to count.
+                let leaving = s.state.history >> (window - d);
+                let ones = if d == 1 {
+                    leaving
+                } else {
+                    leaving.count_ones() as u64
+                };
+                d as u64 - ones
+            } else {
+                let early = s.state.early;
+                s.state.early = early.saturating_sub(d as u16);
+                lost_at_start(s.state.history, s.window, d as u16, early)
+            };
+            s.counts.lost = s.counts.lost.wrapping_add(lost);
             let cut = u64::MAX >> (64 - window);
             s.state.history = ((s.state.history << d) & cut) | 1;
             s.state.anchor = number;

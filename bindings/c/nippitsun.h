@@ -1,7 +1,7 @@
 /* Nippitsun for C and C++: a receiver for frames that arrive on two networks, and the redundancy tag in and out.
  *
- * The calls are the exported functions of the crates `port` and `port_batch`, proved to do what document 01 says, with orders 1
- * and 3 of document 02 (order 2 changes no answer). This header is written by hand: bindings/c/test.c holds it to the compiled
+ * The calls are the exported functions of the crates `port` and `port_batch`, proved to do what document 01 says, with orders 1,
+ * 3 and 4 of document 02 (order 2 changes no answer). This header is written by hand: bindings/c/test.c holds it to the compiled
  * code, and bindings/check to the sources. C11 or C++11, x86-64; link with libport.a, which is called libnippitsun.a once it
  * is installed (docs/LINKING.md).
  *
@@ -26,9 +26,9 @@
 #include <stddef.h>
 #include <stdint.h>
 
-#define NIPPITSUN_VERSION "0.4.0"
+#define NIPPITSUN_VERSION "0.5.0"
 #define NIPPITSUN_VERSION_MAJOR 0
-#define NIPPITSUN_VERSION_MINOR 4
+#define NIPPITSUN_VERSION_MINOR 5
 #define NIPPITSUN_VERSION_PATCH 0
 
 #ifdef __cplusplus
@@ -95,15 +95,17 @@ enum nippitsun_refusal {
  * A table is an array of these, made and kept by the caller. All bytes zero is a table of free slots. The fields may be read
  * between two calls; a caller who writes to them may damage a record, which a call then refuses or a tick then counts. The
  * byte behind `any` belongs to no field, and a call that is not refused may leave anything there: compare records field by
- * field. */
+ * field. A record has 96 bytes; where each field stands is asserted at the end of this file. In 0.5.0 `any` has moved: a record
+ * that was kept from an earlier version is not to be lent. */
 
 /* What an arrival and a tick change. */
 typedef struct nippitsun_state {
     uint64_t history;   /* bit k stands for the number anchor - k */
     uint16_t anchor;    /* the number that differences are taken from */
     uint16_t remaining; /* ticks left until the stream is reset */
-    uint16_t early;     /* places left for numbers older than the first that was handed up since the reset; a place that
-                           leaves while there are some is not lost */
+    uint16_t early;     /* so many places of the window still stand for numbers older than the first that was handed up since
+                           the open or the reset: L - 1 after that first, one less with each place that the window moves,
+                           then 0. They leave without being counted as lost. 0 in a fresh record and with the match rule */
     uint8_t any;        /* take-any: 0 is no, every other value is yes; calls write 0 and 1 */
 } nippitsun_state;
 
@@ -115,8 +117,8 @@ typedef struct nippitsun_counts {
     uint64_t discarded; /* duplicates */
     uint64_t rogue;     /* outside the window */
     uint64_t disorder;  /* handed up out of order */
-    uint64_t lost;      /* numbers after the first of a start (an open or a reset) that left the window and had not come by
-                           then; 0 with the match rule */
+    uint64_t lost;      /* numbers that left the window and had not been handed up: what comes of them later is a rogue. Those
+                           older than the first since the open or the reset are not counted. Match rule: does not rise */
     uint64_t resets;    /* times the stream became fresh, by ticks or by reset */
 } nippitsun_counts;
 

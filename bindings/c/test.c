@@ -172,7 +172,7 @@ static nippitsun_tag_answer written(const uint8_t *frame, size_t n, uint16_t num
 /* ---- records, field by field: what stands in the padding is nobody's */
 
 static int same_state(nippitsun_state a, nippitsun_state b) {
-    return a.history == b.history && a.anchor == b.anchor && a.remaining == b.remaining && a.any == b.any;
+    return a.history == b.history && a.anchor == b.anchor && a.remaining == b.remaining && a.early == b.early && a.any == b.any;
 }
 
 static int same_counts(nippitsun_counts a, nippitsun_counts b) {
@@ -185,7 +185,7 @@ static int same(nippitsun_stream a, nippitsun_stream b) {
         && a.used == b.used && same_state(a.state, b.state) && same_counts(a.counts, b.counts);
 }
 
-static const nippitsun_state fresh = {.history = 0, .anchor = 65535, .remaining = 0, .any = 1};
+static const nippitsun_state fresh = {.history = 0, .anchor = 65535, .remaining = 0, .early = 0, .any = 1};
 static const nippitsun_counts zero = {0, 0, 0, 0, 0, 0, 0, 0};
 
 /* A distinct value in each field, all bytes of it distinct where it has several. */
@@ -196,7 +196,7 @@ static const nippitsun_stream distinct = {
     .time = 0x1516,
     .rule = 0x17,
     .used = 0x18,
-    .state = {.history = 0x2122232425262728, .anchor = 0x292A, .remaining = 0x2B2C, .any = 0x2D},
+    .state = {.history = 0x2122232425262728, .anchor = 0x292A, .remaining = 0x2B2C, .early = 0x2D2E, .any = 0x2F},
     .counts = {
         .arrivals0 = 0x3132333435363738,
         .arrivals1 = 0x4142434445464748,
@@ -209,7 +209,8 @@ static const nippitsun_stream distinct = {
     },
 };
 
-/* A lawful record of the vector rule: window 4, time 9, the numbers 100 and 98 came. Its counters are distinct. */
+/* A lawful record of the vector rule: window 4, time 9, the numbers 100 and 98 came, and older ones before. Its counters are
+ * distinct. */
 static nippitsun_stream running(void) {
     nippitsun_stream s = distinct;
     s.dest = 0x020304050607;
@@ -218,7 +219,7 @@ static nippitsun_stream running(void) {
     s.time = 9;
     s.rule = NIPPITSUN_RULE_VECTOR;
     s.used = 1;
-    s.state = (nippitsun_state){.history = 5, .anchor = 100, .remaining = 6, .any = 0};
+    s.state = (nippitsun_state){.history = 5, .anchor = 100, .remaining = 6, .early = 0, .any = 0};
     return s;
 }
 
@@ -376,14 +377,15 @@ static void arrivals(void) {
     make_out(NIPPITSUN_FRAME_MOST - NIPPITSUN_TAG_LENGTH);
     a = arrive(0, tagged(NIPPITSUN_FRAME_MOST, 0xABC, 0xFEDC), NIPPITSUN_FRAME_MOST);
     CHECK(a.slot == 1 && a.number == 0xFEDC && a.verdict == NIPPITSUN_VERDICT_HANDED_UP && a.length == 1994 && without(2000, 16));
-    want.state = (nippitsun_state){.history = 1, .anchor = 0xFEDC, .remaining = 9, .any = 0};
+    want.state = (nippitsun_state){.history = 1, .anchor = 0xFEDC, .remaining = 9, .early = 3, .any = 0};
     want.counts.arrivals0++;
     want.counts.passed++;
     CHECK(same(table[1], want) && same(table[0], distinct));
 
-    /* The match rule: no rogue, and no history. */
+    /* The match rule: no rogue, no history, and no places for older numbers. */
     table[1].rule = want.rule = NIPPITSUN_RULE_MATCH;
     table[1].state.history = want.state.history = 0;
+    table[1].state.early = want.state.early = 0;
     a = arrive(1, tagged(60, 0xABC, 5), 60);
     CHECK(a.verdict == NIPPITSUN_VERDICT_HANDED_UP && a.number == 5);
     want.state.anchor = 5;
@@ -401,6 +403,106 @@ static void arrivals(void) {
     CHECK(a.verdict == NIPPITSUN_VERDICT_HANDED_UP && a.length == 54 && a.number == 6);
     CHECK(equal(out + 1, f + 1, 16) && equal(out + 17, f + 23, 38) && out[0] == out_before[0] && out_same_from(55));
     free(f);
+}
+
+/* One number after the other from a start, L = 4, and what is in the record then. */
+struct step { uint16_t number; uint8_t history; uint16_t early; uint64_t lost; };
+
+static void start(const struct step *steps, size_t n) {
+    table[0].counts.lost = 0;
+    CHECK(reset(0) == 0);
+    for (size_t i = 0; i < n; i++) {
+        CHECK(arrive(i % 2, tagged(60, 0, steps[i].number), 60).verdict == NIPPITSUN_VERDICT_HANDED_UP);
+        CHECK(table[0].state.history == steps[i].history && table[0].state.early == steps[i].early);
+        CHECK(table[0].counts.lost == steps[i].lost);
+    }
+}
+
+/* A stream at its start: the places before its first number leave and are not lost, and what is missing behind it is. */
+static void starts(void) {
+    static const struct step late[] = {
+        {100, 1, 3, 0},  /* the first */
+        {101, 3, 2, 0},
+        {99, 7, 2, 0},   /* older than the first, and handed up as every late one */
+        {103, 13, 0, 0}, /* 98 and 99 leave: both are older than the first */
+        {104, 11, 0, 0}, /* the first leaves */
+        {105, 7, 0, 0},
+        {106, 15, 0, 1}, /* 102 leaves, and never came */
+    };
+    static const struct step across[] = {
+        {65534, 1, 3, 0},
+        {0, 5, 1, 0},
+        {3, 9, 0, 1}, /* 65533 leaves, which is older, then the first, and 65535, which never came */
+    };
+    static const struct step gap[] = {{200, 1, 3, 0}, {203, 9, 0, 0}, {206, 9, 0, 2}};
+    make_table(1);
+    make_out(60);
+    CHECK(opened(running_dest, 0, NIPPITSUN_RULE_VECTOR, 4, 3).refusal == 0);
+    start(late, sizeof late / sizeof *late);
+    start(across, sizeof across / sizeof *across);
+    start(gap, sizeof gap / sizeof *gap);
+
+    /* Every L: with no number missing lost stays 0. A match record has no such places. */
+    for (uint16_t window = NIPPITSUN_WINDOW_LEAST; window <= NIPPITSUN_WINDOW_MOST; window++) {
+        for (uint8_t rule = NIPPITSUN_RULE_VECTOR; rule <= NIPPITSUN_RULE_MATCH; rule++) {
+            make_table(1);
+            CHECK(opened(running_dest, 0, rule, window, 3).refusal == 0 && table[0].state.early == 0);
+            for (uint16_t i = 0; i < 2 * window; i++) {
+                CHECK(arrive(0, tagged(60, 0, (uint16_t)(65500 + i)), 60).verdict == NIPPITSUN_VERDICT_HANDED_UP);
+                uint16_t left = rule == NIPPITSUN_RULE_VECTOR && i < window ? (uint16_t)(window - 1 - i) : 0;
+                CHECK(table[0].state.early == left && table[0].counts.lost == 0);
+            }
+        }
+    }
+}
+
+/* The places for older numbers in a record that is lent: at most L - 1, and the first stands next to them. */
+static void places(void) {
+    enum { vector = NIPPITSUN_RULE_VECTOR, match = NIPPITSUN_RULE_MATCH };
+    static const struct { uint8_t rule; nippitsun_state state; int lawful; } cases[] = {
+        {vector, {.history = 5, .anchor = 100, .remaining = 6, .early = 0}, 1},
+        {vector, {.history = 5, .anchor = 100, .remaining = 6, .early = 1}, 1},
+        {vector, {.history = 5, .anchor = 100, .remaining = 6, .early = 2}, 0}, /* bit 1 is clear */
+        {vector, {.history = 5, .anchor = 100, .remaining = 6, .early = 3}, 1},
+        {vector, {.history = 5, .anchor = 100, .remaining = 6, .early = 4}, 0}, /* L */
+        {vector, {.history = 15, .anchor = 100, .remaining = 6, .early = 4}, 0},
+        {vector, {.history = 15, .anchor = 100, .remaining = 6, .early = 256}, 0},
+        {vector, {.history = 15, .anchor = 100, .remaining = 6, .early = 65535}, 0},
+        {match, {.history = 0, .anchor = 100, .remaining = 6, .early = 0}, 1},
+        {match, {.history = 0, .anchor = 100, .remaining = 6, .early = 3}, 0},
+        {vector, {.history = 0, .anchor = 65535, .remaining = 0, .early = 0, .any = 1}, 1},
+        {vector, {.history = 0, .anchor = 65535, .remaining = 0, .early = 3, .any = 1}, 0},
+        {match, {.history = 0, .anchor = 65535, .remaining = 0, .early = 1, .any = 1}, 0},
+        {vector, {.history = 0, .anchor = 65535, .remaining = 0, .early = 1, .any = 0}, 0}, /* a fresh record of 0.4.0 */
+    };
+    make_out(60);
+    for (size_t i = 0; i < sizeof cases / sizeof *cases; i++) {
+        nippitsun_stream lent = running(), open = running();
+        lent.rule = open.rule = cases[i].rule;
+        lent.state = cases[i].state;
+        make_table(2);
+        table[0] = table[1] = lent;
+        table[1].used = 0;
+        nippitsun_stream not_used = table[1], ticked_once = lent;
+        uint8_t refusal = cases[i].lawful ? NIPPITSUN_REFUSED_NOT : NIPPITSUN_REFUSED_DAMAGED;
+        CHECK(arrive(0, tagged(60, 0, 101), 60).refusal == refusal);
+
+        /* A tick leaves the places; it counts a damaged record and leaves all of it, and a free one whatever it holds. */
+        table[0] = lent;
+        nippitsun_tick_answer a = ticked();
+        if (cases[i].lawful && lent.state.remaining) ticked_once.state.remaining--;
+        CHECK(a.resets == 0 && a.damaged == !cases[i].lawful && same(table[0], ticked_once) && same(table[1], not_used));
+
+        /* A reset takes them away and mends, and so does the tick that resets. */
+        open.state = fresh;
+        open.counts.resets++;
+        CHECK(reset(0) == 0 && same(table[0], open));
+        CHECK(arrive(0, tagged(60, 0, 101), 60).verdict == NIPPITSUN_VERDICT_HANDED_UP);
+        table[0].state.remaining = 1;
+        open.counts = table[0].counts;
+        open.counts.resets++;
+        CHECK(ticked().resets == 1 && same(table[0], open));
+    }
 }
 
 /* Open writes every field of a record that had another value in each. */
@@ -745,6 +847,7 @@ static void batches_in_turn(void) {
         table[0].vlan = 7;
         table[1].vlan = 5;
         table[2].window = below(2) ? 4 : 64;
+        table[2].state.early = (uint16_t)(below(2) * (table[2].window - 1u));
         if (below(3) == 0) table[2].state = distinct.state;
         pack_none();
         for (size_t n = below(NIPPITSUN_FRAMES_MOST + 1); n > 0; n--) {
@@ -817,6 +920,8 @@ static void nothing(void) {
 
 int main(void) {
     arrivals();
+    starts();
+    places();
     opens();
     closes_resets_and_ticks();
     refusals();

@@ -12,8 +12,9 @@ pub struct State {
     pub anchor: u16,
     /// Ticks left until the stream is reset.
     pub remaining: u16,
-    /// Places left for numbers older than the first that was handed up since the reset. A place that leaves while there are
-    /// some is not lost.
+    /// So many places of the window still stand for numbers older than the first that was handed up since the open or the
+    /// reset: L - 1 after that first, one less with each place that the window moves, then 0. They leave without being counted
+    /// as lost. 0 in a fresh record and with the match rule.
     pub early: u16,
     /// Take-any: 0 is no, every other value is yes.
     pub any: u8,
@@ -35,8 +36,8 @@ pub struct Counts {
     pub rogue: u64,
     /// Frames handed up out of order.
     pub disorder: u64,
-    /// Numbers after the first of a start (an open or a reset) that left the window and had not come by then. 0 with the match
-    /// rule.
+    /// Numbers that left the window and had not been handed up: what comes of them later is a rogue. Those older than the first
+    /// since the open or the reset are not counted. Match rule: does not rise.
     pub lost: u64,
     /// How often the stream became fresh, by ticks or by a reset.
     pub resets: u64,
@@ -105,7 +106,8 @@ impl Stream {
     /// The match rule.
     pub const MATCH_RULE: u8 = 2;
 
-    /// The record's bytes as they lie in memory, low byte first, its padding zero: for a file, or for another program.
+    /// The record's bytes as they lie in memory, low byte first, its padding zero: for a file, or for another program. In 0.5.0
+    /// `any` has moved: bytes that were kept from an earlier version are no record any more.
     pub fn to_bytes(&self) -> [u8; size_of::<Stream>()] {
         let state = &self.state;
         let mut bytes = Vec::with_capacity(size_of::<Stream>());

@@ -11,6 +11,7 @@ const FRESH: State = State {
     history: 0,
     anchor: 65535,
     remaining: 0,
+    early: 0,
     any: 1,
 };
 
@@ -26,7 +27,8 @@ const DISTINCT: Stream = Stream {
         history: 0x2122232425262728,
         anchor: 0x292A,
         remaining: 0x2B2C,
-        any: 0x2D,
+        early: 0x2D2E,
+        any: 0x2F,
     },
     counts: Counts {
         arrivals0: 0x3132333435363738,
@@ -42,7 +44,7 @@ const DISTINCT: Stream = Stream {
 
 const DESTINATION: [u8; 6] = [2, 3, 4, 5, 6, 7];
 
-/// A lawful record of the vector rule with distinct counters: the numbers 100 and 98 came.
+/// A lawful record of the vector rule with distinct counters: the numbers 100 and 98 came, and older ones before.
 fn running() -> Stream {
     Stream {
         dest: dest_of(DESTINATION),
@@ -55,6 +57,7 @@ fn running() -> Stream {
             history: 5,
             anchor: 100,
             remaining: 6,
+            early: 0,
             any: 0,
         },
         ..DISTINCT
@@ -131,6 +134,7 @@ fn arrivals_change_the_fields_that_they_should() {
         history: 5,
         anchor: 102,
         remaining: 9,
+        early: 0,
         any: 0,
     };
     assert_eq!(r.records(), [DISTINCT, want]);
@@ -139,6 +143,78 @@ fn arrivals_change_the_fields_that_they_should() {
     assert_eq!(out[54..], [0xA5; 6]);
     assert_eq!(r.counts(1), Some(&want.counts));
     assert_eq!(r.counts(2), None);
+}
+
+/// The places before the first number are not lost when they leave; what is missing behind it is.
+#[test]
+fn a_start_loses_nothing() {
+    let mut r = Receiver::new(1);
+    assert_eq!(r.open(settings(0)), Ok(0));
+    // The number, and the places for older ones and lost behind it. 99 is older than the first and comes late; 102 never comes.
+    let steps = [
+        (100, 3, 0),
+        (101, 2, 0),
+        (99, 2, 0),
+        (103, 0, 0),
+        (104, 0, 0),
+        (105, 0, 0),
+        (106, 0, 1),
+    ];
+    for (number, early, lost) in steps {
+        let a = r.arrival(0, &tagged(60, number), &mut [0; 60]).unwrap();
+        assert_eq!(a.verdict, Verdict::HandedUp { length: 54 });
+        let s = r.records()[0];
+        assert_eq!((s.state.early, s.counts.lost), (early, lost));
+    }
+}
+
+/// At most L - 1 places, and the first stands next to them.
+#[test]
+fn places_for_older_numbers_are_looked_at() {
+    let vector = running().state;
+    let match_rule = Stream {
+        rule: Stream::MATCH_RULE,
+        state: State {
+            history: 0,
+            ..vector
+        },
+        ..running()
+    };
+    let fresh = Stream {
+        state: FRESH,
+        ..running()
+    };
+    for (s, lawful) in [
+        (running(), [0, 1, 3].as_slice()),
+        (match_rule, &[0]),
+        (fresh, &[0]),
+    ] {
+        for early in (0..=s.window).chain([256, 65535]) {
+            let mut s = s;
+            s.state.early = early;
+            let free = Stream { used: 0, ..s };
+            let is_lawful = lawful.contains(&early);
+            let mut r = Receiver::from_records(vec![s, free]);
+            let damaged = u64::from(!is_lawful);
+            assert_eq!(r.tick(), Ok(Ticked { resets: 0, damaged }));
+            assert_eq!(r.records()[0].state.early, early);
+            assert_eq!(r.records()[1], free);
+            let arrives = |r: &mut Receiver| r.arrival(0, &tagged(60, 101), &mut [0; 60]).err();
+            let why = if is_lawful {
+                None
+            } else {
+                Some(Refusal::Damaged)
+            };
+            assert_eq!(arrives(&mut r), why);
+            assert_eq!(r.reset(0), Ok(()));
+            assert_eq!(r.records()[0].state, FRESH);
+            assert_eq!(arrives(&mut r), None);
+            // By a tick too.
+            r.records_mut()[0].state.remaining = 1;
+            assert_eq!(r.tick().unwrap().resets, 1);
+            assert_eq!(r.records()[0].state, FRESH);
+        }
+    }
 }
 
 #[test]
@@ -335,6 +411,6 @@ fn a_record_as_bytes() {
         bytes[8..16],
         [0x12, 0x11, 0x14, 0x13, 0x16, 0x15, 0x17, 0x18]
     );
-    assert_eq!(bytes[24..32], [0x2A, 0x29, 0x2C, 0x2B, 0x2D, 0, 0, 0]);
+    assert_eq!(bytes[24..32], [0x2A, 0x29, 0x2C, 0x2B, 0x2E, 0x2D, 0x2F, 0]);
     assert_eq!(bytes[88..], 0xA1A2A3A4A5A6A7A8u64.to_le_bytes());
 }

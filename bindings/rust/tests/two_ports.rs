@@ -106,8 +106,8 @@ fn one_call_under_one_lock_hands_each_up_once() {
     assert_eq!((counts.arrivals0, counts.arrivals1), (all, all));
     assert_eq!((counts.passed, counts.discarded), (all, all));
     assert_eq!((counts.rogue, counts.disorder), (0, 0));
-    // Only the places of the first window that no number had.
-    assert_eq!(counts.lost, WINDOW as u64 - 1);
+    // Nothing was missing, not at the start either.
+    assert_eq!(counts.lost, 0);
 }
 
 /// A receiver with the vector rule whose asking and marking are two calls.

@@ -59,7 +59,7 @@ const STREAM_COUNTERS: [OfStream; 6] = [
     ),
     (
         "lost_total",
-        "Numbers that left the window and never came.",
+        "Numbers after the first that left the window and were not handed up.",
         |c| c.lost,
     ),
     ("resets_total", "Times the stream became fresh.", |c| {
