@@ -20,6 +20,7 @@ mod Slot
 mod Gap
 mod Wrap
 mod Handed
+mod Absent
 mod Linked
 mod Follow
 mod Turns

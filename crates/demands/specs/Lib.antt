@@ -8,6 +8,7 @@ pub mod Unlimited
 pub mod Demand3
 pub mod Steps
 pub mod Corollaries
+pub mod Lost
 pub mod Examples
 pub mod Needed
 pub mod StepExamples
