@@ -73,8 +73,8 @@ same-missed l f xs =
     absent-same f (memory l [] xs) (handedBy l xs) (same-elem l xs) (highest (memory l [] xs) - l - f)
     ∙ ap (λ (h : ℕ). absent f (handedBy l xs) (h - l - f)) (same-high l xs)
 
--- an index that lies above counts nothing
-pub absent-beyond : (f x n : ℕ) (hs : List ℕ) → f + n < x → absent f (x ∷ hs) n ≡ absent f hs n
+-- an index that lies above those counted changes nothing
+pub absent-beyond : (f x n : ℕ) (hs : List ℕ) → n ≤ x - suc f → absent f (x ∷ hs) n ≡ absent f hs n
 unfolding absent
 absent-beyond f x zero hs b = refl
 absent-beyond f x (suc n) hs b = rw (more (f + suc n) x hs, ne-eqb (f + suc n) x (omega arith), absent-beyond f x n hs (omega arith))

@@ -22,5 +22,6 @@ mod Wrap
 mod Handed
 mod Absent
 mod Linked
+mod Counting
 mod Follow
 mod Turns
