@@ -6,6 +6,8 @@ pub mod One
 pub mod Told
 pub mod Three
 pub mod After
+pub mod Lost
+pub mod Absent
 pub mod Parts
 pub mod Once
 pub mod Sums
@@ -20,7 +22,6 @@ mod Slot
 mod Gap
 mod Wrap
 mod Handed
-mod Absent
 mod Linked
 mod Counting
 mod Follow
