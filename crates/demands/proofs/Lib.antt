@@ -13,6 +13,7 @@ pub mod Once
 pub mod Sums
 pub mod Stepping
 pub mod Runs
+pub mod LostRuns
 pub mod StepRuns
 pub mod Wrong
 -- What they rest on.
