@@ -1,14 +1,13 @@
 -- What the receiver with unlimited memory remembers and what it handed up are the same indices, and what lies too far below
 -- the highest stays out of them. Assumes nothing.
 use Prim.Native.Nat.{ℕ, zero, suc, _+_, _-_, _≤_, _<_, max}
-use mathlib.Core.Path.{_≡_, refl, ap, ap₂, sym, _∙_}
-use mathlib.Core.Bool.{Bool, true, false, not, _||_, false≢true}
+use mathlib.Core.Path.{_≡_, refl, ap, sym, _∙_}
+use mathlib.Core.Bool.{Bool, true, false, _||_, false≢true}
 use mathlib.Core.List.{List, [], _∷_, _++_}
 use native.Mathlib.Omega.{arith}
 use lib.Dec.{eqb, ltb}
 use borrow.Author.Tests.{ltb-true, ne-eqb}
 use Rattle.record.specs.Words.{if_then_else_}
-use Rattle.stream.specs.History.{one}
 use Rattle.stream.specs.Decisions.{up, duplicate, rogue, isUp}
 use Rattle.demands.specs.Unlimited.{elem, highest, apart, judged, remembered, unlimited}
 use Rattle.demands.specs.Corollaries.{handedOf}

@@ -1,18 +1,18 @@
 -- How lost moves with one arrival: by the indices that are missed from then on. Assumes nothing.
 use Prim.Native.Nat.{ℕ, zero, suc, _+_, _-_, _%_, _^_, _≤_, _<_}
-use mathlib.Core.Path.{_≡_, refl, ap, ap₂, sym, _∙_}
+use mathlib.Core.Path.{_≡_, refl, ap, sym, _∙_}
 use mathlib.Core.Bool.{Bool, true, false, not, _&&_, _||_, false≢true}
 use mathlib.Core.List.{List, [], _∷_}
-use native.Mathlib.Nat.{mod-mod, mod-add-mod}
+use native.Mathlib.Nat.{mod-add-mod}
 use native.Mathlib.Omega.{arith}
 use native.Mathlib.Decide.{decLt}
 use lib.Dec.{eqb}
 use borrow.Author.Tests.{eq-eqb, ne-eqb}
-use Rattle.record.specs.Words.{if_then_else_, yes as holds}
+use Rattle.record.specs.Words.{yes as holds}
 use Rattle.record.specs.Sizes.{vectorRule, windowMost}
 use Rattle.stream.specs.History.{History, bit, one, leaving}
 use Rattle.stream.specs.Record.{Stream}
-use Rattle.stream.specs.Decisions.{late, next, isUp, rise, losses, tally, countsAfter, caseOf, verdictOf, stateAfter, decided}
+use Rattle.stream.specs.Decisions.{isUp, rise, losses, tally, countsAfter, caseOf, verdictOf, stateAfter, decided}
 use Rattle.stream.proofs.Changes.{kept}
 use Rattle.stream.proofs.Leaves.{leaving-last}
 use Rattle.demands.specs.Unlimited.{elem, highest, apart, judged, remembered, near}

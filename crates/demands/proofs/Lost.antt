@@ -1,17 +1,16 @@
--- What lost means: from take-any on, from an open on, and over runs of steps. Assumes nothing.
-use Prim.Native.Nat.{ℕ, _+_, _%_, _^_, _≤_, _<_}
+-- What lost means: from take-any on, and from an open on. Assumes nothing.
+use Prim.Native.Nat.{ℕ, _+_, _%_, _^_, _≤_}
 use mathlib.Core.Path.{_≡_, refl, ap, sym, _∙_}
 use mathlib.Core.Bool.{Bool, true, false, false≢true}
 use mathlib.Core.List.{List, [], _∷_, map, nil≢cons, cons≢nil, head-eq-of-cons-eq, tail-eq-of-cons-eq}
 use native.Mathlib.Omega.{arith}
-use lib.ListN.{length}
 use Rattle.record.specs.declared.Stream.{Stream}
 use Rattle.record.specs.Words.{yes}
 use Rattle.record.specs.Sizes.{windowLeast, windowMost, vectorRule}
 use Rattle.stream.specs.Record.{lawful}
 use Rattle.stream.specs.Decisions.{rise, decided, expires, ticked}
 use Rattle.stream.proofs.Logic.{tests}
-use Rattle.stream.proofs.Law.{Law, law, size}
+use Rattle.stream.proofs.Law.{law, size}
 use Rattle.calls.specs.Table.{Table, at}
 use Rattle.calls.specs.Calls.{Call, opening}
 use Rattle.demands.specs.Receiver.{Receiver, MeetsContract, theReceiver, run}
@@ -19,7 +18,7 @@ use Rattle.demands.specs.Seen.{Seen, arrived, tick, ended, nothing, last
 use Rattle.demands.specs.Unlimited.{judged, remembered, near, allNear}
 use Rattle.demands.specs.Demand3.{numberOf}
 use Rattle.demands.specs.Corollaries.{handedOf, Lasting}
-use Rattle.demands.specs.Lost.{missed, handedBy, FreshLost, OpenedLost}
+use Rattle.demands.specs.Lost.{missed, FreshLost, OpenedLost}
 use Rattle.demands.proofs.Alike.{carried}
 use Rattle.demands.proofs.Moves.{Trace}
 use Rattle.demands.proofs.Slot.{traced}

@@ -16,7 +16,7 @@ use Rattle.demands.specs.Unlimited.{apart, allNear}
 use Rattle.demands.specs.Demand3.{numberOf}
 use Rattle.demands.specs.Corollaries.{handedOf}
 use Rattle.demands.specs.Lost.{missed}
-use Rattle.demands.specs.Examples.{address, from, stream, start, gap, later, indices, alone}
+use Rattle.demands.specs.Examples.{address, from, stream, start, gap, later, alone}
 use Rattle.demands.specs.Needed.{All, AllBut}
 
 -- ---- runs of the stream in slot 0
