@@ -69,8 +69,7 @@ absent-same f hs is e (suc n) = rw (e (f + suc n), absent-same f hs is e n)
 
 pub same-missed : (l f : ℕ) (xs : List ℕ) → missed l f (memory l [] xs) ≡ missed l f (handedBy l xs)
 same-missed l f xs =
-    absent-same f (memory l [] xs) (handedBy l xs) (same-elem l xs) (highest (memory l [] xs) - l - f)
-    ∙ ap (λ (h : ℕ). absent f (handedBy l xs) (h - l - f)) (same-high l xs)
+    rw (same-high l xs) (absent-same _ (memory l [] xs) (handedBy l xs) (same-elem l xs) _)
 
 -- an index that lies above those counted changes nothing
 pub absent-beyond : (f x n : ℕ) (hs : List ℕ) → n ≤ x - suc f → absent f (x ∷ hs) n ≡ absent f hs n
