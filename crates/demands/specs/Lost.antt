@@ -4,7 +4,7 @@
 use Prim.Native.Nat.{ℕ, zero, suc, _+_, _-_, _%_, _^_, _≤_, _<_}
 use mathlib.Core.Path.{_≡_}
 use mathlib.Core.Bool.{true, false, not}
-use mathlib.Core.List.{List, _∷_, [], _++_}
+use mathlib.Core.List.{List, [], _∷_, _++_}
 use Rattle.refusal.specs.Checks.Said.{answers}
 use Rattle.record.specs.Words.{yes}
 use Rattle.record.specs.Sizes.{vectorRule}
@@ -24,12 +24,14 @@ unfoldable pub absent : (first : ℕ) (handed : List ℕ) (n : ℕ) → ℕ
 absent first hs zero = 0
 absent first hs (suc n) = one (not (elem (first + suc n) hs)) + absent first hs n
 
--- How many of those above the first and at most highest - L do not stand in it; none while highest - L is no higher than the first.
+-- How many of the indices above the first and at most highest - L do not stand in it. (`-` stops at 0, so none while highest - L
+-- is at most the first.)
 abbrev pub missed : (window first : ℕ) (handed : List ℕ) → ℕ
 missed window first hs = absent first hs (highest hs - window - first)
 
--- From take-any on, until its next reset or closing and under demand 3's two premises: a vector stream's lost has risen, modulo
--- 2^64, by that number of the indices that it handed up. The run `later` is any, so that is so after each arrival.
+-- From take-any on, until its next reset or closing and under demand 3's two premises: lost of a vector stream has risen, modulo
+-- 2^64, by the indices above the first and at most highest - L that the stream did not hand up. The run `later` may be any one,
+-- so this is so after each arrival.
 abbrev pub FreshLost : Receiver → Type 0
 FreshLost receive =
     (t : Table) (i : ℕ) (later : List Call) (first : ℕ) (rest : List ℕ)

@@ -42,7 +42,7 @@ lostAfter t later = at (run theReceiver t later) 0 .counts .lost
 abbrev pub lostSaid : Table → (later : List Call) (first : ℕ) (rest : List ℕ) → ℕ
 lostSaid t later first rest = rise (at t 0 .counts .lost) (missedIn t later first rest)
 
--- It asks for no more.
+-- Where these hold it is so: it asks for no more.
 abbrev pub LostPremisesAre : Type 0
 LostPremisesAre =
     (t : Table) (later : List Call) (first : ℕ) (rest : List ℕ)
