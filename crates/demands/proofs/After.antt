@@ -2,7 +2,7 @@
 use Prim.Native.Nat.{ℕ, suc}
 use mathlib.Core.Path.{_≡_, refl, sym, _∙_}
 use mathlib.Core.Bool.{Bool, true, false}
-use mathlib.Core.List.{[]}
+use mathlib.Core.List.{List, []}
 use native.Mathlib.Omega.{arith}
 use lib.Dec.{ltb}
 use lib.ListN.{length}
@@ -12,7 +12,7 @@ use Rattle.record.specs.declared.Stream.{Stream}
 use Rattle.record.specs.Words.{if_then_else_, yes}
 use Rattle.record.specs.Sizes.{slotsMost, vectorRule}
 use Rattle.frame.specs.Frame.{destOf}
-use Rattle.stream.specs.Record.{settled, opened}
+use Rattle.stream.specs.Record.{settled, lawful, opened}
 use Rattle.stream.specs.Decisions.{up, caseOf, verdict}
 use Rattle.stream.proofs.Law.{law}
 use Rattle.calls.specs.Table.{Table, at, search, someSlot, hasKey, isFree}
@@ -53,15 +53,30 @@ is-open t s i e = go (ltb slotsMost (length t)) refl (settled s) refl (someSlot 
     go false q true r false u false w = let z : refused FULL ≡ answers (placed i) = rw (q, r, u, w) at e in cc
     go false q true r false u true w = rw (q, r, u, w) (let z : answers (placed (search isFree t)) ≡ answers (placed i) = rw (q, r, u, w) at e in cc)
 
-opened-so : OpenedDecides theReceiver
+-- What an open that is answered with slot i left there: a lawful record, with what was asked for and nothing counted.
+pub record Begun (u : Table) (i l : ℕ) : Type 0 where
+  pub lawful : lawful (at u i) ≡ true
+  pub window : at u i .window ≡ l
+  pub any : yes (at u i .state .any) ≡ true
+  pub rule : at u i .rule ≡ vectorRule
+  pub lost : at u i .counts .lost ≡ 0
+
+pub begun : (t : Table) (dest : List ℕ) (vlan window time i : ℕ)
+    → theReceiver t (opening dest vlan vectorRule window time) .said ≡ answers (placed i)
+    → Begun (theReceiver t (opening dest vlan vectorRule window time) .table) i window
 unfolding theReceiver act checked after yes
-opened-so t dest vlan window time i later indices e p =
+begun t dest vlan window time i e =
     let c = opening dest vlan vectorRule window time in
     let s = opened (destOf dest) vlan vectorRule window time in
     let o = is-open t s i e in
-    let l = open-lawful t c i s o in
     let z : at (after t (act t c)) i ≡ s = rw o (at-set t i s (open-takes-free t c i s o .0)) in
-    from-fresh window (after t (act t c)) i later indices (inside (after t (act t c)) i l) (law l) (rw z refl) (rw z refl) (rw z refl) p
+    record { lawful = open-lawful t c i s o; window = rw z refl; any = rw z refl; rule = rw z refl; lost = rw z refl }
+
+opened-so : OpenedDecides theReceiver
+opened-so t dest vlan window time i later indices e p =
+    let u : Table = theReceiver t (opening dest vlan vectorRule window time) .table in
+    let b = begun t dest vlan window time i e in
+    from-fresh window u i later indices (inside u i (b .lawful)) (law (b .lawful)) (b .window) (b .any) (b .rule) p
 
 pub opened-decides : {receive : Receiver} → MeetsContract receive → OpenedDecides receive
 opened-decides m = carried OpenedDecides opened-so m

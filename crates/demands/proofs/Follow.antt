@@ -55,7 +55,7 @@ reset-seen s = go (expires s) refl (lawful s) refl (yes (s .state .any)) refl
     go false e false q false z = rw (e, q, z)
 
 -- A tick that resets nothing keeps the two side by side.
-on-tick : (l : ℕ) (s : Stream) (hs : List ℕ) → Kept l s hs → expires s ≡ false → Kept l (ticked s) hs
+pub on-tick : (l : ℕ) (s : Stream) (hs : List ℕ) → Kept l s hs → expires s ≡ false → Kept l (ticked s) hs
 unfolding ticked
 on-tick l s hs k e = go (lawful s) refl
   where

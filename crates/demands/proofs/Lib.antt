@@ -6,11 +6,14 @@ pub mod One
 pub mod Told
 pub mod Three
 pub mod After
+pub mod Lost
+pub mod Absent
 pub mod Parts
 pub mod Once
 pub mod Sums
 pub mod Stepping
 pub mod Runs
+pub mod LostRuns
 pub mod StepRuns
 pub mod Wrong
 -- What they rest on.
@@ -21,5 +24,6 @@ mod Gap
 mod Wrap
 mod Handed
 mod Linked
+mod Counting
 mod Follow
 mod Turns

@@ -94,11 +94,14 @@ module _ (l : ℕ) (s : Stream) (rule : s .rule ≡ vectorRule) (window : s .win
       seen = λ y k q c. rw (window, more y x (h ∷ hs)) (next-seen x d e a b y k (omega (arith, top x (h ∷ hs))) c);
     }
 
+    pub next-case : (x d : ℕ) → x ≡ highest (h ∷ hs) + d → 0 < d → d < l → caseOf s (x % 65536) ≡ next d
+    unfolding vectorCase
+    next-case x d e a b = vector (x % 65536) ∙ rw (e, forward (highest (h ∷ hs)) d a (omega arith), lt-ltb d l b)
+
     on-next : (x d : ℕ) → x ≡ highest (h ∷ hs) + d → 0 < d → d < l → Step l s (h ∷ hs) x
-    unfolding judged remembered vectorCase apart
+    unfolding judged remembered apart
     on-next x d e a b =
-        let c : caseOf s (x % 65536) ≡ next d =
-        vector (x % 65536) ∙ rw (e, forward (highest (h ∷ hs)) d a (omega arith), lt-ltb d l b) in
+        let c = next-case x d e a b in
         let n : elem x (h ∷ hs) ≡ false = above x (h ∷ hs) (omega arith) in
         let i : ltb (apart x (highest (h ∷ hs))) l ≡ true = lt-ltb (apart x (highest (h ∷ hs))) l (omega arith) in
         record { same = rw (c, i, n); keeps = rw (c, i, n) (next-linked x d e a b) }
@@ -116,6 +119,10 @@ module _ (l : ℕ) (s : Stream) (rule : s .rule ≡ vectorRule) (window : s .win
           ∙ rw (eqb-same j k y x (omega arith), linked .seen y j r c, more y x (h ∷ hs));
     }
 
+    pub late-case : (x k : ℕ) → highest (h ∷ hs) ≡ x + k → k < l → bit k (s .state .history) ≡ false → caseOf s (x % 65536) ≡ late k
+    unfolding vectorCase
+    late-case x k e b z = vector (x % 65536) ∙ rw (e, backward x k (omega arith), lt-ltb k l b, z)
+
     on-back : (x k : ℕ) → highest (h ∷ hs) ≡ x + k → k < l → Step l s (h ∷ hs) x
     unfolding judged remembered vectorCase apart stateAfter
     on-back x k e b = go (bit k (s .state .history)) refl
@@ -129,7 +136,7 @@ module _ (l : ℕ) (s : Stream) (rule : s .rule ≡ vectorRule) (window : s .win
             let n : elem x (h ∷ hs) ≡ true = sym (linked .seen x k (sym e) b) ∙ z in
             record { same = rw (c, i, n); keeps = rw (c, i, n) linked }
         go false z =
-            let c : caseOf s (x % 65536) ≡ late k = vector (x % 65536) ∙ rw (e, backward x k (omega arith), lt-ltb k l b, z) in
+            let c = late-case x k e b z in
             let n : elem x (h ∷ hs) ≡ false = sym (linked .seen x k (sym e) b) ∙ z in
             record { same = rw (c, i, n); keeps = rw (c, i, n) (late-linked x k e b z) }
 

@@ -12,7 +12,7 @@ use Rattle.demands.specs.Corollaries.{handedOf, distinct}
 use Rattle.demands.proofs.Handed.{more}
 
 -- What is handed up was not handed up before.
-new : (l : ℕ) (hs : List ℕ) (x : ℕ) → isUp (judged l hs x) ≡ true → elem x hs ≡ false
+pub new : (l : ℕ) (hs : List ℕ) (x : ℕ) → isUp (judged l hs x) ≡ true → elem x hs ≡ false
 unfolding judged elem
 new l [] x e = refl
 new l (h ∷ hs) x e = go (ltb (apart x (highest (h ∷ hs))) l) (elem x (h ∷ hs)) e

@@ -1,4 +1,4 @@
--- A run of steps is the calls that it is read as: demands 1 and 3 of it. Assumes nothing.
+-- A run of steps is the calls that it is read as: demands 1 and 3 of it, and what lost means. Assumes nothing.
 use Prim.Native.Nat.{ℕ}
 use mathlib.Core.Path.{_≡_, refl, ap, sym, _∙_, subst}
 use mathlib.Core.List.{List, [], _∷_, _++_}
@@ -6,7 +6,8 @@ use native.Mathlib.Omega.{arith}
 use Rattle.refusal.specs.Checks.{Said}
 use Rattle.refusal.specs.Checks.Said.{refused, answers}
 use Rattle.frame.specs.Bytes.{overlay}
-use Rattle.calls.specs.Table.{Table}
+use Rattle.stream.specs.Decisions.{rise}
+use Rattle.calls.specs.Table.{Table, at}
 use Rattle.calls.specs.Calls.{Call}
 use Rattle.calls.proofs.Kept.{coincide}
 use Rattle.batch.specs.Batch.{Batch, Turn, comesTo, turnsOf, reached, bundle, batchOf}
@@ -14,10 +15,13 @@ use Rattle.batch.proofs.Refusing.{refused-exactly, refused-changes-nothing}
 use Rattle.batch.proofs.Turns.{turnsBy, answers-are}
 use Rattle.demands.specs.Receiver.{theReceiver, run, Throughout}
 use Rattle.demands.specs.Seen.{Seen, seen, log, verdicts}
+use Rattle.demands.specs.Corollaries.{handedOf}
+use Rattle.demands.specs.Lost.{missed, FreshLostSteps}
 use Rattle.demands.specs.Steps.{Step, single, batch, Machine, MeetsAll, theMachine, tableOf, ranSteps, callsOf, readAs, StepsAreCalls, AsCalls, BatchesAreCalls, RefusesStep, EachStep, Demand1Steps, seenIn, seenOfStep, logSteps, SeenAsCalls, Demand3Steps, Got, result, told, leftBy, EnsuredStep, EnsuredSteps, given, givenAll, StepsCoincide}
 use Rattle.demands.proofs.Alike.{alike, the-receiver-meets}
 use Rattle.demands.proofs.One.{demand-1}
 use Rattle.demands.proofs.Three.{demand-3}
+use Rattle.demands.proofs.Lost.{fresh-lost}
 use Rattle.demands.proofs.Turns.{callsIn, same-results, same-table, same-seen, answers-results, packed-results, table-is, output-is}
 
 -- ---- a machine that meets the documents is the definitions'
@@ -115,6 +119,14 @@ three t i gap later indices p =
     ∙ ap (λ (v : Table). verdicts (log theReceiver i v (readAs theMachine u later))) (steps t gap)
     ∙ demand-3 the-receiver-meets t i (readAs theMachine t gap) (readAs theMachine u later) indices p
 
+lost-steps : FreshLostSteps theMachine
+unfolding theMachine
+lost-steps t i later first rest w a v p =
+    ap (λ (u : Table). at u i .counts .lost) (steps t later)
+    ∙ fresh-lost the-receiver-meets t i (readAs theMachine t later) first rest w a v p
+    ∙ ap (λ (es : List Seen). rise (at t i .counts .lost) (missed (at t i .window) first (handedOf (verdicts es) (first ∷ rest))))
+    (sym (seen-steps t i later))
+
 -- ---- of every machine that meets the documents
 
 pub steps-are-calls : {m : Machine} → MeetsAll m → StepsAreCalls m
@@ -131,6 +143,9 @@ demand-1-steps k = carried Demand1Steps (each theMachine (RefusesStep theMachine
 
 pub demand-3-steps : {m : Machine} → MeetsAll m → Demand3Steps m
 demand-3-steps k = carried Demand3Steps three k
+
+pub fresh-lost-steps : {m : Machine} → MeetsAll m → FreshLostSteps m
+fresh-lost-steps k = carried FreshLostSteps lost-steps k
 
 -- ---- what a program gets
 

@@ -8,8 +8,11 @@ use Rattle.demands.proofs.One.{demand-1, demand-1-tags}
 use Rattle.demands.proofs.Told.{arrivals-recovered}
 use Rattle.demands.proofs.Three.{demand-3, fresh-decides}
 use Rattle.demands.proofs.After.{never-twice, unlimited-never-twice, opened-decides, restart-gets-through, counts-once, resets-seen}
-use Rattle.demands.proofs.Stepping.{the-machine-meets, steps-are-calls, batches-are-calls, seen-as-calls, demand-1-steps, demand-3-steps, steps-coincide}
+use Rattle.demands.proofs.Absent.{lost-for-good}
+use Rattle.demands.proofs.Lost.{fresh-lost, opened-lost}
+use Rattle.demands.proofs.Stepping.{the-machine-meets, steps-are-calls, batches-are-calls, seen-as-calls, demand-1-steps, demand-3-steps, fresh-lost-steps, steps-coincide}
 use Rattle.demands.proofs.Runs.{wrap-meets, bound-reached, premises-are, bound-sharp, premises-needed}
+use Rattle.demands.proofs.LostRuns.{lost-shown, lost-premises-are, lost-premises-needed}
 use Rattle.demands.proofs.StepRuns.{wrap-in-one}
 use Rattle.demands.proofs.Wrong.{right-otherwise, ruled-out}
 
@@ -25,6 +28,8 @@ demands m = record {
   restart-gets-through = restart-gets-through m;
   counts-once = counts-once m;
   resets-seen = resets-seen m;
+  fresh-lost = fresh-lost m;
+  opened-lost = opened-lost m;
 }
 
 pub step-demands : {m : Machine} → MeetsAll m → StepDemands m
@@ -34,6 +39,7 @@ step-demands k = record {
   steps-are-calls = steps-are-calls k;
   batches-are-calls = batches-are-calls k;
   seen-as-calls = seen-as-calls k;
+  fresh-lost-steps = fresh-lost-steps k;
 }
 
 pub theorems : Theorems
@@ -48,6 +54,7 @@ theorems = record {
   tags-1 = λ tagger m. demand-1-tags m;
   tags-2 = λ tagger m. m;
   unlimited-never-twice = unlimited-never-twice;
+  lost-for-good = lost-for-good;
   ruled-out = ruled-out;
   right-otherwise = right-otherwise;
   wrap-meets = wrap-meets;
@@ -56,4 +63,7 @@ theorems = record {
   premises-are = premises-are;
   bound-sharp = bound-sharp;
   premises-needed = premises-needed;
+  lost-shown = lost-shown;
+  lost-premises-are = lost-premises-are;
+  lost-premises-needed = lost-premises-needed;
 }

@@ -8,7 +8,9 @@ pub mod Unlimited
 pub mod Demand3
 pub mod Steps
 pub mod Corollaries
+pub mod Lost
 pub mod Examples
 pub mod Needed
+pub mod LostRuns
 pub mod StepExamples
 pub mod Theorems

@@ -9,9 +9,11 @@ use Rattle.demands.specs.Seen.{ResetsSeen}
 use Rattle.demands.specs.Demand3.{Demand3}
 use Rattle.demands.specs.Steps.{Machine, MeetsAll, theMachine, StepsAreCalls, BatchesAreCalls, SeenAsCalls, Demand1Steps, Demand3Steps, StepsCoincide}
 use Rattle.demands.specs.Corollaries.{NeverTwice, UnlimitedNeverTwice, FreshDecides, OpenedDecides, RestartGetsThrough, CountsOnce}
+use Rattle.demands.specs.Lost.{FreshLost, OpenedLost, FreshLostSteps, LostForGood}
 use Rattle.demands.specs.Wrong.{RightOtherwise, RuledOut}
 use Rattle.demands.specs.Examples.{WrapMeets}
 use Rattle.demands.specs.Needed.{BoundReached, PremisesAre, BoundSharp, PremisesNeeded}
+use Rattle.demands.specs.LostRuns.{LostShown, LostPremisesAre, LostPremisesNeeded}
 use Rattle.demands.specs.StepExamples.{WrapInOne}
 
 -- Of a receiver.
@@ -26,15 +28,18 @@ pub record Demands (receive : Receiver) : Type 0 where
   pub restart-gets-through : RestartGetsThrough receive
   pub counts-once : CountsOnce receive
   pub resets-seen : ResetsSeen receive
+  pub fresh-lost : FreshLost receive
+  pub opened-lost : OpenedLost receive
 
--- Of a receiver with the batch beside it: demands 1 and 3 of steps that are single calls and batches, and that these are read
--- as the calls that they are.
+-- Of a receiver with the batch beside it: demands 1 and 3 of steps that are single calls and batches, what lost means there, and
+-- that these are read as the calls that they are.
 pub record StepDemands (m : Machine) : Type 0 where
   pub demand-1-steps : Demand1Steps m
   pub demand-3-steps : Demand3Steps m
   pub steps-are-calls : StepsAreCalls m
   pub batches-are-calls : BatchesAreCalls m
   pub seen-as-calls : SeenAsCalls m
+  pub fresh-lost-steps : FreshLostSteps m
 
 pub record Theorems : Type 2 where
   -- Every receiver that meets the contract fulfils the demands,
@@ -53,6 +58,8 @@ pub record Theorems : Type 2 where
   pub tags-2 : (tagger : Tagger) → MeetsTags tagger → Demand2Tags tagger
   -- The receiver with unlimited memory hands no index up twice.
   pub unlimited-never-twice : UnlimitedNeverTwice
+  -- An index that counts as lost is not handed up later.
+  pub lost-for-good : LostForGood
   -- The wrong receivers of document 01 fail, and those that are made by `deciding` are wrong in nothing else.
   pub ruled-out : RuledOut
   pub right-otherwise : RightOtherwise
@@ -64,3 +71,7 @@ pub record Theorems : Type 2 where
   pub premises-are : PremisesAre
   pub bound-sharp : BoundSharp
   pub premises-needed : PremisesNeeded
+  -- What lost means is so of runs that pin it from both sides, and each of its premises is needed.
+  pub lost-shown : LostShown
+  pub lost-premises-are : LostPremisesAre
+  pub lost-premises-needed : LostPremisesNeeded

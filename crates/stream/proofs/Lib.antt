@@ -8,6 +8,7 @@ pub mod Keeps
 pub mod Changes
 pub mod Steps
 pub mod Wrap
+pub mod Leaves
 -- What the proofs of the functions rest on.
 mod Bits
 mod Digits
