@@ -47,7 +47,6 @@ static u64 number(int bytes) {
     return x;
 }
 
-/* Field by field: what stands in the padding is nobody's. */
 static int same(const stream *a, const stream *b) {
     return a->dest == b->dest && a->vlan == b->vlan && a->window == b->window && a->time == b->time && a->rule == b->rule
         && a->used == b->used && a->state.history == b->state.history && a->state.anchor == b->state.anchor

@@ -194,7 +194,7 @@ fn record(dice: &mut Dice) -> Stream {
             anchor: 65535,
             remaining: 0,
             early: 0,
-            any: 1 + dice.below(255) as u8,
+            any: 1 + dice.below(65535) as u16,
         };
     }
     if dice.one_in(20) {
@@ -207,7 +207,7 @@ fn record(dice: &mut Dice) -> Stream {
         2 => s.window = dice.next() as u16,
         3 => s.time = dice.below(3) as u16,
         4 => s.vlan = dice.next() as u16,
-        5 => s.state.any = dice.below(3) as u8,
+        5 => s.state.any = dice.below(3) as u16 * 128,
         6 => s.state.remaining = dice.below(2) as u16,
         7 => s.state.history = dice.next(),
         8 => s.window = 65,

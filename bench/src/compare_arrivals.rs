@@ -161,7 +161,7 @@ pub fn stir(dice: &mut Dice, t: &mut Tables) {
         1 => s.rule = dice.below(4) as u8,
         2 => s.window = dice.next() as u8,
         3 => s.reset_time = dice.below(3) as u16,
-        4 => s.take_any = dice.below(3) as u8,
+        4 => s.take_any = dice.below(3) as u16 * 128,
         5 => s.remaining = dice.below(4) as u16,
         6 => s.history = dice.next(),
         7 => s.anchor = dice.next() as u16,

@@ -93,10 +93,9 @@ enum nippitsun_refusal {
 /* ---- the stream record
  *
  * A table is an array of these, made and kept by the caller. All bytes zero is a table of free slots. The fields may be read
- * between two calls; a caller who writes to them may damage a record, which a call then refuses or a tick then counts. The
- * byte behind `any` belongs to no field, and a call that is not refused may leave anything there: compare records field by
- * field. A record has 96 bytes; where each field stands is asserted at the end of this file. In 0.5.0 `any` has moved: a record
- * that was kept from an earlier version is not to be lent. */
+ * between two calls; a caller who writes to them may damage a record, which a call then refuses or a tick then counts. A
+ * record has 96 bytes, and each of them belongs to a field; where each field stands is asserted at the end of this file. In
+ * 0.5.0 `any` has moved and has two bytes: a record that was kept from an earlier version is not to be lent. */
 
 /* What an arrival and a tick change. */
 typedef struct nippitsun_state {
@@ -106,7 +105,7 @@ typedef struct nippitsun_state {
     uint16_t early;     /* so many places of the window still stand for numbers older than the first that was handed up since
                            the open or the reset: L - 1 after that first, one less with each place that the window moves,
                            then 0. They leave without being counted as lost. 0 in a fresh record and with the match rule */
-    uint8_t any;        /* take-any: 0 is no, every other value is yes; calls write 0 and 1 */
+    uint16_t any;       /* take-any: 0 is no, every other value is yes; calls write 0 and 1 */
 } nippitsun_state;
 
 /* The counters. They wrap to zero after 2^64 - 1. */
@@ -250,7 +249,7 @@ NIPPITSUN_FIELD(nippitsun_state, history, 0, 8);
 NIPPITSUN_FIELD(nippitsun_state, anchor, 8, 2);
 NIPPITSUN_FIELD(nippitsun_state, remaining, 10, 2);
 NIPPITSUN_FIELD(nippitsun_state, early, 12, 2);
-NIPPITSUN_FIELD(nippitsun_state, any, 14, 1);
+NIPPITSUN_FIELD(nippitsun_state, any, 14, 2);
 
 NIPPITSUN_TYPE(nippitsun_counts, 64);
 NIPPITSUN_FIELD(nippitsun_counts, arrivals0, 0, 8);

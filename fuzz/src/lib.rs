@@ -53,7 +53,7 @@ fn from_bytes(b: &[u8; RECORD]) -> Stream {
             anchor: two(24),
             remaining: two(26),
             early: two(28),
-            any: b[30],
+            any: two(30),
         },
         counts: Counts {
             arrivals0: eight(32),

@@ -28,7 +28,7 @@ pub struct Stream {
     /// Bit k stands for the number anchor - k.
     pub history: u64,
     /// 0 is no, every other value is yes.
-    pub take_any: u8,
+    pub take_any: u16,
     /// Ticks left until the stream is reset.
     pub remaining: u16,
     /// n of order 4: the places left for numbers older than the first one

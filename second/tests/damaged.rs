@@ -270,10 +270,10 @@ fn lawful_records_at_the_edges() {
 
 #[test]
 fn every_flag_value_but_0_is_yes() {
-    for flag in [1, 2, 127, 128, 255] {
+    for (flag, any) in [(1, 1), (2, 2), (127, 128), (128, 256), (255, 65535)] {
         let record = Stream {
             in_use: flag,
-            take_any: flag,
+            take_any: any,
             ..fresh(Stream::VECTOR, 4, 3)
         };
         assert!(record.is_lawful());

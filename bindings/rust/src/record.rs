@@ -17,7 +17,7 @@ pub struct State {
     /// as lost. 0 in a fresh record and with the match rule.
     pub early: u16,
     /// Take-any: 0 is no, every other value is yes.
-    pub any: u8,
+    pub any: u16,
 }
 
 /// The counters of a stream. They wrap to zero after 2^64 - 1.
@@ -106,8 +106,8 @@ impl Stream {
     /// The match rule.
     pub const MATCH_RULE: u8 = 2;
 
-    /// The record's bytes as they lie in memory, low byte first, its padding zero: for a file, or for another program. In 0.5.0
-    /// `any` has moved: bytes that were kept from an earlier version are no record any more.
+    /// The record's bytes as they lie in memory, low byte first: for a file, or for another program. In 0.5.0 `any` has moved
+    /// and has two bytes: bytes that were kept from an earlier version are no record any more.
     pub fn to_bytes(&self) -> [u8; size_of::<Stream>()] {
         let state = &self.state;
         let mut bytes = Vec::with_capacity(size_of::<Stream>());
@@ -117,10 +117,9 @@ impl Stream {
         }
         bytes.extend_from_slice(&[self.rule, self.used]);
         bytes.extend_from_slice(&state.history.to_le_bytes());
-        bytes.extend_from_slice(&state.anchor.to_le_bytes());
-        bytes.extend_from_slice(&state.remaining.to_le_bytes());
-        bytes.extend_from_slice(&state.early.to_le_bytes());
-        bytes.extend_from_slice(&[state.any, 0]);
+        for field in [state.anchor, state.remaining, state.early, state.any] {
+            bytes.extend_from_slice(&field.to_le_bytes());
+        }
         for counter in self.counts.all() {
             bytes.extend_from_slice(&counter.to_le_bytes());
         }

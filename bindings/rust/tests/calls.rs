@@ -28,7 +28,7 @@ const DISTINCT: Stream = Stream {
         anchor: 0x292A,
         remaining: 0x2B2C,
         early: 0x2D2E,
-        any: 0x2F,
+        any: 0x2F30,
     },
     counts: Counts {
         arrivals0: 0x3132333435363738,
@@ -411,6 +411,6 @@ fn a_record_as_bytes() {
         bytes[8..16],
         [0x12, 0x11, 0x14, 0x13, 0x16, 0x15, 0x17, 0x18]
     );
-    assert_eq!(bytes[24..32], [0x2A, 0x29, 0x2C, 0x2B, 0x2E, 0x2D, 0x2F, 0]);
+    assert_eq!(bytes[24..32], [0x2A, 0x29, 0x2C, 0x2B, 0x2E, 0x2D, 0x30, 0x2F]);
     assert_eq!(bytes[88..], 0xA1A2A3A4A5A6A7A8u64.to_le_bytes());
 }

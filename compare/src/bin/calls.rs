@@ -116,7 +116,7 @@ fn lawful(random: &mut Random) -> Stream {
             anchor: 65535,
             remaining: 0,
             early: 0,
-            any: 1 + random.below(2) as u8 * 254,
+            any: random.pick(&[1, 1, 255, 256, 65535]),
         }
     } else {
         let bits = random.bits()
@@ -213,7 +213,7 @@ fn damaged(random: &mut Random) -> Stream {
                 anchor: random.word(),
                 remaining: random.word(),
                 early: random.word(),
-                any: random.byte(),
+                any: random.word(),
             };
             s.window = random.word();
             s.time = random.word();

@@ -1010,10 +1010,10 @@ impl<S: Side> List<S> {
             ("lawful: match", matching),
             ("lawful: fresh", fresh()),
             (
-                "lawful: in use 2, take-any 255",
+                "lawful: in use 2, take-any 256",
                 Stream {
                     used: 2,
-                    ..fresh_state(|s| s.any = 255)
+                    ..fresh_state(|s| s.any = 256)
                 },
             ),
             (

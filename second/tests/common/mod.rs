@@ -140,7 +140,7 @@ pub fn any_stream(random: &mut Random, destinations: &[[u8; 6]], vlans: &[u16]) 
         resets: any_counter(random),
         ..fresh(rule, window, reset_time)
     };
-    stream.take_any = random.pick(&[1, 2, 255]);
+    stream.take_any = random.pick(&[1, 2, 255, 256, 65535]);
     if random.chance(2, 3) {
         stream.take_any = 0;
         stream.anchor = random.pick(&[0, 1, 2, 65534, 65535, 32767, 32768, 7]);
@@ -160,7 +160,7 @@ pub fn any_stream(random: &mut Random, destinations: &[[u8; 6]], vlans: &[u16]) 
         match random.below(6) {
             0 => stream.anchor = random.word(),
             1 => stream.history ^= 1 << random.below(64),
-            2 => stream.take_any = random.pick(&[0, 1, 9]),
+            2 => stream.take_any = random.pick(&[0, 1, 9, 256]),
             3 => stream.remaining = random.pick(&[0, 1, 2, 3, 4, 65535]),
             4 => stream.early = random.pick(&[1, 2, window.into(), 63, 64, 65535]),
             _ => stream.vlan = random.pick(&[4094, 4095, 4096, 65535]),
