@@ -9,6 +9,7 @@ use Rattle.record.specs.Sizes.{windowLeast, windowMost, timeLeast, timeMost, vl
 use Rattle.stream.specs.History.{History, empty, isEmpty, bit, within}
 use Rattle.stream.specs.Record.{State, Stream, anchorFresh, isFresh, settled, placed, shaped, lawful}
 use Rattle.stream.specs.Steps.{plain, right}
+use Rattle.stream.specs.Laws.{Halves}
 use Rattle.stream.proofs.Logic.{tests}
 use Rattle.stream.proofs.Flags.{is-no}
 use Rattle.stream.proofs.Past.{is-empty, empty-bit}
@@ -93,7 +94,7 @@ fresh-half p true y false f = and-false p
 fresh-half p false y true f = ap (λ (b : Bool). p && b) (and-false (y && true && true)) ∙ and-false p
 fresh-half p false y false f = and-false p
 
-pub halves : (s : Stream) → lawful s ≡ (plain s && right (s .rule) (s .window) (s .state .any) (s .state .early) (s .state .history))
+pub halves : Halves
 unfolding lawful plain right shaped isFresh
 halves s =
     go (yes (s .used) && settled s && leb (s .state .remaining) (s .time)) (eqb (s .state .remaining) 0) (yes (s .state .any))

@@ -1,4 +1,4 @@
--- Document 01, "Decisions": the decision on one record, and what a tick does to one. Assumes nothing.
+-- Document 01, "Decisions", with document 02, order 4: the decision on one record, and what a tick does to one. Assumes nothing.
 use Prim.Native.Nat.{ℕ, _+_, _-_, _%_, _^_}
 use mathlib.Core.Bool.{Bool, true, false, _&&_, not}
 use lib.Dec.{eqb, ltb}
@@ -83,8 +83,8 @@ isRogue rogue = true
 abbrev pub handedUp : Stream → (anchor n : ℕ) → History → State
 handedUp s anchor n history = record { history = history; anchor = anchor; remaining = s .time; early = n; any = 0 }
 
--- The state after each case: a discard of either kind leaves it. Of the places for older numbers there are L - 1 once a vector
--- record has its first, and one less with each place that the history moves.
+-- The state after each case: a discard of either kind leaves it. n, the places left for older numbers, is L - 1 when take-any
+-- ends in a vector record, one less with each place that the history moves up until it is 0, and stays in all else.
 unfoldable pub stateAfter : Stream → (number : ℕ) → Case → State
 stateAfter s number first =
     handedUp s number (if eqb (s .rule) vectorRule then s .window - 1 else 0) (if eqb (s .rule) vectorRule then single else empty)
@@ -103,7 +103,7 @@ outOfOrder (late k) = true
 outOfOrder (next d) = not (eqb d 1)
 outOfOrder (moved inOrder) = not inOrder
 
--- Each zero bit that leaves at place L-1, and whose number comes after the first since the reset, adds 1 to lost.
+-- Each zero bit that leaves at place L-1 adds 1 to lost, if its number comes after the first one handed up since the reset.
 unfoldable pub losses : Stream → Case → ℕ
 losses s first = 0
 losses s far = 0

@@ -1,5 +1,5 @@
--- Document 01, "The stream record": the history, whose bit k stands for the number anchor - k. This file alone knows how
--- a history is held; every other file goes through these names. Assumes nothing.
+-- Document 01, "The stream record", with document 02, order 4: the history, whose bit k stands for the number anchor - k. This
+-- file alone knows how a history is held; every other file goes through these names. Assumes nothing.
 use Prim.Native.Nat.{ℕ, zero, suc, _+_, _-_, _*_, _/_, _%_, _^_}
 use mathlib.Core.Bool.{Bool, not, _&&_}
 use lib.Dec.{eqb, ltb}
@@ -48,7 +48,8 @@ unfoldable pub pushes : (window d : ℕ) (history : History) → History
 pushes window zero history = history
 pushes window (suc d) history = pushes window d (push window history)
 
--- how many zero bits leave at place L - 1 on the way and count: not the first n, which stand for numbers older than the first
+-- how many zero bits leave at place L - 1 on the way and count. Where n places are left for numbers older than the first one
+-- handed up since the reset, these leave first, one with each place up, and do not count.
 unfoldable pub leaving : (window d n : ℕ) (history : History) → ℕ
 leaving window zero n history = 0
 leaving window (suc d) n history =

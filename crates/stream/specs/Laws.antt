@@ -11,7 +11,7 @@ use Rattle.record.specs.Sizes.{vectorRule, matchRule}
 use Rattle.stream.specs.History.{empty, single}
 use Rattle.stream.specs.Record.{Counts, Stream, settled, lawful, opened}
 use Rattle.stream.specs.Decisions.{behind, difference, asInt, up, duplicate, rogue, isUp, rise, with, verdict, decided, reset, ticked}
-use Rattle.stream.specs.Steps.{Damaged, weighed, said, recordAfter}
+use Rattle.stream.specs.Steps.{plain, right, Damaged, weighed, said, recordAfter}
 use Rattle.stream.specs.WrapRun.{four, held}
 
 -- "The difference is taken modulo 65536 and read as signed, from -32768 to 32767": it is in that range, it is congruent to
@@ -38,6 +38,10 @@ DifferenceOnly =
 -- "Counters may hold anything."
 abbrev pub LawfulWithoutCounters : Type 0
 LawfulWithoutCounters = (s : Stream) (c : Counts) → lawful (with s (s .state) c) ≡ lawful s
+
+-- The two halves that the code asks for, one after the other, are `lawful`.
+abbrev pub Halves : Type 0
+Halves = (s : Stream) → lawful s ≡ (plain s && right (s .rule) (s .window) (s .state .any) (s .state .early) (s .state .history))
 
 -- The decision, a tick and a reset leave a lawful record lawful. A reset mends a damaged record whose settings are within
 -- the sizes, and what an open fills a slot with is lawful under the same condition.

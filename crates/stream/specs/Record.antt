@@ -1,4 +1,5 @@
--- Document 01, "The stream record": the fresh state, and when a record is lawful or damaged. Assumes nothing.
+-- Document 01, "The stream record", with document 02, order 4: the fresh state, and when a record is lawful or damaged. The
+-- field `early` is order 4's n, the places left for numbers older than the first one handed up since the reset. Assumes nothing.
 use Prim.Native.Nat.{ℕ, _-_}
 use mathlib.Core.Bool.{Bool, _&&_, _||_, not, Bool·beq}
 use lib.Dec.{eqb, leb}
@@ -9,7 +10,7 @@ use Rattle.record.specs.Words.{if_then_else_, yes}
 use Rattle.record.specs.Sizes.{windowLeast, windowMost, timeLeast, timeMost, vlanMost, vectorRule, matchRule}
 use Rattle.stream.specs.History.{History, empty, isEmpty, bit, within}
 
--- The fresh state is anchor 65535, history zero, take-any, remaining 0, and no place left for older numbers.
+-- The fresh state is anchor 65535, history zero, take-any, remaining 0, and n is 0.
 abbrev pub anchorFresh : ℕ
 anchorFresh = 65535
 
@@ -35,12 +36,13 @@ shaped rule window t =
     else if eqb rule vectorRule then bit 0 (t .history) && within window (t .history)
     else isEmpty (t .history)
 
--- n, the places left for numbers older than the first, is at most L - 1; with n above 0 the first stands at place L - 1 - n.
+-- "Lawful asks for n at most L - 1 and, with n above 0, bit L - 1 - n set": the first stands there, next to the places for older
+-- numbers. (A history that is zero has no bit, so n is 0 in a match record.)
 unfoldable pub placed : (window n : ℕ) → History → Bool
 placed window n history = leb n (window - 1) && (eqb n 0 || bit (window - 1 - n) history)
 
 -- A record in use is lawful when its settings are within the sizes, remaining is at most R, and remaining is 0 exactly if
--- take-any holds; and its state is placed and shaped as above. Counters may hold anything.
+-- take-any holds; and n is placed and its state shaped as above. Counters may hold anything.
 unfoldable pub lawful : Stream → Bool
 lawful s =
     yes (s .used)

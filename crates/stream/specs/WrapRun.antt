@@ -1,5 +1,5 @@
--- Document 01, "A run at the wrap": steps a to i, the totals at the end, and j to l, as one list with one statement.
--- Assumes nothing.
+-- Document 01, "A run at the wrap": steps a to i, the totals at the end, and j to l, as one list with one statement. By document
+-- 02, order 4, "lost is 0 throughout"; every other column is document 01's. Assumes nothing.
 use Prim.Native.Nat.{ℕ, _+_, _*_}
 use mathlib.Core.Path.{_≡_}
 use mathlib.Core.List.{List, [], _∷_, _++_}
