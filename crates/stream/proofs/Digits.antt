@@ -1,17 +1,16 @@
--- The history's word, as the code handles it: one bit, one place up, the bits above a window. Assumes nothing.
+-- The history's word, as the code handles it: one bit, and the bits above a window. Assumes nothing.
 use mathlib.Core.Path.{_≡_, refl, ap, ap₂, _∙_, sym}
 use mathlib.Core.Bool.{Bool, true, false}
-use Prim.Native.Nat.{ℕ, zero, suc, _+_, _-_, _*_, _/_, _%_, _^_, _<_, _≤_}
+use Prim.Native.Nat.{ℕ, suc, _+_, _-_, _*_, _/_, _%_, _^_, _<_, _≤_}
 use native.Mathlib.Nat.{one-mul, mod-lt, add-mul, pow-succ', div-lt-iff-lt-mul, mul-le-mul-right}
 use native.Mathlib.Decide.{decLt}
 use native.Mathlib.Omega.{arith}
 use lib.Dec.{eqb, ltb, lit<}
 use lib.Bits.{bitOr, or-block, or-step, or-zero-r}
-use lib.Pow.{pow-pos, pow-mono, split, shl-exact}
-use lib.Arith.{mod-mul}
+use lib.Pow.{pow-pos, split, shl-exact}
 use borrow.Author.Tests.{lt-ltb, le-ltb, eqb-true, eqb-false}
 use Rattle.record.specs.Words.{if_then_else_}
-use Rattle.stream.specs.History.{bitOf, bit, setBit, push}
+use Rattle.stream.specs.History.{bitOf, bit, setBit}
 
 -- `1 << k` at 64 bits is 2 ^ k
 pub one-shl : (k : ℕ) → k < 64 → (1 * 2 ^ k) % 2 ^ 64 ≡ 2 ^ k
@@ -42,26 +41,6 @@ or-bit h k = or-sum h k ∙ go (eqb (h / 2 ^ k % 2) 1) refl
         let n : h / 2 ^ k % 2 ≡ 1 → ⊥ = eqb-false (h / 2 ^ k % 2) 1 e in
         let b : 1 - h / 2 ^ k % 2 ≡ 1 = omega arith in
         rw (e, b) (omega arith)
-
--- one place up: what stays is doubled
-pub doubled : (w h : ℕ) → 0 < w → h % 2 ^ (w - 1) * 2 ≡ push w h
-unfolding push
-doubled zero h a = absurd (omega arith)
-doubled (suc w) h a =
-    let e : suc w - 1 ≡ w = omega arith in
-    let m : 2 ^ suc w ≡ 2 ^ w * 2 = omega arith in
-    let d : h * 2 / 2 ≡ h = omega arith in
-    let z : h * 2 % 2 ≡ 0 = omega arith in
-    let p : h % 2 ^ (suc w - 1) * 2 ≡ h * 2 % 2 ^ suc w =
-    rw (e, m, mod-mul (h * 2) {m = 2 ^ w} {c = 2} (pow-pos w) (omega arith), d, z) (omega arith) in
-    p
-
-pub doubled-fits : (w h : ℕ) → w ≤ 64 → 0 < w → h % 2 ^ (w - 1) * 2 < 2 ^ 64
-doubled-fits w h a b =
-    let k : w - 1 ≤ 63 = omega arith in
-    let p : 2 ^ (w - 1) ≤ 2 ^ 63 = pow-mono k in
-    let q : h % 2 ^ (w - 1) < 2 ^ (w - 1) = mod-lt h (pow-pos (w - 1)) in
-    omega arith
 
 -- no bit at w or above, as the code tests it
 twice-half : (w : ℕ) → 0 < w → 2 * 2 ^ (w - 1) ≡ 2 ^ w

@@ -20,10 +20,6 @@ pub rest : (a b r : Bool) → true ≡ a → r ≡ b → r ≡ (a && b)
 rest true b r e f = f
 rest false b r e f = cc
 
-pub last : (a : Bool) → a ≡ (a && true && true && true)
-last true = refl
-last false = refl
-
 -- one of two
 pub or-l : (a b : Bool) → true ≡ a → true ≡ (a || b)
 or-l true b e = refl

@@ -11,7 +11,7 @@ use lib.Dec.{eqb, lit<}
 use lib.Count.{ones, ones-cat, ones-le}
 use lib.Pow.{pow-pos, field, shr-shr, shl-shr, mod-mod-pow}
 use lib.Arith.{mod-mul}
-use Rattle.stream.specs.History.{History, bitOf, bit, one, setBit, push, pushes, leaving, marked}
+use Rattle.stream.specs.History.{bitOf, bit, one, push, pushes, leaving}
 
 mod-times : (x c m : ℕ) → (x % m * c) % m ≡ (x * c) % m
 mod-times x c m =

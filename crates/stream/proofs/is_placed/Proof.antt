@@ -1,6 +1,6 @@
 -- `stream::is_placed` meets its contract. Assumes nothing.
 use native.Mathlib.Omega.{arith}
-use mathlib.Core.Path.{_∙_, sym}
+use mathlib.Core.Path.{sym}
 use Prim.Native.Nat.{_-_}
 use borrow.Author.Tests.{ne-eqb, le-leb, lt-leb}
 use Rattle.stream.specs.Record.{placed}

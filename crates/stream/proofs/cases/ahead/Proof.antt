@@ -1,10 +1,6 @@
 -- `stream::cases::ahead` meets its contract. Assumes nothing.
-use mathlib.Core.Path.{_≡_}
-use mathlib.Core.Bool.{not}
-use Prim.Native.Nat.{ℕ}
-use lib.Dec.{eqb}
 use Rattle.stream.specs.Decisions.{stateAfter, losses, outOfOrder}
-use Rattle.stream.specs.Steps.{HandedUp, weighedAs}
+use Rattle.stream.specs.Steps.{weighedAs}
 use borrow.Author.Needs.{needs}
 use Rattle.stream.proofs.cases.ahead.Statement.{statement}
 use Rattle.stream.proofs.cases.ahead.Tie as tie

@@ -1,5 +1,5 @@
 -- `stream::history::marked` meets its contract. Assumes nothing.
-use mathlib.Core.Path.{_≡_, ap, sym, _∙_}
+use mathlib.Core.Path.{ap, sym, _∙_}
 use native.Mathlib.Omega.{arith}
 use Rattle.stream.specs.History.{setBit, marked}
 use Rattle.stream.proofs.Moves.{top-shift, cut-at-once}
