@@ -13,11 +13,10 @@ pub mod Once
 pub mod Sums
 pub mod Stepping
 pub mod Runs
-pub mod LostRuns
+pub mod Computing
 pub mod StepRuns
 pub mod Wrong
 -- What they rest on.
-mod Computing
 mod Moves
 mod Slot
 mod Gap

@@ -12,7 +12,6 @@ use Rattle.demands.proofs.Absent.{lost-for-good}
 use Rattle.demands.proofs.Lost.{fresh-lost, opened-lost}
 use Rattle.demands.proofs.Stepping.{the-machine-meets, steps-are-calls, batches-are-calls, seen-as-calls, demand-1-steps, demand-3-steps, fresh-lost-steps, steps-coincide}
 use Rattle.demands.proofs.Runs.{wrap-meets, bound-reached, premises-are, bound-sharp, premises-needed}
-use Rattle.demands.proofs.LostRuns.{lost-shown, lost-premises-are, lost-premises-needed}
 use Rattle.demands.proofs.StepRuns.{wrap-in-one}
 use Rattle.demands.proofs.Wrong.{right-otherwise, ruled-out}
 
@@ -63,7 +62,4 @@ theorems = record {
   premises-are = premises-are;
   bound-sharp = bound-sharp;
   premises-needed = premises-needed;
-  lost-shown = lost-shown;
-  lost-premises-are = lost-premises-are;
-  lost-premises-needed = lost-premises-needed;
 }

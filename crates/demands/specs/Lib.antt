@@ -11,6 +11,5 @@ pub mod Corollaries
 pub mod Lost
 pub mod Examples
 pub mod Needed
-pub mod LostRuns
 pub mod StepExamples
 pub mod Theorems

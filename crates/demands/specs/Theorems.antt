@@ -13,7 +13,6 @@ use Rattle.demands.specs.Lost.{FreshLost, OpenedLost, FreshLostSteps, Lo
 use Rattle.demands.specs.Wrong.{RightOtherwise, RuledOut}
 use Rattle.demands.specs.Examples.{WrapMeets}
 use Rattle.demands.specs.Needed.{BoundReached, PremisesAre, BoundSharp, PremisesNeeded}
-use Rattle.demands.specs.LostRuns.{LostShown, LostPremisesAre, LostPremisesNeeded}
 use Rattle.demands.specs.StepExamples.{WrapInOne}
 
 -- Of a receiver.
@@ -58,7 +57,8 @@ pub record Theorems : Type 2 where
   pub tags-2 : (tagger : Tagger) → MeetsTags tagger → Demand2Tags tagger
   -- The receiver with unlimited memory hands no index up twice.
   pub unlimited-never-twice : UnlimitedNeverTwice
-  -- An index that counts as lost is not handed up later.
+  -- An index that counts as lost is not handed up later. (Runs that pin what lost means, and that its premises are needed: the
+  -- crate `lost_runs`.)
   pub lost-for-good : LostForGood
   -- The wrong receivers of document 01 fail, and those that are made by `deciding` are wrong in nothing else.
   pub ruled-out : RuledOut
@@ -71,7 +71,3 @@ pub record Theorems : Type 2 where
   pub premises-are : PremisesAre
   pub bound-sharp : BoundSharp
   pub premises-needed : PremisesNeeded
-  -- What lost means is so of runs that pin it from both sides, and each of its premises is needed.
-  pub lost-shown : LostShown
-  pub lost-premises-are : LostPremisesAre
-  pub lost-premises-needed : LostPremisesNeeded

@@ -4,12 +4,12 @@ use mathlib.Core.Path.{_≡_, refl}
 use mathlib.Core.Bool.{false≢true}
 use mathlib.Core.List.{List, [], _∷_, head-eq-of-cons-eq, tail-eq-of-cons-eq}
 use native.Mathlib.Omega.{arith}
 use Rattle.demands.specs.Corollaries.{handedOf}
 use Rattle.demands.specs.Lost.{absent}
-use Rattle.demands.specs.LostRuns.{LostPremisesAre, begin, sent, LostShown, LostPremisesNeeded}
+use Rattle.lost_runs.specs.LostRuns.{LostPremisesAre, begin, sent, LostShown, LostPremisesNeeded}
 use Rattle.demands.proofs.Alike.{the-receiver-meets}
 use Rattle.demands.proofs.Lost.{fresh-lost}
 use Rattle.demands.proofs.Computing.{computing}
 
 pub lost-premises-are : LostPremisesAre
 lost-premises-are t later first rest a =
