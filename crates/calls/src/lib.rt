@@ -134,7 +134,7 @@ pub fn blank() -> Stream
     ensures { λ r. ⌜ r ≡ blank ⌝ }
 {
     let state = State {
-        history: 0,
+        history: [0; 8],
         anchor: 0,
         remaining: 0,
         early: 0,

@@ -17,7 +17,7 @@ abbrev pub windowLeast : ℕ
 windowLeast = 2
 
 abbrev pub windowMost : ℕ
-windowMost = 64
+windowMost = 512
 
 -- reset time R, in ticks
 abbrev pub timeLeast : ℕ

@@ -6,8 +6,8 @@
 // so that a record is copied without a rest.
 #[repr(C)]
 pub struct State {
-    // Bit k stands for the number anchor - k.
-    pub history: u64,
+    // Bit k stands for the number anchor - k. It is bit k mod 64 of word k / 64.
+    pub history: [u64; 8],
     pub anchor: u16,
     // Ticks remaining.
     pub remaining: u16,
@@ -61,7 +61,7 @@ impl Stream {
 
     pub const WINDOW_LEAST: u16 = 2;
 
-    pub const WINDOW_MOST: u16 = 64;
+    pub const WINDOW_MOST: u16 = 512;
 
     pub const TIME_LEAST: u16 = 1;
 

@@ -10,7 +10,7 @@ use lib.Bits.{bitOr, or-block, or-step, or-zero-r}
 use lib.Pow.{pow-pos, split, shl-exact}
 use borrow.Author.Tests.{lt-ltb, le-ltb, eqb-true, eqb-false}
 use Rattle.record.specs.Words.{if_then_else_}
-use Rattle.stream.specs.History.{bitOf, bit, setBit}
+use Rattle.stream.specs.History.{bitOf}
 
 -- `1 << k` at 64 bits is 2 ^ k
 pub one-shl : (k : ℕ) → k < 64 → (1 * 2 ^ k) % 2 ^ 64 ≡ 2 ^ k
@@ -28,8 +28,8 @@ or-sum h k =
     ∙ rw (or-one, or-zero-r) (omega (arith, add-mul (h / 2 ^ k) (1 - h / 2 ^ k % 2) (2 ^ k), split h k))
 
 -- `h | 2 ^ k` is h with bit k set
-pub or-bit : (h k : ℕ) → bitOr h (2 ^ k) ≡ setBit k h
-unfolding setBit bit bitOf
+pub or-bit : (h k : ℕ) → bitOr h (2 ^ k) ≡ (if bitOf k h then h else h + 2 ^ k)
+unfolding bitOf
 or-bit h k = or-sum h k ∙ go (eqb (h / 2 ^ k % 2) 1) refl
   where
     go : (v : Bool) → eqb (h / 2 ^ k % 2) 1 ≡ v

@@ -7,7 +7,7 @@ use lib.Dec.{eqb}
 use borrow.Author.Tests.{eqb-false, ne-eqb}
 use Rattle.record.specs.Words.{if_then_else_, yes}
 use Rattle.record.specs.Sizes.{vectorRule}
-use Rattle.stream.specs.History.{History, empty, isEmpty, single}
+use Rattle.stream.specs.History.{History, empty, same, isEmpty, single}
 use Rattle.stream.specs.Record.{State, Counts, Stream, fresh, isFresh, settled, placed, shaped, lawful}
 use Rattle.stream.specs.Decisions.{Case, first, far, again, late, next, moved, caseOf, handedUp, with, stateAfter, countsAfter, decided, reset, expires, aged, ticked}
 use Rattle.stream.specs.Laws.{LawfulWithoutCounters, DecidedLawful, TickedLawful, ResetLawful, OpenedLawful}
@@ -41,7 +41,7 @@ pub record Aged (s u : Stream) : Type 0 where
   pub less : u .state .remaining ≤ s .state .remaining - 1
 
 fresh-shape : (rule window : ℕ) → shaped rule window fresh ≡ true
-unfolding shaped isFresh yes isEmpty
+unfolding shaped isFresh yes isEmpty same
 fresh-shape rule window = refl
 
 pub after-reset : (s : Stream) → yes (s .used) ≡ true → settled s ≡ true → Aged s (reset s)

@@ -12,6 +12,8 @@ pub mod Leaves
 -- What the proofs of the functions rest on.
 mod Bits
 mod Digits
+mod Words
+mod Shifts
 mod Moves
 mod Early
 mod Flags

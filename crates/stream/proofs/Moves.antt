@@ -5,37 +5,47 @@ use mathlib.Core.Bool.{false, not, _&&_}
 use borrow.Author.Tests.{ne-eqb}
 use native.Mathlib.Decide.{decLt}
 use Prim.Native.Nat.{ℕ, zero, suc, _+_, _-_, _*_, _/_, _%_, _^_, _<_, _≤_}
-use native.Mathlib.Nat.{mod-lt, mod-mod, mod-one, zero-add, mul-assoc, mul-right-comm, add-comm, add-mul, div-add-mod', add-mul-mod-self-right}
+use native.Mathlib.Nat.{mod-lt, mod-one, zero-add, mod-eq-of-lt, lt-of-lt-of-le, mul-assoc, mul-right-comm, add-comm, add-mul, div-add-mod', add-mul-mod-self-right}
 use native.Mathlib.Omega.{arith}
 use lib.Dec.{eqb, lit<}
 use lib.Count.{ones, ones-cat, ones-le}
-use lib.Pow.{pow-pos, field, shr-shr, shl-shr, mod-mod-pow}
+use lib.Pow.{pow-pos, pow-mono, field, shr-shr, shl-shr, mod-mod-pow}
 use lib.Arith.{mod-mul}
-use Rattle.stream.specs.History.{bitOf, bit, one, push, pushes, leaving}
+use Rattle.record.specs.Sizes.{windowMost}
+use Rattle.stream.specs.History.{History, value, holding, bitOf, bit, one, push, pushes, leaving}
+use Rattle.stream.proofs.Words.{value-words}
 
-mod-times : (x c m : ℕ) → (x % m * c) % m ≡ (x * c) % m
+pub mod-times : (x c m : ℕ) → (x % m * c) % m ≡ (x * c) % m
 mod-times x c m =
     let parts : x * c ≡ x % m * c + x / m * c * m =
     ap (λ (y : ℕ). y * c) (sym (div-add-mod' x m)) ∙ add-mul (x / m * m) (x % m) c
     ∙ add-comm (x / m * m * c) (x % m * c) ∙ ap (λ (y : ℕ). x % m * c + y) (mul-right-comm (x / m) m c) in
     sym (ap (λ (y : ℕ). y % m) parts ∙ add-mul-mod-self-right (x % m * c) (x / m * c) m)
 
--- the history
-pub pushes-at-once : (l d h : ℕ) → 1 ≤ d → pushes l d h ≡ h * 2 ^ d % 2 ^ l
-unfolding pushes push
-pushes-at-once l zero h p = absurd (omega arith)
-pushes-at-once l (suc zero) h p = refl
-pushes-at-once l (suc (suc d)) h p =
-    let twice : 2 * 2 ^ suc d ≡ 2 ^ suc (suc d) = omega arith in
-    pushes-at-once l (suc d) (h * 2 % 2 ^ l) (omega arith)
-    ∙ mod-times (h * 2) (2 ^ suc d) (2 ^ l)
-    ∙ ap (λ (y : ℕ). y % 2 ^ l) (mul-assoc h 2 (2 ^ suc d) ∙ ap (λ (y : ℕ). h * y) twice)
+-- a number below 2 ^ L, held in the words
+pub held : (l v : ℕ) → l ≤ windowMost → v < 2 ^ l → value (holding v) ≡ v
+held l v a b = value-words 8 v ∙ mod-eq-of-lt (lt-of-lt-of-le b (pow-mono a))
 
--- also where it does not move, once it is cut
-pub cut-at-once : (l d h : ℕ) → pushes l d h % 2 ^ l ≡ h * 2 ^ d % 2 ^ l
+push-value : (l : ℕ) (h : History) → l ≤ windowMost → value (push l h) ≡ value h * 2 % 2 ^ l
+unfolding push
+push-value l h a = held l (value h * 2 % 2 ^ l) a (mod-lt (value h * 2) (pow-pos l))
+
+push-one : (l : ℕ) (h : History) → push l h ≡ holding (value h * 2 ^ 1 % 2 ^ l)
+unfolding push
+push-one l h = refl
+
+-- the history
+pub pushes-at-once : (l d : ℕ) (h : History) → l ≤ windowMost → 1 ≤ d → pushes l d h ≡ holding (value h * 2 ^ d % 2 ^ l)
 unfolding pushes
-cut-at-once l zero h = ap (λ (y : ℕ). y % 2 ^ l) (omega arith)
-cut-at-once l (suc d) h = ap (λ (y : ℕ). y % 2 ^ l) (pushes-at-once l (suc d) h (omega arith)) ∙ mod-mod (h * 2 ^ suc d) (2 ^ l)
+pushes-at-once l zero h a p = absurd (omega arith)
+pushes-at-once l (suc zero) h a p = push-one l h
+pushes-at-once l (suc (suc d)) h a p =
+    let twice : 2 * 2 ^ suc d ≡ 2 ^ suc (suc d) = omega arith in
+    pushes-at-once l (suc d) (push l h) a (omega arith)
+    ∙ ap holding
+    (ap (λ (y : ℕ). y * 2 ^ suc d % 2 ^ l) (push-value l h a)
+    ∙ mod-times (value h * 2) (2 ^ suc d) (2 ^ l)
+    ∙ ap (λ (y : ℕ). y % 2 ^ l) (mul-assoc (value h) 2 (2 ^ suc d) ∙ ap (λ (y : ℕ). value h * y) twice))
 
 -- how many of the d places below place l are set
 abbrev pub setIn : (l d h : ℕ) → ℕ
@@ -64,8 +74,7 @@ top-apart l d h p =
     ∙ ap (λ (n : ℕ). n + ones (x % 2 ^ d)) (ones-bit (x / 2 ^ d % 2) (omega arith) ∙ top)
 
 -- the m places from place a on, one place up
-pushed-field : (l a m h : ℕ) → suc a + m ≤ l → push l h / 2 ^ suc a % 2 ^ m ≡ h / 2 ^ a % 2 ^ m
-unfolding push
+pushed-field : (l a m h : ℕ) → suc a + m ≤ l → h * 2 % 2 ^ l / 2 ^ suc a % 2 ^ m ≡ h / 2 ^ a % 2 ^ m
 pushed-field l a m h p =
     let r : ℕ = l - suc a - m in
     let whole : l ≡ r + m + suc a = omega arith in
@@ -76,14 +85,14 @@ pushed-field l a m h p =
     ∙ ap (λ (n : ℕ). h * 2 / 2 ^ n % 2 ^ m) next
     ∙ ap (λ (y : ℕ). y % 2 ^ m) (sym (shr-shr (h * 2) 1 a) ∙ ap (λ (y : ℕ). y / 2 ^ a) half)
 
-rest-pushed : (l d n h : ℕ) → d < l → setIn (l - n) (d - n) (push l h) ≡ ones (h / 2 ^ (l - suc d) % 2 ^ (d - n))
+rest-pushed : (l d n h : ℕ) → d < l → setIn (l - n) (d - n) (h * 2 % 2 ^ l) ≡ ones (h / 2 ^ (l - suc d) % 2 ^ (d - n))
 rest-pushed l d n h p = elim (decLt d n) [
   | yes q ↦
       let z : d - n ≡ 0 = omega arith in
-      ap ones (rw z (mod-one (push l h / 2 ^ (l - n - 0)) ∙ sym (mod-one (h / 2 ^ (l - suc d)))))
+      ap ones (rw z (mod-one (h * 2 % 2 ^ l / 2 ^ (l - n - 0)) ∙ sym (mod-one (h / 2 ^ (l - suc d)))))
   | no q ↦
       let place : l - n - (d - n) ≡ suc (l - suc d) = omega arith in
-      ap ones (ap (λ (k : ℕ). push l h / 2 ^ k % 2 ^ (d - n)) place ∙ pushed-field l (l - suc d) (d - n) h (omega arith))
+      ap ones (ap (λ (k : ℕ). h * 2 % 2 ^ l / 2 ^ k % 2 ^ (d - n)) place ∙ pushed-field l (l - suc d) (d - n) h (omega arith))
 ]
 
 one-leaves : (b d o : ℕ) → b < 2 → o ≤ d → one (not (eqb b 1)) + (d - o) ≡ suc d - (b + o)
@@ -102,8 +111,8 @@ early-place l d n h = elim (decLt d n) [
       ap (λ (k : ℕ). ones (h / 2 ^ k % 2 ^ (d - n))) place
 ]
 
-last-leaves : (l d h : ℕ) → d < l → one (not (bit (l - 1) h)) + (d - 0 - ones (h / 2 ^ (l - suc d) % 2 ^ (d - 0))) ≡ suc d - 0 - setIn (l - 0) (suc d - 0) h
-unfolding bit bitOf
+last-leaves : (l d h : ℕ) → d < l → one (not (bitOf (l - 1) h)) + (d - 0 - ones (h / 2 ^ (l - suc d) % 2 ^ (d - 0))) ≡ suc d - 0 - setIn (l - 0) (suc d - 0) h
+unfolding bitOf
 last-leaves l d h p =
     let a : d - 0 ≡ d = omega arith in
     let b : suc d - 0 ≡ suc d = omega arith in
@@ -113,43 +122,38 @@ last-leaves l d h p =
     ∙ ap (λ (n : ℕ). suc d - n) (sym (top-apart l d h p)))
 
 -- what is lost: nothing while the places for older numbers last, and then the zeros below them
-pub leaving-at-once : (l d n h : ℕ) → d ≤ l → leaving l d n h ≡ d - n - setIn (l - n) (d - n) h
-unfolding leaving
-leaving-at-once l zero n h p = omega arith
-leaving-at-once l (suc d) (suc n) h p =
+pub leaving-at-once : (l d n : ℕ) (h : History) → l ≤ windowMost → d ≤ l → leaving l d n h ≡ d - n - setIn (l - n) (d - n) (value h)
+unfolding leaving bit
+leaving-at-once l zero n h m p = omega arith
+leaving-at-once l (suc d) (suc n) h m p =
+    let v : ℕ = value h in
     let none : eqb (suc n) 0 ≡ false = ne-eqb (suc n) 0 (omega arith) in
     let less : suc n - 1 ≡ n = omega arith in
     let rest : suc d - suc n ≡ d - n = omega arith in
-    let sum : one (eqb (suc n) 0 && not (bit (l - 1) h)) ≡ 0 = rw none in
+    let sum : one (eqb (suc n) 0 && not (bitOf (l - 1) v)) ≡ 0 = rw none in
     ap₂ (λ (x k : ℕ). x + leaving l d k (push l h)) sum less
     ∙ zero-add (leaving l d n (push l h))
-    ∙ leaving-at-once l d n (push l h) (omega arith)
-    ∙ ap (λ (x : ℕ). d - n - x) (rest-pushed l d n h p ∙ early-place l d n h)
-    ∙ ap (λ (m : ℕ). m - setIn (l - suc n) m h) (sym rest)
-leaving-at-once l (suc d) zero h p =
-    ap (λ (x : ℕ). one (not (bit (l - 1) h)) + x)
-    (leaving-at-once l d 0 (push l h) (omega arith)
-    ∙ ap (λ (x : ℕ). d - 0 - x) (rest-pushed l d 0 h p))
-    ∙ last-leaves l d h p
+    ∙ leaving-at-once l d n (push l h) m (omega arith)
+    ∙ ap (λ (x : ℕ). d - n - x) (ap (setIn (l - n) (d - n)) (push-value l h m) ∙ rest-pushed l d n v p ∙ early-place l d n v)
+    ∙ ap (λ (k : ℕ). k - setIn (l - suc n) k v) (sym rest)
+leaving-at-once l (suc d) zero h m p =
+    let v : ℕ = value h in
+    ap (λ (x : ℕ). one (not (bitOf (l - 1) v)) + x)
+    (leaving-at-once l d 0 (push l h) m (omega arith)
+    ∙ ap (λ (x : ℕ). d - 0 - x) (ap (setIn (l - 0) (d - 0)) (push-value l h m) ∙ rest-pushed l d 0 v p))
+    ∙ last-leaves l d v p
 
-pub leaving-none : (l d n h : ℕ) → d ≤ l → d ≤ n → leaving l d n h ≡ 0
-leaving-none l d n h p q =
+pub leaving-none : (l d n : ℕ) (h : History) → l ≤ windowMost → d ≤ l → d ≤ n → leaving l d n h ≡ 0
+leaving-none l d n h m p q =
     let z : d - n ≡ 0 = omega arith in
-    leaving-at-once l d n h p ∙ ap (λ (m : ℕ). m - setIn (l - n) m h) z ∙ zero-less (setIn (l - n) 0 h)
+    leaving-at-once l d n h m p ∙ ap (λ (k : ℕ). k - setIn (l - n) k (value h)) z ∙ zero-less (setIn (l - n) 0 (value h))
   where
     zero-less : (x : ℕ) → 0 - x ≡ 0
     zero-less x = omega arith
 
-pub leaving-one : (l h : ℕ) → leaving l 1 0 h ≡ 1 - h / 2 ^ (l - 1) % 2
-unfolding leaving bit bitOf
-leaving-one l h = one-leaves (h / 2 ^ (l - 1) % 2) 0 0 (omega arith) (omega arith) ∙ omega arith
-
--- so the places for older numbers are as good as no part of the window
-pub leaving-below : (l d n h : ℕ) → d ≤ l → n < d → leaving (l - n) (d - n) 0 h ≡ leaving l d n h
-leaving-below l d n h p q =
-    let a : d - n - 0 ≡ d - n = omega arith in
-    let b : l - n - 0 ≡ l - n = omega arith in
-    leaving-at-once (l - n) (d - n) 0 h (omega arith) ∙ rw (a, b) (sym (leaving-at-once l d n h p))
+pub leaving-one : (l : ℕ) (h : History) → leaving l 1 0 h ≡ one (not (bit (l - 1) h))
+unfolding leaving
+leaving-one l h = omega arith
 
 -- the same in one word of 64 bits, the window at its top
 pub top-field : (h l d : ℕ) → d ≤ l → l ≤ 64 → (h * 2 ^ (64 - l)) % 2 ^ 64 / 2 ^ (64 - d) ≡ h / 2 ^ (l - d) % 2 ^ d

@@ -1,72 +1,146 @@
 -- The laws of a history. Assumes nothing.
-use Prim.Native.Nat.{ℕ, zero, suc, _+_, _-_, _*_, _%_, _^_, _≤_, _<_}
-use mathlib.Core.Path.{_≡_, refl, ap, _∙_}
+use Prim.Native.Nat.{ℕ, zero, suc, _+_, _-_, _*_, _/_, _%_, _^_, _≤_, _<_}
+use mathlib.Core.Path.{_≡_, refl, ap, ap₂, sym, _∙_}
 use mathlib.Core.Bool.{Bool, true, false, _||_}
-use native.Mathlib.Nat.{add-zero, mod-lt, mod-eq-of-lt, zero-mod}
+use mathlib.Core.List.{[], _∷_}
+use native.Mathlib.Nat.{add-zero, mod-lt}
 use native.Mathlib.Omega.{arith}
 use native.Mathlib.Decide.{decLt}
+use lib.ListN.{length, getD}
 use lib.Dec.{eqb, ltb, eqb·suc-zero}
 use lib.Pow.{pow-pos, pow-lt}
-use borrow.Author.Tests.{lt-ltb, ltb-true, eqb-true, ne-eqb}
+use borrow.Author.Tests.{lt-ltb, le-ltb, ltb-true, ltb-false, eqb-true, ne-eqb}
 use Rattle.record.specs.Words.{if_then_else_}
 use Rattle.record.specs.Sizes.{windowMost}
-use Rattle.stream.specs.History.{History, bitOf, empty, isEmpty, bit, single, setBit, push, pushes, advance, within, marked}
+use Rattle.stream.specs.History.{History, value, wordsOf, holding, bitOf, same, empty, isEmpty, bit, single, setBit, push, pushes, advance, within, marked}
+use Rattle.stream.proofs.Logic.{tests}
+use Rattle.stream.proofs.Words.{Small, wordAt, word-of, not-clear, value-words, words-num}
+use Rattle.stream.proofs.Moves.{held}
 use Rattle.stream.proofs.Bits.{even, double, below, added, added-lt, none}
 
--- 1. What rests on the form of the history. L is at most the greatest window.
+-- 1. What rests on the form of the history. L is at most the greatest window. The words hold the bits below 512.
+stored-bit : (k v : ℕ) → k < windowMost → bit k (holding v) ≡ bitOf k v
+unfolding bit
+stored-bit k v a = ap (bitOf k) (value-words 8 v) ∙ below k windowMost v a
+
+same-is : (v w : History) → same v w ≡ true → v ≡ w
+unfolding same
+same-is [] [] e = refl
+same-is [] (w ∷ ws) e = cc
+same-is (v ∷ vs) [] e = cc
+same-is (v ∷ vs) (w ∷ ws) e = let p = simp tests at e in rw (p .0, same-is vs ws (p .1))
+
 pub empty-is : isEmpty empty ≡ true
-unfolding isEmpty
+unfolding isEmpty same
 empty-is = refl
 
 pub is-empty : (h : History) → isEmpty h ≡ true → h ≡ empty
 unfolding isEmpty
-is-empty h e = eqb-true h 0 e
+is-empty h e = same-is h empty e
+
+no-value : value empty ≡ 0
+unfolding value
+no-value = refl
+
+no-words : wordsOf 8 0 ≡ empty
+unfolding wordsOf
+no-words = refl
+
+-- eight words that are clear are the empty history
+pub empty-clear : (h : History) → Small h → length h ≡ 8 → isEmpty h ≡ within (64 * 0) h
+unfolding within
+empty-clear h s e = go (ltb (value h) (2 ^ (64 * 0))) refl
+  where
+    other : (v : Bool) → isEmpty h ≡ v → ltb (value h) (2 ^ (64 * 0)) ≡ false → isEmpty h ≡ false
+    other false p q = p
+    other true p q = let z : value h ≡ 0 = ap value (is-empty h p) ∙ no-value in let c : ltb (value h) 1 ≡ true = lt-ltb (value h) 1 (omega arith) in cc
+
+    go : (v : Bool) → ltb (value h) (2 ^ (64 * 0)) ≡ v → isEmpty h ≡ ltb (value h) (2 ^ (64 * 0))
+    go true p =
+        let z : value h < 1 = ltb-true (value h) 1 p in
+        let none : value h ≡ 0 = omega arith in
+        let all : h ≡ empty = sym (words-num h s) ∙ ap₂ wordsOf e none ∙ no-words in
+        rw p (ap isEmpty all ∙ empty-is)
+    go false p = rw p (other (isEmpty h) refl p)
+
+-- with a first word that is zero, and with one that is not
+pub first-not : (h : History) → Small h → length h ≡ 8 → (getD h 0 0 ≡ 0 → ⊥) → isEmpty h ≡ false
+unfolding within
+first-not h s e n = empty-clear h s e ∙ le-ltb (value h) (2 ^ (64 * 0)) (not-clear h s 0 0 (omega arith) n)
+
+pub first-empty : (h : History) → Small h → length h ≡ 8 → getD h 0 0 ≡ 0 → within 64 h ≡ isEmpty h
+unfolding within wordAt
+first-empty h s e z = go (ltb (value h) (2 ^ 64)) refl ∙ sym (empty-clear h s e)
+  where
+    go : (v : Bool) → ltb (value h) (2 ^ 64) ≡ v → ltb (value h) (2 ^ 64) ≡ ltb (value h) (2 ^ (64 * 0))
+    go true p =
+        let l : value h < 2 ^ 64 = ltb-true (value h) (2 ^ 64) p in
+        let w : value h / 2 ^ (64 * 0) % 2 ^ 64 ≡ getD h 0 0 = word-of h s 0 in
+        let none : value h < 1 = omega (arith, w) in
+        p ∙ sym (lt-ltb (value h) 1 none)
+    go false p =
+        let l : 2 ^ 64 ≤ value h = ltb-false (value h) (2 ^ 64) p in
+        let some : 2 ^ (64 * 0) ≤ value h = omega arith in
+        p ∙ sym (le-ltb (value h) (2 ^ (64 * 0)) some)
 
 pub empty-bit : (k : ℕ) → bit k empty ≡ false
-unfolding bit
+unfolding bit value
 empty-bit k = none k
 
 pub single-bit : (k : ℕ) → bit k single ≡ eqb k 0
-unfolding bit
+unfolding bit value
 single-bit zero = added 0 0 0 (none 0)
 single-bit (suc k) = added 0 (suc k) 0 (none 0) ∙ rw (eqb·suc-zero, none (suc k))
 
 module _ (l : ℕ) (most : l ≤ windowMost) where
   pub single-within : 0 < l → within l single ≡ true
-  unfolding within
+  unfolding within value
   single-within a = lt-ltb 1 (2 ^ l) (pow-lt a)
 
+  keep : (v : ℕ) → v < 2 ^ l → within l (holding v) ≡ true
+  unfolding within
+  keep v a = rw (held l v most a) (lt-ltb v (2 ^ l) a)
+
+  set-clear : (k j : ℕ) (h : History) → j < l → bit k h ≡ false → bit j (holding (value h + 2 ^ k)) ≡ eqb j k || bit j h
+  unfolding bit
+  set-clear k j h b e = stored-bit j (value h + 2 ^ k) (omega arith) ∙ added k j (value h) e
+
+  keep-clear : (k : ℕ) (h : History) → k < l → within l h ≡ true → bit k h ≡ false → within l (holding (value h + 2 ^ k)) ≡ true
+  unfolding bit within
+  keep-clear k h a b e = keep (value h + 2 ^ k) (added-lt k l (value h) a (ltb-true (value h) (2 ^ l) b) e)
+
   pub set-bit : (k j : ℕ) (h : History) → k < l → j < l → bit j (setBit k h) ≡ eqb j k || bit j h
-  unfolding setBit bit
-  set-bit k j h a b = go (bitOf k h) refl
+  unfolding setBit
+  set-bit k j h a b = go (bit k h) refl
     where
-      there : bitOf k h ≡ true → (v : Bool) → eqb j k ≡ v → bitOf j h ≡ v || bitOf j h
+      there : bit k h ≡ true → (v : Bool) → eqb j k ≡ v → bit j h ≡ v || bit j h
       there e true p = let q : j ≡ k = eqb-true j k p in rw q e
       there e false p = refl
 
-      go : (v : Bool) → bitOf k h ≡ v → bitOf j (if bitOf k h then h else h + 2 ^ k) ≡ eqb j k || bitOf j h
+      go : (v : Bool) → bit k h ≡ v → bit j (if bit k h then h else holding (value h + 2 ^ k)) ≡ eqb j k || bit j h
       go true e = rw e (there e (eqb j k) refl)
-      go false e = rw e (added k j h e)
+      go false e = rw e (set-clear k j h b e)
 
   pub set-within : (k : ℕ) (h : History) → k < l → within l h ≡ true → within l (setBit k h) ≡ true
-  unfolding within setBit bit
-  set-within k h a b = go (bitOf k h) refl
+  unfolding setBit
+  set-within k h a b = go (bit k h) refl
     where
-      go : (v : Bool) → bitOf k h ≡ v → ltb (if bitOf k h then h else h + 2 ^ k) (2 ^ l) ≡ true
+      go : (v : Bool) → bit k h ≡ v → within l (if bit k h then h else holding (value h + 2 ^ k)) ≡ true
       go true e = rw e b
-      go false e = rw e (lt-ltb (h + 2 ^ k) (2 ^ l) (added-lt k l h a (ltb-true h (2 ^ l) b) e))
+      go false e = rw e (keep-clear k h a b e)
 
   push-zero : (h : History) → 0 < l → bit 0 (push l h) ≡ false
-  unfolding push bit
-  push-zero h b = below 0 l (h * 2) b ∙ even h
+  unfolding push
+  push-zero h b = stored-bit 0 (value h * 2 % 2 ^ l) (omega arith) ∙ below 0 l (value h * 2) b ∙ even (value h)
 
   push-suc : (m : ℕ) (h : History) → suc m < l → bit (suc m) (push l h) ≡ bit m h
   unfolding push bit
-  push-suc m h b = below (suc m) l (h * 2) b ∙ double m h
+  push-suc m h b =
+      stored-bit (suc m) (value h * 2 % 2 ^ l) (omega arith) ∙ below (suc m) l (value h * 2) b ∙ double m (value h)
 
   push-within : (h : History) → within l (push l h) ≡ true
-  unfolding push within
-  push-within h = lt-ltb (h * 2 % 2 ^ l) (2 ^ l) (mod-lt (h * 2) (pow-pos l))
+  unfolding push
+  push-within h = keep (value h * 2 % 2 ^ l) (mod-lt (value h * 2) (pow-pos l))
 
   -- 2. What follows from that. After d places up the bit at m stands at m + d,
   pushes-high : (d : ℕ) (h : History) (m : ℕ) → m + d < l → bit (m + d) (pushes l d h) ≡ bit m h
@@ -114,19 +188,15 @@ module _ (l : ℕ) (most : l ≤ windowMost) where
   unfolding advance
   advance-within d h a b = set-within 0 (pushes l d h) b (pushes-within d h a)
 
-  -- 3. Marked in one go: nothing is cut of a history within the window, nor of one that has moved.
-  cut-within : (h : History) → within l h ≡ true → h % 2 ^ l ≡ h
-  unfolding within
-  cut-within h e = mod-eq-of-lt (ltb-true h (2 ^ l) e)
+-- 3. Marked in one go.
+pub marked-late : (l k : ℕ) (h : History) → marked l 0 k h ≡ setBit k h
+unfolding marked pushes
+marked-late l k h = refl
 
-  pub marked-late : (k : ℕ) (h : History) → within l h ≡ true → marked l 0 k h ≡ setBit k h
-  unfolding marked pushes
-  marked-late k h e = ap (setBit k) (cut-within h e)
-
-  pub marked-next : (d : ℕ) (h : History) → 0 < d → marked l d 0 h ≡ advance l d h
-  unfolding marked advance
-  marked-next d h a = ap (setBit 0) (cut-within (pushes l d h) (pushes-within d h a))
+pub marked-next : (l d : ℕ) (h : History) → marked l d 0 h ≡ advance l d h
+unfolding marked advance
+marked-next l d h = refl
 
 pub marked-first : (l : ℕ) → marked l 0 0 empty ≡ single
-unfolding marked pushes setBit bit
-marked-first l = ap (λ (h : ℕ). if bitOf 0 h then h else h + 2 ^ 0) (zero-mod (2 ^ l)) ∙ rw (none 0)
+unfolding marked pushes setBit bit bitOf value wordsOf
+marked-first l = refl

@@ -14,7 +14,7 @@ use Rattle.stream.specs.Decisions.{Case, first, far, again, late, next, 
 use Rattle.stream.specs.Steps.{Marks, marksOf, historyAfter, Duplicate, Rogue, weighedAs, weighed, said, recordAfter}
 use Rattle.stream.specs.Laws.{StepsTellVerdict, StepsDecide, StepsDamaged, StepsLeave}
 use Rattle.stream.proofs.Past.{marked-late, marked-next, marked-first}
-use Rattle.stream.proofs.Law.{Law, law, size, idle-fresh, fresh-parts, vector-within}
+use Rattle.stream.proofs.Law.{Law, law, size, idle-fresh, fresh-parts}
 use Rattle.stream.proofs.Told.{Fact, case-told}
 
 module _ (s : Stream) (n : ℕ) where
@@ -62,12 +62,11 @@ module _ (s : Stream) (n : ℕ) where
   gives network (late k) l (a, r, b, z) =
       let w : s .window ≤ windowMost = size l .most in
       ap (λ (h : History). with s (handedUp s (s .state .anchor) (s .state .early) h) (countsAfter s network (late k)))
-      (fits l (marksOf s n (late k)) r (omega arith) (omega arith)
-      ∙ marked-late (s .window) w k (s .state .history) (vector-within l a r))
+      (fits l (marksOf s n (late k)) r (omega arith) (omega arith) ∙ marked-late (s .window) k (s .state .history))
   gives network (next d) l (a, r, b, z) =
       let w : s .window ≤ windowMost = size l .most in
       ap (λ (h : History). with s (handedUp s n (s .state .early - d) h) (countsAfter s network (next d)))
-      (fits l (marksOf s n (next d)) r z (omega arith) ∙ marked-next (s .window) w d (s .state .history) b)
+      (fits l (marksOf s n (next d)) r z (omega arith) ∙ marked-next (s .window) d (s .state .history))
   gives network (moved b) l (a, r) =
       ap (λ (h : History). with s (handedUp s n (s .state .early) h) (countsAfter s network (moved b))) (stays (marksOf s n (moved b)) r)
 

@@ -1,12 +1,26 @@
--- Document 01, "The stream record", with document 02, order 4: the history, whose bit k stands for the number anchor - k. This
--- file alone knows how a history is held; every other file goes through these names. Assumes nothing.
+-- Document 01, "The stream record", with document 02, orders 4 and 5: the history, whose bit k stands for the number anchor - k.
+-- This file alone knows how a history is held; every other file goes through these names. Assumes nothing.
 use Prim.Native.Nat.{ℕ, zero, suc, _+_, _-_, _*_, _/_, _%_, _^_}
-use mathlib.Core.Bool.{Bool, not, _&&_}
+use mathlib.Core.Bool.{Bool, true, false, not, _&&_}
+use mathlib.Core.List.{List, [], _∷_}
 use lib.Dec.{eqb, ltb}
 use Rattle.record.specs.Words.{if_then_else_}
 
+-- Words of 64 bits, the lowest first: the number that they hold, and the n words that hold a number.
+unfoldable pub value : List ℕ → ℕ
+value [] = 0
+value (w ∷ ws) = w + 2 ^ 64 * value ws
+
+unfoldable pub wordsOf : (n number : ℕ) → List ℕ
+wordsOf zero v = []
+wordsOf (suc n) v = v % 2 ^ 64 ∷ wordsOf n (v / 2 ^ 64)
+
+-- "The history becomes eight words of 64 bits."
 abbrev pub History : Type 0
-History = ℕ
+History = List ℕ
+
+abbrev pub holding : ℕ → History
+holding v = wordsOf 8 v
 
 -- bit k of the number n is set
 unfoldable pub bitOf : (k n : ℕ) → Bool
@@ -18,30 +32,36 @@ one test = if test then 1 else 0
 
 -- history zero: no bit is set
 abbrev pub empty : History
-empty = 0
+empty = 0 ∷ 0 ∷ 0 ∷ 0 ∷ 0 ∷ 0 ∷ 0 ∷ 0 ∷ []
+
+unfoldable pub same : History → History → Bool
+same [] [] = true
+same [] (w ∷ ws) = false
+same (v ∷ vs) [] = false
+same (v ∷ vs) (w ∷ ws) = eqb v w && same vs ws
 
 unfoldable pub isEmpty : History → Bool
-isEmpty history = eqb history 0
+isEmpty history = same history empty
 
 -- bit k is set
 unfoldable pub bit : (k : ℕ) (history : History) → Bool
-bit k history = bitOf k history
+bit k history = bitOf k (value history)
 
 -- no bit is set at L or above
 unfoldable pub within : (window : ℕ) (history : History) → Bool
-within window history = ltb history (2 ^ window)
+within window history = ltb (value history) (2 ^ window)
 
 -- only bit 0
 abbrev pub single : History
-single = 1
+single = 1 ∷ 0 ∷ 0 ∷ 0 ∷ 0 ∷ 0 ∷ 0 ∷ 0 ∷ []
 
 -- the history with bit k set
 unfoldable pub setBit : (k : ℕ) (history : History) → History
-setBit k history = if bit k history then history else history + 2 ^ k
+setBit k history = if bit k history then history else holding (value history + 2 ^ k)
 
 -- one place up; the bit at place L - 1 leaves
 unfoldable pub push : (window : ℕ) (history : History) → History
-push window history = history * 2 % 2 ^ window
+push window history = holding (value history * 2 % 2 ^ window)
 
 -- d places up, one place at a time
 unfoldable pub pushes : (window d : ℕ) (history : History) → History
@@ -59,6 +79,6 @@ leaving window (suc d) n history =
 unfoldable pub advance : (window d : ℕ) (history : History) → History
 advance window d history = setBit 0 (pushes window d history)
 
--- d places up, cut at L, and bit k set: what the code does in one go (a lawful history needs no cut)
+-- d places up, and bit k set: what the code does in one go
 unfoldable pub marked : (window d k : ℕ) (history : History) → History
-marked window d k history = setBit k (pushes window d history % 2 ^ window)
+marked window d k history = setBit k (pushes window d history)

@@ -20,7 +20,8 @@ fn behind(s: Stream, k: u16) -> Weighed
     requires { ⌜ k < windowMost ⌝ }
     ensures { λ r. ⌜ ((number : ℕ) → r ≡ weighedAs s number (if bit k (s .state .history) then again else late k)) ⌝ }
 {
-    let h = s.state.history;
+    let t = s.state;
+    let h = t.history;
     if history::has_bit(h, k) {
         return Weighed::Duplicate;
     }
@@ -39,7 +40,8 @@ fn ahead(s: Stream, number: u16, k: u16) -> Weighed
     requires { ⌜ (1 ≤ k) × ((k < s .window) × (s .window ≤ windowMost)) ⌝ }
     ensures { λ r. ⌜ r ≡ weighedAs s number (next k) ⌝ }
 {
-    let h = s.state.history;
+    let t = s.state;
+    let h = t.history;
     let n = s.state.early;
     Weighed::HandedUp(Marks {
         places: k,

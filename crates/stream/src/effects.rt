@@ -19,7 +19,7 @@ pub fn counted(test: bool, count: u64) -> u64
 }
 
 // The history after marks. That of a match record stays, and so does one that the marks do not fit.
-fn history_after(h: u64, rule: u8, window: u16, m: Marks) -> u64
+fn history_after(h: [u64; 8], rule: u8, window: u16, m: Marks) -> [u64; 8]
     ensures { λ r. ⌜ r ≡ historyAfter rule window m h ⌝ }
 {
     if rule != Stream::VECTOR_RULE {
@@ -46,7 +46,9 @@ pub fn handed_up(s: Stream, network: u8, m: Marks) -> Stream
     c.passed = std::num::wrapping_add_u64(s.counts.passed, 1);
     c.disorder = counted(m.disorder, s.counts.disorder);
     c.lost = std::num::wrapping_add_u64(s.counts.lost, m.lost);
-    let history = history_after(s.state.history, s.rule, s.window, m);
+    let old = s.state;
+    let h = old.history;
+    let history = history_after(h, s.rule, s.window, m);
     let state = State {
         history,
         anchor: m.anchor,

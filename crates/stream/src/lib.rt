@@ -50,8 +50,9 @@ pub struct Ticked {
 fn fresh_state() -> State
     ensures { λ r. ⌜ r ≡ fresh ⌝ }
 {
+    let history = history::empty();
     State {
-        history: history::EMPTY,
+        history,
         anchor: FRESH_ANCHOR,
         remaining: 0,
         early: 0,
@@ -124,7 +125,7 @@ pub fn settled(s: Stream) -> bool
 }
 
 // The places left for numbers older than the first: the first stands next to them.
-fn is_placed(window: u16, n: u16, h: u64) -> bool
+fn is_placed(window: u16, n: u16, h: [u64; 8]) -> bool
     requires { ⌜ (windowLeast ≤ window) × (window ≤ windowMost) ⌝ }
     ensures { λ r. ⌜ r ≡ placed window n h ⌝ }
 {
@@ -160,7 +161,7 @@ fn is_plain(s: Stream) -> bool
 }
 
 // The other half: the history, and the places for older numbers, which are asked for last, since most often there are none.
-fn is_right(rule: u8, window: u16, any: u16, n: u16, h: u64) -> bool
+fn is_right(rule: u8, window: u16, any: u16, n: u16, h: [u64; 8]) -> bool
     requires { ⌜ (windowLeast ≤ window) × (window ≤ windowMost) ⌝ }
     ensures { λ r. ⌜ r ≡ right rule window any n h ⌝ }
 {
@@ -193,13 +194,9 @@ pub fn lawful(s: Stream) -> bool
     if !is_plain(s) {
         return false;
     }
-    is_right(
-        s.rule,
-        s.window,
-        s.state.any,
-        s.state.early,
-        s.state.history,
-    )
+    let t = s.state;
+    let h = t.history;
+    is_right(s.rule, s.window, t.any, t.early, h)
 }
 
 // The first step of the decision: what an arrival is to the record. It makes no record and reads no counter.
@@ -233,8 +230,9 @@ pub fn reset(s: Stream) -> Stream
 {
     let mut c = s.counts;
     c.resets = std::num::wrapping_add_u64(s.counts.resets, 1);
+    let state = fresh_state();
     let mut t = s;
-    t.state = fresh_state();
+    t.state = state;
     t.counts = c;
     t
 }

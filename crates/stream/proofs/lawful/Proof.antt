@@ -18,13 +18,13 @@ returns c =
 
 is-right-requires : tie.Need-is-right-requires
 is-right-requires c κs =
-    let s = c .before .before .args .s in
+    let s = c .before .before .before .before .args .s in
     let f = sizes {s = s} (plain-settled s (sym (search flags))) in
     (f .least, f .most)
 
 returns-2 : tie.Need-returns-2
 returns-2 c =
-    let s = c .before .before .before .args .s in
+    let s = c .before .before .before .before .before .args .s in
     let p : plain s ≡ true = sym (search flags) in
     c .is-right .ensures ∙ sym (halves s ∙ rw p)
 

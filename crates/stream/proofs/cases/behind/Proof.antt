@@ -15,14 +15,14 @@ has-bit-requires c κs = search needs
 returns : tie.Need-returns
 unfolding weighedAs
 returns c =
-    let a = c .before .before .args in
+    let a = c .before .before .before .before .args in
     let b : bit (a .k) (a .s .state .history) ≡ true = sym (search flags) in
     λ number. rw b
 
 returns-2 : tie.Need-returns-2
 unfolding weighedAs stateAfter losses outOfOrder
 returns-2 c =
-    let a = c .before .before .args in
+    let a = c .before .before .before .before .args in
     let b : bit (a .k) (a .s .state .history) ≡ false = sym (search flags) in
     λ number. rw b
 
