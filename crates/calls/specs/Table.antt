@@ -7,6 +7,7 @@ use lib.Dec.{eqb, ltb}
 use lib.ListN.{getD, length}
 use Rattle.record.specs.declared.Stream.{Stream}
 use Rattle.record.specs.Words.{if_then_else_, yes}
+use Rattle.stream.specs.History.{empty}
 use Rattle.calls.specs.declared.Found.{Found}
 use Rattle.calls.specs.declared.Found.the-variants.{At, Nothing}
 use Rattle.calls.specs.declared.Survey.{Survey}
@@ -23,7 +24,7 @@ blank = record {
   time = 0;
   rule = 0;
   used = 0;
-  state = record { history = 0; anchor = 0; remaining = 0; early = 0; any = 0 };
+  state = record { history = empty; anchor = 0; remaining = 0; early = 0; any = 0 };
   counts = record { arrivals0 = 0; arrivals1 = 0; passed = 0; discarded = 0; rogue = 0; disorder = 0; lost = 0; resets = 0 };
 }
 

@@ -8,6 +8,7 @@ use Rattle.record.specs.declared.Counts.{Counts}
 use Rattle.record.specs.declared.Stream.{Stream}
 use Rattle.record.specs.Sizes.{vectorRule, matchRule}
 use Rattle.frame.specs.Frame.{destOf}
+use Rattle.stream.specs.History.{holding}
 use Rattle.stream.specs.Record.{State, opened}
 use Rattle.stream.specs.Decisions.{Verdict, up, duplicate, rogue, with}
 use Rattle.calls.specs.Table.{Table, blank, at}
@@ -40,7 +41,7 @@ stream k rule window time t = with (opened (destOf (address k)) 0 rule window ti
 
 -- a state that has handed up
 abbrev pub since : (anchor history remaining : ℕ) → State
-since anchor history remaining = record { history = history; anchor = anchor; remaining = remaining; early = 0; any = 0 }
+since anchor history remaining = record { history = holding history; anchor = anchor; remaining = remaining; early = 0; any = 0 }
 
 -- what slot 0 sees of a run after another
 abbrev pub seenAfter : Table → (before after : List Call) → List Seen

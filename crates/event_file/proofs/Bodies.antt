@@ -6,7 +6,7 @@ use mathlib.Core.List.{List, [], _∷_}
 use lib.ListN.{length, getD}
 use borrow.Author.Tests.{lt-ltb, le-ltb, le-leb, lt-leb, ne-eqb}
 use Rattle.frame.specs.Bytes.{word}
-use Rattle.event_file.specs.Records.{OPEN, CLOSE, RESET, ARRIVAL, TICK, readAt, settingsOf, eventOf}
+use Rattle.event_file.specs.Records.{OPEN, CLOSE, RESET, ARRIVAL, TICK, WIDE, readAt, settingsOf, wideSettingsOf, eventOf}
 use Rattle.event_file.specs.declared.reader.Read.the-variants.{More, Body}
 use Rattle.event_file.specs.declared.reader.Settings.{Settings}
 use Rattle.event_file.specs.declared.reader.Event.the-variants.{Bad, Open, Close, Reset, Arrival, Tick}
@@ -37,6 +37,14 @@ module _ (b : List ℕ) where
   pub not-open : getD b 0 0 ≡ OPEN → (length b ≡ 13 → ⊥) → Bad ≡ eventOf b
   unfolding eventOf
   not-open k h = simp (k, ne-eqb _ _ h)
+
+  pub is-wide : {s : Settings} → getD b 0 0 ≡ WIDE → length b ≡ 14 → s ≡ wideSettingsOf b → Open s ≡ eventOf b
+  unfolding eventOf
+  is-wide k h e = simp (k, h) (ap Open e)
+
+  pub not-wide : getD b 0 0 ≡ WIDE → (length b ≡ 14 → ⊥) → Bad ≡ eventOf b
+  unfolding eventOf
+  not-wide k h = simp (k, ne-eqb _ _ h)
 
   pub is-close : {n : ℕ} → getD b 0 0 ≡ CLOSE → length b ≡ 2 → n ≡ getD b 1 0 → Close n ≡ eventOf b
   unfolding eventOf
@@ -70,6 +78,6 @@ module _ (b : List ℕ) where
   unfolding eventOf
   not-tick k h = simp (k, ne-eqb _ _ h)
 
-  pub unknown : (getD b 0 0 ≡ OPEN → ⊥) → (getD b 0 0 ≡ CLOSE → ⊥) → (getD b 0 0 ≡ RESET → ⊥) → (getD b 0 0 ≡ ARRIVAL → ⊥) → (getD b 0 0 ≡ TICK → ⊥) → Bad ≡ eventOf b
+  pub unknown : (getD b 0 0 ≡ OPEN → ⊥) → (getD b 0 0 ≡ CLOSE → ⊥) → (getD b 0 0 ≡ RESET → ⊥) → (getD b 0 0 ≡ ARRIVAL → ⊥) → (getD b 0 0 ≡ TICK → ⊥) → (getD b 0 0 ≡ WIDE → ⊥) → Bad ≡ eventOf b
   unfolding eventOf
-  unknown k1 k2 k3 k4 k5 = simp (ne-eqb _ _ k1, ne-eqb _ _ k2, ne-eqb _ _ k3, ne-eqb _ _ k4, ne-eqb _ _ k5)
+  unknown k1 k2 k3 k4 k5 k6 = simp (ne-eqb _ _ k1, ne-eqb _ _ k2, ne-eqb _ _ k3, ne-eqb _ _ k4, ne-eqb _ _ k5, ne-eqb _ _ k6)

@@ -2,7 +2,7 @@
 use mathlib.Core.Path.{refl}
 use Rattle.record.specs.Words.{yes}
 use Rattle.frame.specs.Frame.{groupSource, hasVlan, vlanOf, typeAt, isTagged, headShort, tagShort, headerOf, readOf, cutAt}
-use Rattle.stream.specs.History.{bitOf, isEmpty, bit, within}
+use Rattle.stream.specs.History.{value, wordsOf, bitOf, same, isEmpty, bit, within}
 use Rattle.stream.specs.Record.{isFresh, settled, placed, shaped, lawful, damaged}
 use Rattle.stream.specs.Decisions.{signed, difference, vectorCase, caseOf, stateAfter, outOfOrder, losses, tally, countsAfter, verdict, decided, reset, expires, ticked}
 use Rattle.calls.specs.Table.{search, someSlot, hasKey, isFree, count}
@@ -14,5 +14,5 @@ use Rattle.event_file.specs.Files.{entryFor, tableAfter, linesFrom, line
 use Rattle.event_file.specs.Example.{hex, ExampleRuns}
 
 pub example-runs : ExampleRuns
-unfolding yes groupSource hasVlan vlanOf typeAt isTagged headShort tagShort headerOf readOf cutAt bitOf isEmpty bit within isFresh settled lawful damaged placed shaped signed difference vectorCase caseOf stateAfter outOfOrder losses tally countsAfter verdict decided reset expires ticked search someSlot hasKey isFree count admitted arrivalAt arrival open-call checked act after answer digitsOf decimalOf recordsIn recordsOf eventOf askedBy asked answerOf lineOf entryFor tableAfter linesFrom linesOf hex
+unfolding yes groupSource hasVlan vlanOf typeAt isTagged headShort tagShort headerOf readOf cutAt value wordsOf bitOf same isEmpty bit within isFresh settled lawful damaged placed shaped signed difference vectorCase caseOf stateAfter outOfOrder losses tally countsAfter verdict decided reset expires ticked search someSlot hasKey isFree count admitted arrivalAt arrival open-call checked act after answer digitsOf decimalOf recordsIn recordsOf eventOf askedBy asked answerOf lineOf entryFor tableAfter linesFrom linesOf hex
 example-runs = refl

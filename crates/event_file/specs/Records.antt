@@ -59,6 +59,10 @@ ARRIVAL = 4
 abbrev pub TICK : ℕ
 TICK = 5
 
+-- an open whose L has two bytes
+abbrev pub WIDE : ℕ
+WIDE = 6
+
 -- a body of this kind, with so many bytes in all
 abbrev pub isBody : (kind size : ℕ) → List ℕ → Bool
 isBody kind size b = eqb (getD b 0 0) kind && eqb (length b) size
@@ -74,10 +78,15 @@ destinationOf b = getD b 1 0 ∷ getD b 2 0 ∷ getD b 3 0 ∷ getD b 4 0 ∷ ge
 abbrev pub settingsOf : List ℕ → Settings
 settingsOf b = record { vlan = word b 7; rule = getD b 9 0; window = getD b 10 0; time = word b 11 }
 
+-- open: destination 6, VLAN 2, rule 1, L 2, R 2
+abbrev pub wideSettingsOf : List ℕ → Settings
+wideSettingsOf b = record { vlan = word b 7; rule = getD b 9 0; window = word b 10; time = word b 12 }
+
 -- What a body says. A body of length 0, an unknown kind or a wrong length is bad.
 unfoldable pub eventOf : List ℕ → Event
 eventOf b =
     if isBody OPEN 13 b then Open (settingsOf b)
+    else if isBody WIDE 14 b then Open (wideSettingsOf b)
     else if isBody CLOSE 2 b then Close (getD b 1 0)
     else if isBody RESET 2 b then Reset (getD b 1 0)
     else if isArrival b then Arrival (getD b 1 0)

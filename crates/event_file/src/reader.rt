@@ -3,7 +3,7 @@ ghost use mathlib.Core.Path.{_≡_};
 ghost use Prim.Native.Nat.{_+_, _≤_, _<_};
 ghost use lib.ListN.{length, getD};
 ghost use Rattle.frame.specs.Bytes.{word};
-ghost use Rattle.event_file.specs.Records.{OPEN, readAt, eventOf, destinationOf};
+ghost use Rattle.event_file.specs.Records.{OPEN, WIDE, readAt, eventOf, destinationOf};
 
 // What stands at a place of the bytes read so far.
 pub enum Read {
@@ -44,6 +44,8 @@ const RESET: u8 = 3;
 const ARRIVAL: u8 = 4;
 
 const TICK: u8 = 5;
+
+const WIDE_OPEN: u8 = 6;
 
 fn wide(x: u8) -> u16
     ensures { λ r. ⌜ (r ≡ x) × (r < 256) ⌝ }
@@ -95,6 +97,22 @@ fn decode_open(body: &[u8]) -> Event
     })
 }
 
+// An open whose L has two bytes.
+fn decode_wide_open(body: &[u8]) -> Event
+    requires { ⌜ getD (now body) 0 0 ≡ WIDE ⌝ }
+    ensures { λ r. ⌜ r ≡ eventOf (now (body .entry)) ⌝ }
+{
+    if body.len() != 14 {
+        return Event::Bad;
+    }
+    Event::Open(Settings {
+        vlan: word_at(body, 7),
+        rule: body[9],
+        window: word_at(body, 10),
+        time: word_at(body, 12),
+    })
+}
+
 // What a body says, by its first byte, the kind, and its length.
 pub fn decode(body: &[u8]) -> Event
     ensures { λ r. ⌜ r ≡ eventOf (now (body .entry)) ⌝ }
@@ -129,7 +147,8 @@ pub fn decode(body: &[u8]) -> Event
             }
             Event::Tick
         }
-        0 | 6..=255 => Event::Bad,
+        WIDE_OPEN => decode_wide_open(body),
+        0 | 7..=255 => Event::Bad,
     }
 }
 

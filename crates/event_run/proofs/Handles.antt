@@ -18,7 +18,7 @@ use Rattle.calls.specs.declared.Answer as arrival
 use Rattle.calls.specs.declared.Opened.{Opened}
 use Rattle.calls.specs.declared.Done.{Done}
 use Rattle.calls.specs.declared.Swept.{Swept}
-use Rattle.event_file.specs.Records.{Asked, asks, askedBy, asked, eventOf, settingsOf, destinationOf, isBody, isArrival, OPEN, CLOSE, RESET, ARRIVAL, TICK}
+use Rattle.event_file.specs.Records.{Asked, asks, askedBy, asked, eventOf, settingsOf, wideSettingsOf, WIDE, destinationOf, isBody, isArrival, OPEN, CLOSE, RESET, ARRIVAL, TICK}
 use Rattle.event_file.specs.Lines.{told, saidTold}
 use Rattle.event_file.specs.Files.{letterFor, entryFor, tableAfter}
 use Rattle.event_file.specs.declared.reader.Settings.{Settings}
@@ -35,19 +35,20 @@ both : (a b : Bool) → (a && b) ≡ true → b ≡ true
 both true b e = e
 both false b e = absurd (let z : _≡_ {A = ℕ} 0 1 = cc in omega arith)
 
-only-arrival : (v : Settings) (i j k n : ℕ) (o c r a t : Bool) → Event.Arrival n ≡ (if o then Event.Open v else if c then Event.Close i else if r then Event.Reset j else if a then Event.Arrival k else if t then Event.Tick else Event.Bad) → a ≡ true
-only-arrival v i j k n true c r a t e = absurd (let z : _≡_ {A = ℕ} 0 1 = cc in omega arith)
-only-arrival v i j k n false true r a t e = absurd (let z : _≡_ {A = ℕ} 0 1 = cc in omega arith)
-only-arrival v i j k n false false true a t e = absurd (let z : _≡_ {A = ℕ} 0 1 = cc in omega arith)
-only-arrival v i j k n false false false true t e = refl
-only-arrival v i j k n false false false false true e = absurd (let z : _≡_ {A = ℕ} 0 1 = cc in omega arith)
-only-arrival v i j k n false false false false false e = absurd (let z : _≡_ {A = ℕ} 0 1 = cc in omega arith)
+only-arrival : (v u : Settings) (i j k n : ℕ) (o w c r a t : Bool) → Event.Arrival n ≡ (if o then Event.Open v else if w then Event.Open u else if c then Event.Close i else if r then Event.Reset j else if a then Event.Arrival k else if t then Event.Tick else Event.Bad) → a ≡ true
+only-arrival v u i j k n true w c r a t e = absurd (let z : _≡_ {A = ℕ} 0 1 = cc in omega arith)
+only-arrival v u i j k n false true c r a t e = absurd (let z : _≡_ {A = ℕ} 0 1 = cc in omega arith)
+only-arrival v u i j k n false false true r a t e = absurd (let z : _≡_ {A = ℕ} 0 1 = cc in omega arith)
+only-arrival v u i j k n false false false true a t e = absurd (let z : _≡_ {A = ℕ} 0 1 = cc in omega arith)
+only-arrival v u i j k n false false false false true t e = refl
+only-arrival v u i j k n false false false false false true e = absurd (let z : _≡_ {A = ℕ} 0 1 = cc in omega arith)
+only-arrival v u i j k n false false false false false false e = absurd (let z : _≡_ {A = ℕ} 0 1 = cc in omega arith)
 
 -- a body that says an arrival has its kind and its network
 pub arrival-long : (b : List ℕ) {network : ℕ} → Event.Arrival network ≡ eventOf b → 2 ≤ length b
 unfolding eventOf
 arrival-long b {network} e =
-    leb-true 2 (length b) (both (eqb (getD b 0 0) ARRIVAL) (leb 2 (length b)) (only-arrival (settingsOf b) (getD b 1 0) (getD b 1 0) (getD b 1 0) network (isBody OPEN 13 b) (isBody CLOSE 2 b) (isBody RESET 2 b) (isArrival b) (isBody TICK 1 b) e))
+    leb-true 2 (length b) (both (eqb (getD b 0 0) ARRIVAL) (leb 2 (length b)) (only-arrival (settingsOf b) (wideSettingsOf b) (getD b 1 0) (getD b 1 0) (getD b 1 0) network (isBody OPEN 13 b) (isBody WIDE 14 b) (isBody CLOSE 2 b) (isBody RESET 2 b) (isArrival b) (isBody TICK 1 b) e))
 
 -- so its frame starts within it
 pub frame-within : (s : List ℕ) (start end : ℕ) {network : ℕ} → end ≤ length s → Event.Arrival network ≡ eventOf (take (end - start) (drop start s)) → start + 2 ≤ end

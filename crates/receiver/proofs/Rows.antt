@@ -45,7 +45,7 @@ ty = T′.mir
 
 -- its size in bytes, which MIR multiplies an index by. `size-is` says that it is
 abbrev pub size : ℕ
-size = 96
+size = 152
 
 size-is : mem R .size ≡ size
 size-is = refl

@@ -42,6 +42,9 @@ shared-slice-read-t19 c = search needs
 returns-5 : tie.Need-returns-5
 returns-5 c = not-tick _ (c .before .match .keys5) (c .if5 .taken)
 
+decode-wide-open-requires : tie.Need-decode-wide-open-requires
+decode-wide-open-requires c κs = search needs
+
 returns-6 : tie.Need-returns-6
 returns-6 c = search needs
 
@@ -58,10 +61,13 @@ returns-10 : tie.Need-returns-10
 returns-10 c = is-tick _ (c .before .match .keys5) (c .if5 .left)
 
 returns-11 : tie.Need-returns-11
-returns-11 c = let k = c .match .keys6 in unknown _ (λ e. omega arith) (λ e. omega arith) (λ e. omega arith) (λ e. omega arith) (λ e. omega arith)
+returns-11 c = search needs
 
 returns-12 : tie.Need-returns-12
-returns-12 c = let k = c .match .rest in unknown _ (k .0 .0 .0 .0 .0 .1) (k .0 .0 .0 .0 .1) (k .0 .0 .0 .1) (k .0 .0 .1) (k .0 .1)
+returns-12 c = let k = c .match .keys7 in unknown _ (λ e. omega arith) (λ e. omega arith) (λ e. omega arith) (λ e. omega arith) (λ e. omega arith) (λ e. omega arith)
+
+returns-13 : tie.Need-returns-13
+returns-13 c = let k = c .match .rest in unknown _ (k .0 .0 .0 .0 .0 .0 .1) (k .0 .0 .0 .0 .0 .1) (k .0 .0 .0 .0 .1) (k .0 .0 .0 .1) (k .0 .0 .1) (k .0 .1)
 
 pub decode-spec : {M : Type 1} → statement M
 decode-spec =
@@ -79,10 +85,12 @@ decode-spec =
     returns-4
     shared-slice-read-t19
     returns-5
+    decode-wide-open-requires
     returns-6
     returns-7
     returns-8
     returns-9
     returns-10
     returns-11
-    returns-12)
+    returns-12
+    returns-13)
