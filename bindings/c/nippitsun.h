@@ -1,9 +1,9 @@
 /* Nippitsun for C and C++: a receiver for frames that arrive on two networks, and the redundancy tag in and out.
  *
- * The calls are the exported functions of the crates `port` and `port_batch`, proved to do what document 01 says, with orders 1,
- * 3 and 4 of document 02 (order 2 changes no answer). This header is written by hand: bindings/c/test.c holds it to the compiled
- * code, and bindings/check to the sources. C11 or C++11, x86-64; link with libport.a, which is called libnippitsun.a once it
- * is installed (docs/LINKING.md).
+ * The calls are the exported functions of the crates `port`, `port_batch` and `port_tick`, proved to do what document 01 says,
+ * with orders 1, 3 and 4 of document 02 (order 2 changes no answer). This header is written by hand: bindings/c/test.c holds it
+ * to the compiled code, and bindings/check to the sources. C11 or C++11, x86-64; link with libport.a, which is called
+ * libnippitsun.a once it is installed (docs/LINKING.md).
  *
  * What the caller owes. The proof takes it for granted, and no call can test it:
  *
@@ -235,7 +235,7 @@ nippitsun_tag_answer nippitsun_take_tag(const uint8_t *NIPPITSUN_APART frame, si
 nippitsun_tag_answer nippitsun_write_tag(const uint8_t *NIPPITSUN_APART frame, size_t frame_bytes, uint16_t number,
                                          uint8_t *NIPPITSUN_APART out, size_t out_bytes);
 
-/* ---- the layout, as the crates record, calls, batch and port have it */
+/* ---- the layout, as the crates record, calls, batch, port and port_tick have it */
 
 #define NIPPITSUN_TYPE(type, size) \
     NIPPITSUN_ASSERT(sizeof(type) == (size) && NIPPITSUN_ALIGNOF(type) == 8, "layout of " #type)

@@ -1,4 +1,4 @@
-// Links the archive of the proved crates `port` and `port_batch`. In the repository tools/archive makes it:
+// Links the archive of the proved crates `port`, `port_batch` and `port_tick`. In the repository tools/archive makes it:
 // target/native/libport.a. Where tools/install put this crate, it stands in the same prefix: lib/libnippitsun.a.
 // NIPPITSUN_ARCHIVES names another folder.
 use std::env;

@@ -89,7 +89,8 @@ const _: () = assert!(size_of::<SlotAnswer>() == 16 && align_of::<SlotAnswer>() 
 const _: () = assert!(size_of::<TickAnswer>() == 24 && align_of::<TickAnswer>() == 8);
 const _: () = assert!(size_of::<TagAnswer>() == 16 && align_of::<TagAnswer>() == 8);
 
-// A slice crosses as a pointer and a number of elements. bindings/check holds these to the crates port and port_batch.
+// A slice crosses as a pointer and a number of elements. bindings/check holds these to the crates port, port_batch
+// and port_tick.
 extern "C" {
     fn nippitsun_arrival(
         table: *mut Stream,

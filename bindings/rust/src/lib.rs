@@ -3,8 +3,8 @@
 //!
 //! [`Receiver`] owns a table of streams and decides each arrival: handed up, duplicate or rogue. A [`Batch`] is the answer to up
 //! to 32 frames in one call, each decided as if it had come alone. [`tag`] puts the redundancy tag into a frame and takes it
-//! out. The work is done by the archive of the proved crates `port` and `port_batch`; this crate gives its calls the types that
-//! Rust's compiler checks, and adds only what packs and unpacks a batch ([`batch`]).
+//! out. The work is done by the archive of the proved crates `port`, `port_batch` and `port_tick`; this crate gives its calls the
+//! types that Rust's compiler checks, and adds only what packs and unpacks a batch ([`batch`]).
 //!
 //! A call that can't do its work is refused with a [`Refusal`] and changes nothing: no record, no counter, no output byte.
 //! No call panics, allocates or blocks.

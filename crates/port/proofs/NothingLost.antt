@@ -17,14 +17,13 @@ use Rattle.frame.specs.Frame.{Tag, destOf, untagged}
 use Rattle.stream.specs.Record.{settled, lawful}
 use Rattle.stream.specs.Record as record′
 use Rattle.calls.specs.Table.{Table, at, search, someSlot, hasKey, isFree}
-use Rattle.calls.specs.Calls.{Call, arriving, opening, closing, resetting, ticking, Act, refuse, arrive, opens, closes, resets, ticks, Answer, Verdict, arrived, placed, done, swept, handedUp, duplicate, rogue, arrivalAt, arrival, inUse, open-call, checked, act, answer}
+use Rattle.calls.specs.Calls.{Call, arriving, opening, closing, resetting, ticking, Act, refuse, arrive, opens, closes, resets, ticks, Answer, Verdict, arrived, placed, done, handedUp, duplicate, rogue, arrivalAt, arrival, inUse, open-call, checked, act, answer}
 use Rattle.calls.specs.Refusals.{checksOf}
 use Rattle.calls.proofs.Exactly.{refused-exactly}
 use Rattle.calls.specs.declared.ArrivalAnswer.{ArrivalAnswer}
 use Rattle.port.specs.declared.SlotAnswer.{SlotAnswer}
-use Rattle.port.specs.declared.TickAnswer.{TickAnswer}
 use Rattle.calls.specs.Told.{tellArrival}
-use Rattle.port.specs.Answers.{tellOpened, tellDone, tellSwept, ArrivalTold, OpenTold, CloseTold, ResetTold, TickTold}
+use Rattle.port.specs.Answers.{tellOpened, tellDone, ArrivalTold, OpenTold, CloseTold, ResetTold}
 
 -- ---- no refusal has the number 0
 
@@ -36,13 +35,13 @@ positive t (closing i) = (omega arith, (omega arith, tt))
 positive t (resetting i) = (omega arith, (omega arith, (omega arith, tt)))
 positive t ticking = (omega arith, tt)
 
-never : (t : Table) (c : Call) → answer t (act t c) ≡ refused 0 → ⊥
+pub never : (t : Table) (c : Call) → answer t (act t c) ≡ refused 0 → ⊥
 never t c e = let z = first-positive 0 (checksOf t c) (positive t c) (refused-exactly t c 0 .0 e) in omega arith
 
 -- ---- what is told is read back
 
 -- the answer where nothing was refused
-abbrev unless : ℕ → Answer → Said Answer
+abbrev pub unless : ℕ → Answer → Said Answer
 unless zero a = answers a
 unless (suc n) a = refused (suc n)
 
@@ -57,9 +56,6 @@ readOpened a = unless (a .refusal) (placed (a .slot))
 
 abbrev readDone : ℕ → Said Answer
 readDone n = unless n done
-
-abbrev readSwept : TickAnswer → Said Answer
-readSwept a = unless (a .refusal) (swept (a .resets) (a .damaged))
 
 -- what each call may come to, beside a refusal
 abbrev Arrives : Act → Type 0
@@ -86,16 +82,8 @@ Slots (closes i) = Unit
 Slots (resets i) = Unit
 Slots ticks = ⊥
 
-abbrev Ticks : Act → Type 0
-Ticks (refuse n) = Unit
-Ticks (arrive i number network bare) = ⊥
-Ticks (opens i s) = ⊥
-Ticks (closes i) = ⊥
-Ticks (resets i) = ⊥
-Ticks ticks = Unit
-
 -- a check before it changes nothing of that
-either : (P : Act → Type 0) (b : Bool) (n : ℕ) (a : Act) → P (refuse n) → P a → P (cond b (refuse n) a)
+pub either : (P : Act → Type 0) (b : Bool) (n : ℕ) (a : Act) → P (refuse n) → P a → P (cond b (refuse n) a)
 either P true n a p q = p
 either P false n a p q = q
 
@@ -150,11 +138,7 @@ reset t i = go (ltb slotsMost (length t)) (not (inUse t i)) (not (settled (at t 
     go false false true = tt
     go false false false = tt
 
-ticked : (t : Table) → Ticks (act t ticking)
-unfolding act checked
-ticked t = either Ticks (ltb slotsMost (length t)) TABLE ticks tt tt
-
-read-refused : (n : ℕ) (a : Answer) → (_≡_ {A = Said Answer} (refused n) (refused 0) → ⊥) → unless n a ≡ refused n
+pub read-refused : (n : ℕ) (a : Answer) → (_≡_ {A = Said Answer} (refused n) (refused 0) → ⊥) → unless n a ≡ refused n
 read-refused zero a p = absurd (p refl)
 read-refused (suc n) a p = refl
 
@@ -190,18 +174,9 @@ read-done t (closes i) k p = refl
 read-done t (resets i) k p = refl
 read-done t ticks k p = absurd k
 
-read-swept : (t : Table) (a : Act) → Ticks a → (answer t a ≡ refused 0 → ⊥) → readSwept (tellSwept (answer t a)) ≡ answer t a
-unfolding answer
-read-swept t (refuse n) k p = read-refused n _ p
-read-swept t (arrive i number network bare) k p = absurd k
-read-swept t (opens i s) k p = absurd k
-read-swept t (closes i) k p = absurd k
-read-swept t (resets i) k p = absurd k
-read-swept t ticks k p = refl
-
 -- ---- so calls that are told alike said the same
 
-alike : {A : Type 0} (tell : Said Answer → A) (back : A → Said Answer) (x y : Said Answer) → back (tell x) ≡ x → back (tell y) ≡ y → tell x ≡ tell y → x ≡ y
+pub alike : {A : Type 0} (tell : Said Answer → A) (back : A → Said Answer) (x y : Said Answer) → back (tell x) ≡ x → back (tell y) ≡ y → tell x ≡ tell y → x ≡ y
 alike tell back x y p q e = sym p ∙ ap back e ∙ q
 
 pub arrival-told : ArrivalTold
@@ -217,6 +192,3 @@ close-told t i u j = alike tellDone readDone _ _ (read-done t _ (closed t i) (ne
 
 pub reset-told : ResetTold
 reset-told t i u j = alike tellDone readDone _ _ (read-done t _ (reset t i) (never t _)) (read-done u _ (reset u j) (never u _))
-
-pub tick-told : TickTold
-tick-told t u = alike tellSwept readSwept _ _ (read-swept t _ (ticked t) (never t _)) (read-swept u _ (ticked u) (never u _))

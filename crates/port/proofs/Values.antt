@@ -22,9 +22,6 @@ use Rattle.calls.proofs.ArrivalAnswer.Laws as ArrivalAnswer-laws
 use Rattle.port.specs.declared.SlotAnswer.{SlotAnswer}
 use Rattle.port.proofs.SlotAnswer as SlotAnswer-type
 use Rattle.port.proofs.SlotAnswer.Laws as SlotAnswer-laws
-use Rattle.port.specs.declared.TickAnswer.{TickAnswer}
-use Rattle.port.proofs.TickAnswer as TickAnswer-type
-use Rattle.port.proofs.TickAnswer.Laws as TickAnswer-laws
 
 -- ---- ArrivalAnswer
 abbrev pub arrivalanswer-row : RattleType
@@ -79,30 +76,3 @@ module _ {M : Type 1} (𝓤 : URA M) (H : Heap 𝓤) (A : Atoms 𝓤) (W : Given
 module _ {M : Type 1} {𝓤 : URA M} {H : Heap 𝓤} {A : Atoms 𝓤} {K : Type 0} {W : Given 𝓤 H A} {Γ : List (Item 𝓤)} {G : Goal 𝓤 H} where
   pub slotanswer-has : K → (v : SlotAnswer) → slotanswer-ok v → Step K W (‵ (slotanswer-row .own v (slotanswer-val v ∷ [])) ∷ Γ) G Γ G
   slotanswer-has t v g = owned t slotanswer-row (Is slotanswer-row) (Struct-laws.makes SlotAnswer-type.the-type SlotAnswer-laws.the-plain 𝓤 H A) v _ g
-
--- ---- TickAnswer
-abbrev pub tickanswer-row : RattleType
-tickanswer-row = TickAnswer-type.the-row
-
-abbrev pub tickanswer-ty : Ty
-tickanswer-ty = TickAnswer-laws.mir
-
-abbrev pub tickanswer-val : TickAnswer → Val
-tickanswer-val = Struct-laws.val TickAnswer-type.the-type TickAnswer-laws.the-laws
-
-abbrev pub tickanswer-spells : TickAnswer → List Val
-tickanswer-spells = Struct-laws.vals TickAnswer-type.the-type TickAnswer-laws.the-laws
-
-pub tickanswer-tells : Tells tickanswer-row (Is tickanswer-row) tickanswer-spells
-tickanswer-tells = Struct-laws.tells TickAnswer-type.the-type TickAnswer-laws.the-laws
-
-abbrev pub tickanswer-ok : TickAnswer → Type 0
-tickanswer-ok v = Is tickanswer-row v (tickanswer-val v ∷ [])
-
-module _ {M : Type 1} (𝓤 : URA M) (H : Heap 𝓤) (A : Atoms 𝓤) (W : Given 𝓤 H A) where
-  pub tickanswer-typed : (v : TickAnswer) → tickanswer-ok v → T (hasTy tickanswer-ty (tickanswer-val v)) × WT (tickanswer-val v)
-  tickanswer-typed v g = Struct-laws.lawful TickAnswer-type.the-type TickAnswer-laws.the-laws 𝓤 H A W .typed v _ g .0
-
-module _ {M : Type 1} {𝓤 : URA M} {H : Heap 𝓤} {A : Atoms 𝓤} {K : Type 0} {W : Given 𝓤 H A} {Γ : List (Item 𝓤)} {G : Goal 𝓤 H} where
-  pub tickanswer-has : K → (v : TickAnswer) → tickanswer-ok v → Step K W (‵ (tickanswer-row .own v (tickanswer-val v ∷ [])) ∷ Γ) G Γ G
-  tickanswer-has t v g = owned t tickanswer-row (Is tickanswer-row) (Struct-laws.makes TickAnswer-type.the-type TickAnswer-laws.the-plain 𝓤 H A) v _ g

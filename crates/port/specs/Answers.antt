@@ -5,13 +5,12 @@ use mathlib.Core.List.{List}
 use Rattle.refusal.specs.Checks.{Said}
 use Rattle.refusal.specs.Checks.Said.{refused, answers}
 use Rattle.calls.specs.Table.{Table}
-use Rattle.calls.specs.Calls.{Call, arriving, opening, closing, resetting, ticking, Answer, arrived, placed, done, swept, act, after, answer, output, outOf}
+use Rattle.calls.specs.Calls.{Call, arriving, opening, closing, resetting, Answer, arrived, placed, done, swept, act, after, answer, output, outOf}
 use Rattle.calls.specs.Told.{tellArrival}
 use Rattle.port.specs.declared.SlotAnswer.{SlotAnswer}
-use Rattle.port.specs.declared.TickAnswer.{TickAnswer}
 
--- Open tells the slot. (The last three are answers of other calls, which an open never has; so it is of each call below. An
--- arrival is told by `tellArrival` of `calls`.)
+-- Open tells the slot. (The last three are answers of other calls, which an open never has. An arrival is told by `tellArrival`
+-- of `calls`, a tick by `tellSwept` of `port_tick`.)
 abbrev pub tellOpened : Said Answer → SlotAnswer
 tellOpened (refused n) = record { slot = 0; refusal = n }
 tellOpened (answers (placed slot)) = record { slot = slot; refusal = 0 }
@@ -23,14 +22,6 @@ tellOpened (answers (swept streams records)) = record { slot = 0; refusal = 0 }
 abbrev pub tellDone : Said Answer → ℕ
 tellDone (refused n) = n
 tellDone (answers a) = 0
-
--- A tick tells how many streams it reset and how many records in use are damaged.
-abbrev pub tellSwept : Said Answer → TickAnswer
-tellSwept (refused n) = record { resets = 0; damaged = 0; refusal = n }
-tellSwept (answers (swept streams records)) = record { resets = streams; damaged = records; refusal = 0 }
-tellSwept (answers (arrived slot number v)) = record { resets = 0; damaged = 0; refusal = 0 }
-tellSwept (answers (placed slot)) = record { resets = 0; damaged = 0; refusal = 0 }
-tellSwept (answers done) = record { resets = 0; damaged = 0; refusal = 0 }
 
 -- The contract of every exported call on a table: what document 01 says of the call is told, and the table and the output
 -- bytes are those that it gives.
@@ -61,8 +52,3 @@ abbrev pub ResetTold : Type 0
 ResetTold =
     (t : Table) (i : ℕ) (u : Table) (j : ℕ) → tellDone (answer t (act t (resetting i))) ≡ tellDone (answer u (act u (resetting j)))
     → answer t (act t (resetting i)) ≡ answer u (act u (resetting j))
-
-abbrev pub TickTold : Type 0
-TickTold =
-    (t u : Table) → tellSwept (answer t (act t ticking)) ≡ tellSwept (answer u (act u ticking))
-    → answer t (act t ticking) ≡ answer u (act u ticking)

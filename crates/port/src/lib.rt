@@ -3,15 +3,14 @@
 ghost use mathlib.Core.Path.{_≡_};
 ghost use mathlib.Core.List.{[]};
 ghost use Rattle.frame.specs.TagCalls.{takeTag, writeTag};
-ghost use Rattle.calls.specs.Calls.{arriving, opening, closing, resetting, ticking};
-ghost use Rattle.calls.specs.Said.{saidOpened, saidDone, saidSwept};
+ghost use Rattle.calls.specs.Calls.{arriving, opening, closing, resetting};
+ghost use Rattle.calls.specs.Said.{saidOpened, saidDone};
 ghost use Rattle.calls.specs.Told.{tellArrival};
 ghost use Rattle.port.specs.Tags.{tellTaken, tellWritten};
-ghost use Rattle.port.specs.Answers.{tellOpened, tellDone, tellSwept, MeetsInC};
+ghost use Rattle.port.specs.Answers.{tellOpened, tellDone, MeetsInC};
 use calls::ArrivalAnswer;
 use calls::Done;
 use calls::Opened;
-use calls::Swept;
 use frame::Taken;
 use frame::Written;
 use record::Stream;
@@ -75,14 +74,6 @@ pub struct SlotAnswer {
     pub refusal: u8,
 }
 
-// The answer of a tick. Where it is refused, refusal is the number and the rest is 0; otherwise refusal is 0.
-#[repr(C)]
-pub struct TickAnswer {
-    pub resets: u64,
-    pub damaged: u64,
-    pub refusal: u8,
-}
-
 fn tell_opened(a: Opened) -> SlotAnswer
     ensures { λ r. ⌜ r ≡ tellOpened (saidOpened a) ⌝ }
 {
@@ -98,23 +89,6 @@ fn tell_done(a: Done) -> u8
     match a {
         Done::Refused(refusal) => refusal,
         Done::Ok => 0,
-    }
-}
-
-fn tell_swept(a: Swept) -> TickAnswer
-    ensures { λ r. ⌜ r ≡ tellSwept (saidSwept a) ⌝ }
-{
-    match a {
-        Swept::Refused(refusal) => TickAnswer {
-            resets: 0,
-            damaged: 0,
-            refusal,
-        },
-        Swept::Counted(resets, damaged) => TickAnswer {
-            resets,
-            damaged,
-            refusal: 0,
-        },
     }
 }
 
@@ -155,15 +129,6 @@ pub extern "C" fn nippitsun_reset(table: &mut [Stream], slot: usize) -> u8
 {
     let a = receiver::reset(table, slot);
     tell_done(a)
-}
-
-// Tick.
-#[no_mangle]
-pub extern "C" fn nippitsun_tick(table: &mut [Stream]) -> TickAnswer
-    ensures { λ r. ⌜ MeetsInC tellSwept (now (table .entry)) ticking r (now (table .exit)) [] ⌝ }
-{
-    let a = receiver::tick(table);
-    tell_swept(a)
 }
 
 // Open. The destination is six bytes.

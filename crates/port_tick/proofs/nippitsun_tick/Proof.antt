@@ -1,5 +1,5 @@
--- `port::nippitsun_tick` meets its contract: the receiver's call is lent the table, and what it says is told.
--- A walk of its MIR, made by walks/walk.py from walks/port/nippitsun_tick.walk: edit that. Assumes nothing.
+-- `port_tick::nippitsun_tick` meets its contract: the receiver's call is lent the table, and what it says is told.
+-- A walk of its MIR, made by walks/walk.py from walks/port_tick/nippitsun_tick.walk: edit that. Assumes nothing.
 use mathlib.Core.Path.{_≡_, refl}
 use Prim.Native.Nat.{ℕ}
 use mathlib.Core.List.{List, [], _∷_}
@@ -35,27 +35,28 @@ use Rattle.record.specs.declared.Stream.{Stream}
 use Rattle.calls.specs.declared.Swept.{Swept}
 use Rattle.calls.specs.Calls.{ticking, Meets as CallMeets}
 use Rattle.calls.specs.Said.{saidSwept}
-use Rattle.port.specs.declared.TickAnswer.{TickAnswer}
-use Rattle.port.specs.Answers.{tellSwept, MeetsInC}
+use Rattle.port.specs.Answers.{MeetsInC}
+use Rattle.port.proofs.Answers.{meets-told}
+use Rattle.port_tick.specs.declared.TickAnswer.{TickAnswer}
+use Rattle.port_tick.specs.Tick.{tellSwept}
 use Rattle.receiver.proofs.Calling.{calls-value}
 use Rattle.receiver.proofs.Enums.{swept-val, swept-tells, swept-typed, swept-has}
 use Rattle.receiver.proofs.Handing.{owns-slice}
 use Rattle.receiver.proofs.Lending.{mut-own, calls-mut}
 use Rattle.receiver.proofs.Rows.{R, enters-mut}
-use Rattle.port.proofs.Answers.{meets-told}
-use Rattle.port.proofs.Values.{tickanswer-val, tickanswer-tells, tickanswer-ok, tickanswer-typed, tickanswer-has}
+use Rattle.port_tick.proofs.Values.{tickanswer-val, tickanswer-tells, tickanswer-ok, tickanswer-typed, tickanswer-has}
 use Rattle.receiver.proofs.tick as fn-tick
 use Rattle.receiver.proofs.tick.Symbol as fn-tick-def
 use Rattle.receiver.proofs.tick.Symbol.{name as #receiver·tick}
 use Rattle.receiver.proofs.tick.Met as fn-tick-met
-use Rattle.port.proofs.tell_swept as fn-tell-swept
-use Rattle.port.proofs.tell_swept.Symbol as fn-tell-swept-def
-use Rattle.port.proofs.tell_swept.Symbol.{name as #port·tell-swept}
-use Rattle.port.proofs.tell_swept.Met as fn-tell-swept-met
-use Rattle.port.proofs.nippitsun_tick.Key.{name as #port·nippitsun-tick}
-use Rattle.port.proofs.nippitsun_tick as fn
-use Rattle.port.proofs.nippitsun_tick.Statement as stated
-use Rattle.port.proofs.nippitsun_tick.Code as code
+use Rattle.port_tick.proofs.tell_swept as fn-tell-swept
+use Rattle.port_tick.proofs.tell_swept.Symbol as fn-tell-swept-def
+use Rattle.port_tick.proofs.tell_swept.Symbol.{name as #port-tick·tell-swept}
+use Rattle.port_tick.proofs.tell_swept.Met as fn-tell-swept-met
+use Rattle.port_tick.proofs.nippitsun_tick.Key.{name as #port-tick·nippitsun-tick}
+use Rattle.port_tick.proofs.nippitsun_tick as fn
+use Rattle.port_tick.proofs.nippitsun_tick.Statement as stated
+use Rattle.port_tick.proofs.nippitsun_tick.Code as code
 
 abbrev stayed : Stays (fn.ended .signature .params) (fn.ended .kept)
 stayed = (stay-slice (0 ∷ []) tt (plain (λ _. R)), tt)
@@ -69,7 +70,7 @@ module _ {M : Type 1} (𝓤 : URA M) (H : Heap 𝓤) (A : Atoms 𝓤) (mem : Mem
 
   pub record Known (C : Calls 𝓤 H) : Type 1 where
     pub tick′ : Triple 𝓤 (C #receiver·tick) Tick
-    pub tell-swept′ : Triple 𝓤 (C #port·tell-swept) TellSwept
+    pub tell-swept′ : Triple 𝓤 (C #port-tick·tell-swept) TellSwept
 
 module _ {M : Type 1} (𝓤 : URA M) (H : Heap 𝓤) (A : Atoms 𝓤) (W : Given 𝓤 H A) (mem : Memory → SProp 𝓤) (run : Routine → Fun 𝓤) (κ : Lft) (q : Share) (b o : ℕ) (γ : GName) (ys : List Stream) where
   abbrev x : RefT (List Stream) × Unit {0}
@@ -120,10 +121,10 @@ pub nippitsun-tick-spec : {M : Type 1} → stated.statement M
 unfolding code.routine tablesOf
 nippitsun-tick-spec 𝓤 H 𝓜 𝓖 𝓡 =
     entered 𝓤 H (tripleOf 𝓤 H (𝓖 .A) fn.signature (fn.spec 𝓤 H (𝓖 .A) (𝓜 .mem) (𝓡 .run)))
-    (tables 𝓤 H 𝓜 𝓡 code.env .C) (tables 𝓤 H 𝓜 𝓡 code.env .Λ) #port·nippitsun-tick code.function (code.unfolded 𝓤 H 𝓜 𝓡)
+    (tables 𝓤 H 𝓜 𝓡 code.env .C) (tables 𝓤 H 𝓜 𝓡 code.env .Λ) #port-tick·nippitsun-tick code.function (code.unfolded 𝓤 H 𝓜 𝓡)
     (meets 𝓤 H (𝓖 .A) (givenOf 𝓤 H 𝓜 𝓖) (𝓜 .mem) (𝓡 .run) (tablesOf 𝓤 H 𝓜 (tables 𝓤 H 𝓜 𝓡 code.env)) (record {
       tick′ = cited 𝓤 H (Tick 𝓤 H (𝓖 .A) (𝓜 .mem) (𝓡 .run)) 𝓜 𝓡 code.env #receiver·tick fn-tick-def.routine code.calls-receiver·tick (fn-tick-met.met 𝓤 H 𝓜 𝓖 𝓡);
-      tell-swept′ = cited 𝓤 H (TellSwept 𝓤 H (𝓖 .A) (𝓜 .mem) (𝓡 .run)) 𝓜 𝓡 code.env #port·tell-swept fn-tell-swept-def.routine code.calls-port·tell-swept (fn-tell-swept-met.met 𝓤 H 𝓜 𝓖 𝓡);
+      tell-swept′ = cited 𝓤 H (TellSwept 𝓤 H (𝓖 .A) (𝓜 .mem) (𝓡 .run)) 𝓜 𝓡 code.env #port-tick·tell-swept fn-tell-swept-def.routine code.calls-port-tick·tell-swept (fn-tell-swept-met.met 𝓤 H 𝓜 𝓖 𝓡);
     }))
   where
     meets : {M : Type 1} (𝓤 : URA M) (H : Heap 𝓤) (A : Atoms 𝓤) → Given 𝓤 H A → (mem : Memory → SProp 𝓤) (run : Routine → Fun 𝓤) (𝓣 : Tables 𝓤 H) → Known 𝓤 H A mem run (𝓣 .C)

@@ -1,8 +1,8 @@
--- `port::tell_swept` meets its contract. Assumes nothing.
+-- `port_tick::tell_swept` meets its contract. Assumes nothing.
 use mathlib.Core.Path.{refl}
 use borrow.Author.Needs.{needs}
-use Rattle.port.proofs.tell_swept.Statement.{statement}
-use Rattle.port.proofs.tell_swept.Tie as tie
+use Rattle.port_tick.proofs.tell_swept.Statement.{statement}
+use Rattle.port_tick.proofs.tell_swept.Tie as tie
 
 enum-known-a : tie.Need-enum-known-a
 enum-known-a c = search needs
