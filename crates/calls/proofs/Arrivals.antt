@@ -54,7 +54,7 @@ weighed-verdict : (s : Stream) (number : ℕ) → lawful s ≡ true
 unfolding weighed weighedAs decisions.verdict
 weighed-verdict s number l = rw l
 
-no-verdict : (s : Stream) (network : ℕ) → recordAfter s network weighs.Damaged ≡ s
+pub no-verdict : (s : Stream) (network : ℕ) → recordAfter s network weighs.Damaged ≡ s
 unfolding recordAfter
 no-verdict s network = refl
 

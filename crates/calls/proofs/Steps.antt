@@ -1,14 +1,14 @@
 -- What the steps of a call come to, by the tests that the code makes. Assumes nothing.
 use Prim.Native.Nat.{ℕ, _≤_, _<_}
-use mathlib.Core.Path.{_≡_, sym, ap, _∙_}
-use mathlib.Core.Bool.{Bool, true, false, _&&_, and-true, and-false}
+use mathlib.Core.Path.{_≡_, refl, sym, ap, _∙_}
+use mathlib.Core.Bool.{Bool, true, false, true≢false, _&&_, and-true, and-false}
 use mathlib.Core.List.{List}
 use lib.Dec.{ltb}
 use borrow.Author.Tests.{lt-ltb, le-ltb, eq-eqb, ne-eqb}
 use Rattle.refusal.specs.Checks.Said.{refused, answers}
 use Rattle.refusal.specs.Numbers.{TABLE, NETWORK, DAMAGED, ROOM, TAKEN, FULL, SLOT, GROUP}
 use Rattle.record.specs.declared.Stream.{Stream}
-use Rattle.record.specs.Words.{yes}
+use Rattle.record.specs.Words.{if_then_else_, yes}
 use Rattle.record.specs.Sizes.{slotsMost}
 use Rattle.frame.specs.TagCalls.{saidRead, refusalOf}
 use Rattle.frame.specs.Frame.{groupSource, readOf}
@@ -17,8 +17,10 @@ use Rattle.frame.specs.declared.TagRead.{TagRead}
 use Rattle.frame.specs.declared.TagRead.the-variants as read
 use Rattle.stream.specs.Record.{settled, lawful, closed}
 use Rattle.stream.specs.Decisions as decisions
+use Rattle.stream.specs.declared.Marks.{Marks}
 use Rattle.stream.specs.declared.Weighed.{Weighed}
-use Rattle.stream.specs.Steps.{weighed}
+use Rattle.stream.specs.declared.Weighed.the-variants as weighs
+use Rattle.stream.specs.Steps.{marksOf, answer, weighedAs, weighed}
 use Rattle.calls.specs.Calls.{admitted}
 use Rattle.calls.specs.declared.Found.the-variants.{At, Nothing}
 use Rattle.calls.specs.declared.Survey.{Survey}
@@ -61,18 +63,57 @@ module _ (slots network : ℕ) (f : List ℕ) where
 
 -- ---- judge
 
-module _ (s : Stream) (number : ℕ) (room : Bool) where
-  pub judge-damaged : lawful s ≡ false → judges.Refused DAMAGED ≡ judged s number room
-  unfolding judged
-  judge-damaged l = rw l
+-- what `judged_as` says of its result j
+abbrev Granted : Weighed → (room : Bool) → Judged → Type 0
+Granted w room j = (w ≡ weighs.Damaged → j ≡ judges.Refused DAMAGED) × ((w ≡ weighs.Damaged → ⊥) → j ≡ (if room then judgedAs w else judges.Refused ROOM))
 
-  pub judge-small : lawful s ≡ true → room ≡ false → judges.Refused ROOM ≡ judged s number room
-  unfolding judged
-  judge-small l r = rw (l, r)
+abbrev has-verdict : Weighed → Bool
+has-verdict weighs.Damaged = false
+has-verdict (weighs.HandedUp m) = true
+has-verdict weighs.Duplicate = true
+has-verdict weighs.Rogue = true
 
-  pub judge-weighed : {w : Weighed} {j : Judged} → lawful s ≡ true → room ≡ true → w ≡ weighed s number → j ≡ judgedAs w → j ≡ judged s number room
-  unfolding judged
-  judge-weighed l r e k = k ∙ rw (l, r, e)
+not-damaged : (w : Weighed) → has-verdict w ≡ true → w ≡ weighs.Damaged → ⊥
+not-damaged w v e = true≢false (sym v ∙ ap has-verdict e)
+
+module _ {w : Weighed} (room : Bool) where
+  pub granted-none : w ≡ weighs.Damaged → Granted w room (judges.Refused DAMAGED)
+  granted-none e = (λ _. refl, λ n. absurd (n e))
+
+  pub granted-up : {m : Marks} → w ≡ weighs.HandedUp m → room ≡ true → Granted w room (judges.HandedUp m)
+  granted-up e r = (λ d. absurd (not-damaged _ refl (sym e ∙ d)), λ _. rw (e, r))
+
+  pub granted-duplicate : w ≡ weighs.Duplicate → room ≡ true → Granted w room judges.Duplicate
+  granted-duplicate e r = (λ d. absurd (not-damaged _ refl (sym e ∙ d)), λ _. rw (e, r))
+
+  pub granted-rogue : w ≡ weighs.Rogue → room ≡ true → Granted w room judges.Rogue
+  granted-rogue e r = (λ d. absurd (not-damaged _ refl (sym e ∙ d)), λ _. rw (e, r))
+
+  pub granted-small : {v : Weighed} → has-verdict v ≡ true → w ≡ v → room ≡ false → Granted w room (judges.Refused ROOM)
+  granted-small h e r = (λ d. absurd (not-damaged _ h (sym e ∙ d)), λ _. rw r)
+
+-- a record that is not lawful has no verdict, and a lawful one has one
+unjudged : (s : Stream) (number : ℕ) → lawful s ≡ false → weighed s number ≡ weighs.Damaged
+unfolding weighed
+unjudged s number l = rw l
+
+answered : (v : decisions.Verdict) (m : Marks) → has-verdict (answer v m) ≡ true
+answered decisions.up m = refl
+answered decisions.duplicate m = refl
+answered decisions.rogue m = refl
+
+judged-so : (s : Stream) (number : ℕ) → lawful s ≡ true → has-verdict (weighed s number) ≡ true
+unfolding weighed weighedAs
+judged-so s number l = let k = decisions.caseOf s number in rw l (answered (decisions.verdictOf k) (marksOf s number k))
+
+pub judge-granted : (s : Stream) (number : ℕ) (room : Bool) {w : Weighed} {j : Judged} → w ≡ weighed s number → Granted w room j → j ≡ judged s number room
+unfolding judged
+judge-granted s number room {w} {j} e g = go (lawful s) room refl g
+  where
+    go : (l m : Bool) → lawful s ≡ l → Granted w m j → j ≡ judged s number m
+    go false m l g = g .0 (e ∙ unjudged s number l) ∙ rw l
+    go true false l g = g .1 (not-damaged w (ap has-verdict e ∙ judged-so s number l)) ∙ rw l
+    go true true l g = g .1 (not-damaged w (ap has-verdict e ∙ judged-so s number l)) ∙ rw (l, e)
 
 -- ---- place
 

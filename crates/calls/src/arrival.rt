@@ -11,9 +11,10 @@ ghost use mathlib.Core.Path.{_≡_};
 ghost use Prim.Native.Nat.{_-_};
 ghost use lib.ListN.{length};
 ghost use Rattle.refusal.specs.Checks.Said.{refused};
-ghost use Rattle.refusal.specs.Numbers.{UNKNOWN};
+ghost use Rattle.refusal.specs.Numbers.{DAMAGED, ROOM, UNKNOWN};
+ghost use Rattle.record.specs.Words.{if_then_else_};
 ghost use Rattle.calls.specs.Said.{saidArrival};
-ghost use Rattle.calls.specs.Steps.{saidAsked, asked, refusalIn, hasRoom, judgedAs, judged, weighedIn, recordOf, finished, bytesOf};
+ghost use Rattle.calls.specs.Steps.{saidAsked, asked, refusalIn, hasRoom, judgedAs, judged, finished, bytesOf};
 
 // Arrival: 1 and 2, then 3, 4 and 5 as the frame's reader gives them, then 14.
 pub fn ask(slots: usize, network: u8, frame: &[u8]) -> Asked
@@ -69,50 +70,43 @@ fn bare_length(frame: &[u8]) -> usize
     frame.len() - 6
 }
 
-// Arrival: 7, then 8, then what it is to its record. Nothing is marked yet: the room for it has to be known before. `weigh`
-// asks for a lawful record again: the compiler leaves that out, and so nothing of what the arrival is has to be kept over 8.
+// Arrival: 7, then 8, then what it is to its record. Nothing is marked yet: the room for it has to be known before. The record
+// is weighed once, and 8 is asked for in each verdict's arm: so no test of the record is made twice, and nothing is joined.
 pub fn judge(s: Stream, number: u16, room: bool) -> Judged
     ensures { λ r. ⌜ r ≡ judged s number room ⌝ }
 {
-    if !stream::lawful(s) {
-        return Judged::Refused(refusal::DAMAGED);
-    }
-    if !room {
-        return Judged::Refused(refusal::ROOM);
-    }
     let w = stream::weigh(s, number);
-    judged_as(w)
+    judged_as(w, room)
 }
 
-// What the first step of the decision found: 7 where there is no verdict.
-fn judged_as(w: Weighed) -> Judged
-    ensures { λ r. ⌜ r ≡ judgedAs w ⌝ }
+// What the first step of the decision found: 7 where there is no verdict, and 8 where there is one and no room.
+fn judged_as(w: Weighed, room: bool) -> Judged
+    ensures { λ r. ⌜ (w ≡ Weighed.Damaged → r ≡ Judged.Refused DAMAGED) × ((w ≡ Weighed.Damaged → ⊥) → r ≡ (if room then judgedAs w else Judged.Refused ROOM)) ⌝ }
 {
     match w {
         Weighed::Damaged => Judged::Refused(refusal::DAMAGED),
-        Weighed::HandedUp(m) => Judged::HandedUp(m),
-        Weighed::Duplicate => Judged::Duplicate,
-        Weighed::Rogue => Judged::Rogue,
+        Weighed::HandedUp(m) => {
+            if room {
+                Judged::HandedUp(m)
+            } else {
+                Judged::Refused(refusal::ROOM)
+            }
+        }
+        Weighed::Duplicate => {
+            if room {
+                Judged::Duplicate
+            } else {
+                Judged::Refused(refusal::ROOM)
+            }
+        }
+        Weighed::Rogue => {
+            if room {
+                Judged::Rogue
+            } else {
+                Judged::Refused(refusal::ROOM)
+            }
+        }
     }
-}
-
-// The same for the second step. A refused arrival leaves the record as it is, as one without a verdict does.
-fn weighed_as(j: Judged) -> Weighed
-    ensures { λ r. ⌜ r ≡ weighedIn j ⌝ }
-{
-    match j {
-        Judged::Refused(_) => Weighed::Damaged,
-        Judged::HandedUp(m) => Weighed::HandedUp(m),
-        Judged::Duplicate => Weighed::Duplicate,
-        Judged::Rogue => Weighed::Rogue,
-    }
-}
-
-// The record after it. The second step is called at one place, so that no record is copied around a call.
-pub fn record_after(s: Stream, network: u8, j: Judged) -> Stream
-    ensures { λ r. ⌜ r ≡ recordOf s network j ⌝ }
-{
-    stream::next(s, network, weighed_as(j))
 }
 
 // The answer; and where the frame is handed up, the frame without its tag at the start of the output.

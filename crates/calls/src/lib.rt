@@ -8,7 +8,6 @@ pub use arrival::ask;
 pub use arrival::finish;
 pub use arrival::fits;
 pub use arrival::judge;
-pub use arrival::record_after;
 pub use arrival::refused;
 pub use arrival::unknown;
 use frame::Header;

@@ -33,9 +33,13 @@ use Rattle.frame.proofs.Header.Laws as Header-laws
 use Rattle.calls.specs.declared.Asked.{Asked}
 use Rattle.calls.proofs.Asked as Asked-type
 use Rattle.calls.proofs.Asked.Laws as Asked-laws
+use Rattle.stream.specs.declared.Marks.{Marks}
+use Rattle.calls.specs.declared.Judged.{Judged}
+use Rattle.calls.proofs.Judged as Judged-type
+use Rattle.calls.proofs.Judged.Laws as Judged-laws
 use Rattle.receiver.proofs.Rows.{Ok}
-use Rattle.receiver.proofs.Values.{sums-ok, visited-ok, change-ok, placing-ok, header-ok}
-use Rattle.receiver.proofs.Enums.{found-ok, done-ok, swept-ok, opened-ok, asked-ok}
+use Rattle.receiver.proofs.Values.{sums-ok, visited-ok, change-ok, placing-ok, header-ok, marks-ok}
+use Rattle.receiver.proofs.Enums.{found-ok, done-ok, swept-ok, opened-ok, asked-ok, judged-ok}
 
 pub at-ok : (i : ℕ) → i < 2 ^ 64 → found-ok (Found.At i)
 at-ok i g = Enum-laws.owes Found-type.the-type Found-laws.the-laws (Found.At i) ((refl, g), tt)
@@ -94,6 +98,10 @@ asked-header h number g = Enum-laws.owed Asked-type.the-type Asked-laws.the-laws
 
 pub asked-number : (h : Header) (number : ℕ) → asked-ok (Asked.For h number) → number < 2 ^ 16
 asked-number h number g = Enum-laws.owed Asked-type.the-type Asked-laws.the-laws (Asked.For h number) _ g .1 .0 .1
+
+-- what a frame that is handed up marks
+pub judged-marks : (m : Marks) → judged-ok (Judged.HandedUp m) → marks-ok m
+judged-marks m g = Enum-laws.owed Judged-type.the-type Judged-laws.the-laws (Judged.HandedUp m) _ g .0
 
 pub header-dest : (h : Header) → header-ok h → h .dest < 2 ^ 64
 header-dest h g = Struct-laws.owed Header-type.the-type Header-laws.the-laws h _ g .0 .1

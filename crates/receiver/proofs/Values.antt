@@ -39,6 +39,9 @@ use Rattle.calls.proofs.Placing.Laws as Placing-laws
 use Rattle.frame.specs.declared.Header.{Header}
 use Rattle.frame.proofs.Header as Header-type
 use Rattle.frame.proofs.Header.Laws as Header-laws
+use Rattle.stream.specs.declared.Marks.{Marks}
+use Rattle.stream.proofs.Marks as Marks-type
+use Rattle.stream.proofs.Marks.Laws as Marks-laws
 
 -- ---- Survey
 abbrev pub survey-row : RattleType
@@ -201,6 +204,33 @@ module _ {M : Type 1} (𝓤 : URA M) (H : Heap 𝓤) (A : Atoms 𝓤) (W : Given
 module _ {M : Type 1} {𝓤 : URA M} {H : Heap 𝓤} {A : Atoms 𝓤} {K : Type 0} {W : Given 𝓤 H A} {Γ : List (Item 𝓤)} {G : Goal 𝓤 H} where
   pub header-has : K → (v : Header) → header-ok v → Step K W (‵ (header-row .own v (header-val v ∷ [])) ∷ Γ) G Γ G
   header-has t v g = owned t header-row (Is header-row) (Struct-laws.makes Header-type.the-type Header-laws.the-plain 𝓤 H A) v _ g
+
+-- ---- Marks
+abbrev pub marks-row : RattleType
+marks-row = Marks-type.the-row
+
+abbrev pub marks-ty : Ty
+marks-ty = Marks-laws.mir
+
+abbrev pub marks-val : Marks → Val
+marks-val = Struct-laws.val Marks-type.the-type Marks-laws.the-laws
+
+abbrev pub marks-spells : Marks → List Val
+marks-spells = Struct-laws.vals Marks-type.the-type Marks-laws.the-laws
+
+pub marks-tells : Tells marks-row (Is marks-row) marks-spells
+marks-tells = Struct-laws.tells Marks-type.the-type Marks-laws.the-laws
+
+abbrev pub marks-ok : Marks → Type 0
+marks-ok v = Is marks-row v (marks-val v ∷ [])
+
+module _ {M : Type 1} (𝓤 : URA M) (H : Heap 𝓤) (A : Atoms 𝓤) (W : Given 𝓤 H A) where
+  pub marks-typed : (v : Marks) → marks-ok v → T (hasTy marks-ty (marks-val v)) × WT (marks-val v)
+  marks-typed v g = Struct-laws.lawful Marks-type.the-type Marks-laws.the-laws 𝓤 H A W .typed v _ g .0
+
+module _ {M : Type 1} {𝓤 : URA M} {H : Heap 𝓤} {A : Atoms 𝓤} {K : Type 0} {W : Given 𝓤 H A} {Γ : List (Item 𝓤)} {G : Goal 𝓤 H} where
+  pub marks-has : K → (v : Marks) → marks-ok v → Step K W (‵ (marks-row .own v (marks-val v ∷ [])) ∷ Γ) G Γ G
+  marks-has t v g = owned t marks-row (Is marks-row) (Struct-laws.makes Marks-type.the-type Marks-laws.the-plain 𝓤 H A) v _ g
 
 -- ---- Six: 6 bytes, [u8; 6]
 abbrev pub Six : Type 0

@@ -85,13 +85,25 @@ fn sweep(t: &mut [Stream]) -> Sums
 }
 
 // One record decided: what the arrival is to it, and the record after it. The record is read again on purpose: so no
-// counter is carried over the first step.
+// counter is carried over the first step. It is stored in each verdict's arm: so each verdict stores only what it changes,
+// and a refused arrival stores nothing.
 fn decide_at(t: &mut [Stream], i: usize, network: u8, number: u16, room: bool) -> Judged
     requires { ⌜ i < length (now t) ⌝ }
     ensures { λ r. ⌜ (r ≡ judged (at (now (t .entry)) i) number room) × (now (t .exit) ≡ set (now (t .entry)) i (recordOf (at (now (t .entry)) i) network r)) ⌝ }
 {
     let j = calls::judge(t[i], number, room);
-    t[i] = calls::record_after(t[i], network, j);
+    match j {
+        Judged::Refused(_) => {}
+        Judged::HandedUp(m) => {
+            t[i] = stream::handed_up(t[i], network, m);
+        }
+        Judged::Duplicate => {
+            t[i] = stream::duplicate(t[i], network);
+        }
+        Judged::Rogue => {
+            t[i] = stream::rogue(t[i], network);
+        }
+    }
     j
 }
 

@@ -6,6 +6,9 @@ mod history;
 mod number;
 
 pub use effects::counted;
+pub use effects::duplicate;
+pub use effects::handed_up;
+pub use effects::rogue;
 use record::Counts;
 use record::State;
 use record::Stream;
