@@ -245,41 +245,56 @@ fn move_word(word: &mut u64, window: u32, d: u32) -> u64 {
     d as u64 - ones
 }
 
-/// Moves words up by 1 to 63 places; a bit comes in at place 0.
+/// Moves words up by 1 to 63 places, and cuts the last one. A bit comes in at place 0.
 #[inline(always)]
-fn shift(words: &mut [u64], d: u32) {
+fn shift(words: &mut [u64], d: u32, cut: u64) {
     let mut carry = 1;
-    for w in words {
-        let out = *w >> (64 - d);
-        *w = *w << d | carry;
-        carry = out;
+    if let Some((last, others)) = words.split_last_mut() {
+        for w in others {
+            let out = *w >> (64 - d);
+            *w = *w << d | carry;
+            carry = out;
+        }
+        *last = (*last << d | carry) & cut;
     }
 }
 
 /// The same in a window of more than one word. Only the words that the window has are read and written.
+#[inline(always)]
 fn move_words(history: &mut History, window: u16, d: u16) -> u64 {
+    if d == 1 {
+        let (top, place) = last(window);
+        let words = &mut history[..=top];
+        let lost = 1 - (words[top] >> place);
+        shift(words, 1, u64::MAX >> (63 - place));
+        lost
+    } else {
+        move_far(history, window, d)
+    }
+}
+
+/// By more than one place: a call of its own, so that it keeps no registers from the common case.
+#[inline(never)]
+fn move_far(history: &mut History, window: u16, d: u16) -> u64 {
     let (top, place) = last(window);
     let words = &mut history[..=top];
-    let lost;
-    if d == 1 {
-        lost = 1 - (words[top] >> place);
-        shift(words, 1);
+    let cut = u64::MAX >> (63 - place);
+    let lost = d as u64 - ones_from(words, (window - d) as usize);
+    if d < 64 {
+        shift(words, d as u32, cut);
     } else {
-        lost = d as u64 - ones_from(words, (window - d) as usize);
-        if d < 64 {
-            shift(words, d as u32);
-        } else {
-            // Whole words first, from the highest on; those that nothing comes to are empty.
-            let (whole, rest) = (d as usize / 64, d as u32 % 64);
-            for i in (whole + 1..=top).rev() {
-                words[i] = words[i - whole] << rest | words[i - whole - 1] >> 1 >> (63 - rest);
-            }
-            words[whole] = words[0] << rest;
-            words[..whole].fill(0);
-            words[0] = 1;
+        // Whole words first, from the highest on; those that nothing comes to are empty.
+        let (whole, rest) = (d as usize / 64, d as u32 % 64);
+        for i in (whole + 1..=top).rev() {
+            words[i] = words[i - whole] << rest | words[i - whole - 1] >> 1 >> (63 - rest);
         }
+        words[whole] = words[0] << rest;
+        for w in &mut words[..whole] {
+            *w = 0;
+        }
+        words[0] = 1;
+        words[top] &= cut;
     }
-    words[top] &= u64::MAX >> (63 - place);
     lost
 }
 
