@@ -214,19 +214,15 @@ fn ones_from(history: &[u64], k: usize) -> u64 {
     (first + more) as u64
 }
 
-/// How many are lost while there are places for numbers older than the first: those leave before the others and do not count.
+/// How many are lost while there are places for numbers older than the first, `early` above 0: those leave before the others
+/// and do not count.
 #[cold]
 fn lost_at_start(history: &History, window: u16, d: u16, early: u16) -> u64 {
     if d <= early {
         return 0;
     }
     let (from, to) = ((window - d) as usize, (window - early) as usize);
-    let above = if early == 0 {
-        0
-    } else {
-        ones_from(history, to)
-    };
-    (to - from) as u64 - (ones_from(history, from) - above)
+    (to - from) as u64 - (ones_from(history, from) - ones_from(history, to))
 }
 
 /// Moves a history of one word up d places, in a window of at most 64, and marks place 0. Answers how many are lost, if every
@@ -259,7 +255,7 @@ fn shift(words: &mut [u64], d: u32, cut: u64) {
     }
 }
 
-/// The same in a window of more than one word. Only the words that the window has are read and written.
+/// As `move_word`, in a window of more than one word. Only the words that the window has are read and written.
 #[inline(always)]
 fn move_words(history: &mut History, window: u16, d: u16) -> u64 {
     if d == 1 {
@@ -273,7 +269,7 @@ fn move_words(history: &mut History, window: u16, d: u16) -> u64 {
     }
 }
 
-/// By more than one place: a call of its own, so that it keeps no registers from the common case.
+/// As `move_words`, by more than one place: a call of its own, so that it keeps no registers from the common case.
 #[inline(never)]
 fn move_far(history: &mut History, window: u16, d: u16) -> u64 {
     let (top, place) = last(window);
@@ -289,9 +285,7 @@ fn move_far(history: &mut History, window: u16, d: u16) -> u64 {
             words[i] = words[i - whole] << rest | words[i - whole - 1] >> 1 >> (63 - rest);
         }
         words[whole] = words[0] << rest;
-        for w in &mut words[..whole] {
-            *w = 0;
-        }
+        words[..whole].fill(0);
         words[0] = 1;
         words[top] &= cut;
     }
