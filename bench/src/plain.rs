@@ -184,17 +184,21 @@ fn lawful(s: &Stream) -> bool {
     if t.remaining > s.time || (t.remaining == 0) != (t.any != 0) {
         return false;
     }
-    if t.any != 0 {
-        return t.anchor == 65535 && is_empty(&t.history) && t.early == 0;
-    }
-    if s.rule == 2 {
-        return is_empty(&t.history) && t.early == 0;
+    if t.any != 0 || s.rule == 2 {
+        return (t.any == 0 || t.anchor == 65535) && is_empty(&t.history) && t.early == 0;
     }
     if t.history[0] & 1 == 0 || !within(&t.history, s.window) {
         return false;
     }
-    // Most often no place is left for numbers older than the first; else the first stands next to them.
-    t.early == 0 || t.early < s.window && is_set(&t.history, (s.window - 1 - t.early) as usize)
+    // Most often no place is left for numbers older than the first.
+    t.early == 0 || first_stands(s)
+}
+
+/// The first number stands next to the places for older ones. Asked for the first L numbers of a stream only.
+#[cold]
+fn first_stands(s: &Stream) -> bool {
+    let t = &s.state;
+    t.early < s.window && is_set(&t.history, (s.window - 1 - t.early) as usize)
 }
 
 /// The decision in place: what a program in Rust would write. A record that is not lawful stays as it is.
@@ -214,33 +218,6 @@ fn ones_from(history: &[u64], k: usize) -> u64 {
     (first + more) as u64
 }
 
-/// How many are lost while there are places for numbers older than the first, `early` above 0: those leave before the others
-/// and do not count.
-#[cold]
-fn lost_at_start(history: &History, window: u16, d: u16, early: u16) -> u64 {
-    if d <= early {
-        return 0;
-    }
-    let (from, to) = ((window - d) as usize, (window - early) as usize);
-    (to - from) as u64 - (ones_from(history, from) - ones_from(history, to))
-}
-
-/// Moves a history of one word up d places, in a window of at most 64, and marks place 0. Answers how many are lost, if every
-/// place that leaves counts.
-#[inline(always)]
-fn move_word(word: &mut u64, window: u32, d: u32) -> u64 {
-    // The d places below L leave, and each zero bit among them is lost. The next number is the common case, and has no bits to
-    // count.
-    let leaving = *word >> (window - d);
-    let ones = if d == 1 {
-        leaving
-    } else {
-        leaving.count_ones() as u64
-    };
-    *word = (*word << d) & (u64::MAX >> (64 - window)) | 1;
-    d as u64 - ones
-}
-
 /// Moves words up by 1 to 63 places, and cuts the last one. A bit comes in at place 0.
 #[inline(always)]
 fn shift(words: &mut [u64], d: u32, cut: u64) {
@@ -255,27 +232,37 @@ fn shift(words: &mut [u64], d: u32, cut: u64) {
     }
 }
 
-/// As `move_word`, in a window of more than one word. Only the words that the window has are read and written.
-#[inline(always)]
-fn move_words(history: &mut History, window: u16, d: u16) -> u64 {
-    if d == 1 {
-        let (top, place) = last(window);
-        let words = &mut history[..=top];
-        let lost = 1 - (words[top] >> place);
-        shift(words, 1, u64::MAX >> (63 - place));
-        lost
-    } else {
-        move_far(history, window, d)
-    }
+// The moves: the history goes up d places, 1 to L - 1, and place 0 is marked. The d places below L leave, and each zero bit
+// among them is lost. Each is a call of its own, so that it keeps no registers from the common case, which is the next number
+// in a window of one word.
+
+/// In a window of one word.
+#[inline(never)]
+fn move_word(s: &mut Stream, d: u16) {
+    let word = &mut s.state.history[0];
+    let leaving = *word >> (s.window - d);
+    *word = (*word << d) & (u64::MAX >> (64 - s.window)) | 1;
+    let lost = d as u64 - leaving.count_ones() as u64;
+    s.counts.lost = s.counts.lost.wrapping_add(lost);
 }
 
-/// As `move_words`, by more than one place: a call of its own, so that it keeps no registers from the common case.
+/// By one place, in a window of any size. Only the words that it has are read and written.
 #[inline(never)]
-fn move_far(history: &mut History, window: u16, d: u16) -> u64 {
-    let (top, place) = last(window);
-    let words = &mut history[..=top];
+fn step_words(s: &mut Stream) {
+    let (top, place) = last(s.window);
+    let words = &mut s.state.history[..=top];
+    s.counts.lost = s.counts.lost.wrapping_add(1 - (words[top] >> place));
+    shift(words, 1, u64::MAX >> (63 - place));
+}
+
+/// In a window of any size.
+#[inline(never)]
+fn move_words(s: &mut Stream, d: u16) {
+    let (top, place) = last(s.window);
+    let words = &mut s.state.history[..=top];
     let cut = u64::MAX >> (63 - place);
-    let lost = d as u64 - ones_from(words, (window - d) as usize);
+    let lost = d as u64 - ones_from(words, (s.window - d) as usize);
+    s.counts.lost = s.counts.lost.wrapping_add(lost);
     if d < 64 {
         shift(words, d as u32, cut);
     } else {
@@ -289,7 +276,21 @@ fn move_far(history: &mut History, window: u16, d: u16) -> u64 {
         words[0] = 1;
         words[top] &= cut;
     }
-    lost
+}
+
+/// While there are places for numbers older than the first: those leave before the others and are not lost.
+#[cold]
+fn move_at_start(s: &mut Stream, d: u16) {
+    let (window, early) = (s.window as usize, s.state.early);
+    let mut lost = s.counts.lost;
+    if d > early {
+        let (from, to) = (window - d as usize, window - early as usize);
+        let ones = ones_from(&s.state.history, from) - ones_from(&s.state.history, to);
+        lost = lost.wrapping_add((to - from) as u64 - ones);
+    }
+    move_words(s, d);
+    s.counts.lost = lost;
+    s.state.early = early.saturating_sub(d);
 }
 
 #[inline(always)]
@@ -323,21 +324,21 @@ fn decide_lawful(s: &mut Stream, number: u16, network: u8) -> u8 {
             *word |= bit;
             s.counts.disorder = s.counts.disorder.wrapping_add(1);
         } else {
-            let early = s.state.early;
-            let mut lost = 0;
-            if early != 0 {
-                s.state.early = early.saturating_sub(d as u16);
-                lost = lost_at_start(&s.state.history, s.window, d as u16, early);
-            }
-            let left = if s.window <= 64 {
-                move_word(&mut s.state.history[0], s.window as u32, d as u32)
+            if s.state.early != 0 {
+                move_at_start(s, d as u16);
+            } else if window > 64 {
+                if d == 1 {
+                    step_words(s);
+                } else {
+                    move_words(s, d as u16);
+                }
+            } else if d == 1 {
+                let word = &mut s.state.history[0];
+                s.counts.lost = s.counts.lost.wrapping_add(1 - (*word >> (window - 1)));
+                *word = (*word << 1) & (u64::MAX >> (64 - window)) | 1;
             } else {
-                move_words(&mut s.state.history, s.window, d as u16)
-            };
-            if early == 0 {
-                lost = left;
+                move_word(s, d as u16);
             }
-            s.counts.lost = s.counts.lost.wrapping_add(lost);
             s.state.anchor = number;
             if d != 1 {
                 s.counts.disorder = s.counts.disorder.wrapping_add(1);
