@@ -18,7 +18,7 @@ __attribute__((noinline)) static int cell(size_t size, size_t count, struct mix 
     const uint16_t anchor = 65000;
     for (size_t i = 0; i < count; i++)
         table[i] = (nippitsun_stream){.dest = 0x020000000000 + i, .window = 64, .time = 100, .rule = NIPPITSUN_RULE_VECTOR, .used = 1,
-            .state = {.history = UINT64_MAX, .anchor = anchor, .remaining = 100}};
+            .state = {.history = {UINT64_MAX}, .anchor = anchor, .remaining = 100}};
     uint16_t number = anchor + m.ahead;
     size_t stream = 0;
     uint8_t second = 0;

@@ -5,7 +5,7 @@ import subprocess
 import tempfile
 from fractions import Fraction
 
-from choosing import HIDDEN, NUMBERS, least_time, least_window, show_time
+from choosing import HIDDEN, NUMBERS, WINDOW_MOST, least_time, least_window, show_time
 from made_captures import FORMS, frame, pcap, pcapng
 
 ROOT = pathlib.Path(__file__).resolve().parent.parent
@@ -153,7 +153,7 @@ def jumps(bench):
     bench.case([pcap(p) for p in stray], "T=1ms tau=1ms", 0, "warning: 2 jumps", "\nJ 1 ms: ", "from 402 frames")
     # One network 300 frames behind the other: no window is so large, but J is found.
     slow = stream([[MS] * 900, [301 * MS] * 900])
-    bench.case([pcap(p) for p in slow], "T=1ms tau=1ms --margin 0 wait=0", 1, "\nJ 300 ms: ", "\nnone: L would be 602, more than 64", without=("warning",))
+    bench.case([pcap(p) for p in slow], "T=1ms tau=1ms --margin 0 wait=0", 1, "\nJ 300 ms: ", "\nnone: L would be 602, more than 512", without=("warning",))
     set_back = [(time - (10 * MS if place > 100 else 0), data) for place, (time, data) in enumerate(first[0])]
     bench.case([pcap(set_back), pcap(first[1])], "T=1ms tau=1ms", 0, "warning: 1 time stamps are earlier than the one before")
 
@@ -194,9 +194,9 @@ def at_random(bench, rng):
     losses = max(len(hole) for hole in lost.split("."))
     window, time = least_window(spread, spacing, losses, True), least_time(spread, MS, HIDDEN)
     form = rng.choice([lambda p: pcap(p, "<", True), lambda p: pcapng(p, ">", 9)])
-    bench.case([form(packets) for packets in stream(delays, spacing, first)], f"T={spacing}ns tau=1ms --margin 0 wait=0", 0 if window <= 64 else 1,
+    bench.case([form(packets) for packets in stream(delays, spacing, first)], f"T={spacing}ns tau=1ms --margin 0 wait=0", 0 if window <= WINDOW_MOST else 1,
                f"m at least {losses}: {lost.count('x')} indices", f"J at least {show_time(Fraction(twins))}: ", f"\nJ {show_time(Fraction(spread))}: ",
-               *([f"\nL {window}: ", f"\nR {time} ("] if window <= 64 else [f"none: L would be {window}, "]), without=("warning",))
+               *([f"\nL {window}: ", f"\nR {time} ("] if window <= WINDOW_MOST else [f"none: L would be {window}, "]), without=("warning",))
 
 
 def measured_faults():

@@ -53,7 +53,7 @@ static int arrives(const struct passed *p, size_t slots) {
     memset(table, 0, sizeof table);
     for (size_t i = 0; i < slots; i++) table[i] = (nippitsun_stream){.dest = p->dest, .vlan = p->vlan, .used = p->used};
     table[slots] = (nippitsun_stream){.dest = DEST, .vlan = VLAN, .window = 64, .time = 100, .rule = NIPPITSUN_RULE_VECTOR, .used = 1,
-        .state = {.history = UINT64_MAX, .anchor = 0xFDE8, .remaining = 100}};
+        .state = {.history = {UINT64_MAX}, .anchor = 0xFDE8, .remaining = 100}};
     begins();
     nippitsun_arrival_answer a = nippitsun_arrival(table, NIPPITSUN_SLOTS_MOST, 0, frame, sizeof frame, out, sizeof out);
     ends();

@@ -11,7 +11,7 @@ from fractions import Fraction
 from capture_files import Refused, read_capture
 from choosing import FRAME_MOST, NUMBERS
 
-# 16 times the largest window: a network may be so far behind the other and is still measured.
+# Twice the largest window: a network may be so far behind the other and is still measured.
 JUMP = 1024
 # Stretches that may still get a late copy.
 RECENT = 8

@@ -142,7 +142,16 @@ fn record(rule: u8) -> Stream {
         rule,
         used: 1,
         state: State {
-            history: if rule == 1 { 0x5555_5555_5555_5555 } else { 0 },
+            history: [
+                if rule == 1 { 0x5555_5555_5555_5555 } else { 0 },
+                0,
+                0,
+                0,
+                0,
+                0,
+                0,
+                0,
+            ],
             anchor: 65000,
             remaining: 100,
             early: 0,
@@ -258,9 +267,10 @@ fn decisions() -> Group {
 }
 
 /// The arrivals first: they are the one table.
-pub fn all() -> [Group; 4] {
+pub fn all() -> [Group; 5] {
     [
         cells_arrivals::arrivals(),
+        cells_arrivals::windows(),
         cells_batches::batches(),
         tags(),
         decisions(),

@@ -40,12 +40,15 @@ impl Keys {
 }
 
 /// What comes. `ahead` is how far the first number of each stream is ahead of its anchor, `step` how the number goes on when
-/// every stream has had its turn, and `pair` whether each frame comes on network 0 and then on network 1.
+/// every stream has had its turn, and `pair` whether each frame comes on network 0 and then on network 1. Behind each number
+/// come `late` older ones, from the highest on.
 #[derive(Clone, Copy)]
 pub struct Mix {
     name: &'static str,
+    window: u16,
     ahead: u16,
     step: u16,
+    late: u16,
     pair: bool,
     network: u8,
     keys: Keys,
@@ -54,8 +57,10 @@ pub struct Mix {
 const fn mix(name: &'static str, ahead: u16, step: u16) -> Mix {
     Mix {
         name,
+        window: 64,
         ahead,
         step,
+        late: 0,
         pair: false,
         network: 0,
         keys: Keys::Destinations,
@@ -87,6 +92,24 @@ const SINGLE: [Mix; 4] = [
     },
 ];
 
+/// Those of the largest window, of 64 bytes and one stream alone. Of the late ones every frame but one in 511 is late, by 1 to
+/// 510 places.
+const LARGEST: [Mix; 6] = [
+    wide(NEW),
+    wide(MIXES[1]),
+    wide(MIXES[2]),
+    wide(Mix {
+        late: 510,
+        ..mix("late", 511, 511)
+    }),
+    wide(mix("gap63", 63, 63)),
+    wide(mix("gap511", 511, 511)),
+];
+
+const fn wide(mix: Mix) -> Mix {
+    Mix { window: 512, ..mix }
+}
+
 /// Those of frames with a VLAN tag, all new. With one stream they are the same.
 const VLANS: Mix = Mix {
     keys: Keys::Both,
@@ -109,6 +132,8 @@ pub struct Coming {
     streams: u8,
     stream: u8,
     number: u16,
+    /// How many older ones have come behind the last number that was ahead.
+    behind: u16,
     second: bool,
 }
 
@@ -119,6 +144,7 @@ impl Coming {
             streams,
             stream: 0,
             number: ANCHOR.wrapping_add(mix.ahead),
+            behind: 0,
             second: false,
         }
     }
@@ -128,6 +154,18 @@ impl Coming {
         let mut f = frame(size, self.mix.keys.tagged(), true);
         f[..6].copy_from_slice(&[2, 0, 0, 0, 0, 0]);
         f
+    }
+
+    /// Goes on to the number of the next turn.
+    #[inline(always)]
+    fn turn(&mut self) {
+        if self.behind != self.mix.late {
+            self.behind += 1;
+            self.number = self.number.wrapping_sub(1);
+        } else {
+            let back = std::mem::take(&mut self.behind);
+            self.number = self.number.wrapping_add(back).wrapping_add(self.mix.step);
+        }
     }
 
     /// Writes the frame's key and number, and goes on to the next.
@@ -149,7 +187,7 @@ impl Coming {
         self.stream += 1;
         if self.stream == self.streams {
             self.stream = 0;
-            self.number = self.number.wrapping_add(self.mix.step);
+            self.turn();
         }
     }
 }
@@ -199,21 +237,32 @@ impl Traffic {
 #[repr(align(4096))]
 pub struct Slots<T>(pub [T; 64]);
 
-/// The streams, each in the middle of its life: vector rule, L = 64, the whole window came.
+/// The streams, each in the middle of its life: vector rule, the whole window came.
 fn table(mix: Mix) -> Box<Slots<second::Stream>> {
     Box::new(Slots(std::array::from_fn(|i| second::Stream {
         in_use: 1,
         destination: [2, 0, 0, 0, 0, mix.keys.last(i as u8)],
         vlan: mix.keys.vlan(i as u8),
         rule: 1,
-        window: 64,
+        window: mix.window,
         reset_time: 100,
         anchor: ANCHOR,
-        history: u64::MAX,
+        history: whole(mix.window),
         take_any: 0,
         remaining: 100,
         ..second::Stream::FREE
     })))
+}
+
+/// A history in which the whole window came. The window has whole words.
+fn whole(window: u16) -> [u64; 8] {
+    std::array::from_fn(|i| {
+        if 64 * i < window as usize {
+            u64::MAX
+        } else {
+            0
+        }
+    })
 }
 
 pub fn records(mix: Mix) -> Box<Slots<Stream>> {
@@ -304,7 +353,7 @@ fn calling(size: usize, streams: u8, mix: Mix) -> Work {
     })
 }
 
-fn cell(size: usize, streams: u8, mix: Mix) -> Cell {
+fn cell(group: &str, size: usize, streams: u8, mix: Mix) -> Cell {
     let works: Vec<Work> = vec![
         arriving!(proved::arrival, records(mix), size, streams, mix),
         arriving!(plain::arrival_at, records(mix), size, streams, mix),
@@ -313,7 +362,7 @@ fn cell(size: usize, streams: u8, mix: Mix) -> Cell {
         calling(size, streams, mix),
     ];
     Cell {
-        name: format!("arrival-{}-{}-{}", size, streams, mix.name),
+        name: format!("{}-{}-{}-{}", group, size, streams, mix.name),
         each: 1,
         works,
     }
@@ -324,20 +373,30 @@ pub fn arrivals() -> Group {
     for size in [64, 256, 1500] {
         for streams in [1, 8, 64] {
             for mix in MIXES {
-                cells.push(cell(size, streams, mix));
+                cells.push(cell("arrival", size, streams, mix));
             }
         }
     }
     for size in [64, 1500] {
-        cells.push(cell(size, 1, VLANS));
+        cells.push(cell("arrival", size, 1, VLANS));
         for streams in [8, 64] {
-            cells.push(cell(size, streams, VLANS));
-            cells.push(cell(size, streams, SHARED));
+            cells.push(cell("arrival", size, streams, VLANS));
+            cells.push(cell("arrival", size, streams, SHARED));
         }
     }
     for mix in SINGLE {
-        cells.push(cell(64, 1, mix));
+        cells.push(cell("arrival", 64, 1, mix));
     }
+    group(cells)
+}
+
+/// The same calls with L = 512.
+pub fn windows() -> Group {
+    let cells = LARGEST.map(|mix| cell("window", 64, 1, mix));
+    group(cells.into_iter().collect())
+}
+
+fn group(cells: Vec<Cell>) -> Group {
     Group {
         sides: &["product", "plain", "second", "memcpy", "bare"],
         alike: 3,

@@ -138,30 +138,89 @@ pub fn tags(cases: u64) -> Result<u64, String> {
     Ok(2 * cases)
 }
 
+/// The windows at the ends of their range and of a history's words.
+pub const WINDOWS: [u16; 7] = [2, 64, 65, 127, 128, 511, 512];
+
+/// A window: one of these, one of a single word, or any.
+pub fn window(dice: &mut Dice) -> u16 {
+    match dice.below(4) {
+        0 => 2 + dice.below(63) as u16,
+        1 => 2 + dice.below(511) as u16,
+        _ => WINDOWS[dice.below(WINDOWS.len() as u64) as usize],
+    }
+}
+
+pub type History = [u64; Stream::HISTORY_WORDS];
+
+/// A history that may stand in such a window: with many bits set or with few, all within it, and the first among them.
+pub fn history(dice: &mut Dice, window: u16) -> History {
+    let few = dice.one_in(2);
+    let mut words: History = std::array::from_fn(|i| {
+        let mut word = dice.next() | dice.next() & dice.next();
+        if few {
+            word &= dice.next();
+        }
+        match (window as usize).saturating_sub(64 * i) {
+            0 => 0,
+            places => word & u64::MAX >> (64 - places.min(64)),
+        }
+    });
+    words[0] |= 1;
+    words
+}
+
+/// Sets a bit.
+pub fn mark(history: &mut History, place: u16) {
+    history[place as usize / 64] |= 1 << (place % 64);
+}
+
 /// The places left for numbers older than the first: none, or as many as are lawful, with the first marked next to them.
-pub fn early(dice: &mut Dice, window: u16, history: &mut u64) -> u16 {
+pub fn early(dice: &mut Dice, window: u16, history: &mut History) -> u16 {
     if dice.one_in(2) {
         return 0;
     }
     let early = dice.below(window as u64) as u16;
-    *history |= 1 << (window - 1 - early);
+    mark(history, window - 1 - early);
     early
+}
+
+/// A bit at L or above, if the window leaves a place for it: at exactly L, at the last place of all, or anywhere.
+pub fn mark_behind(dice: &mut Dice, window: u16, history: &mut History) {
+    if window < Stream::WINDOW_MOST {
+        let places = Stream::WINDOW_MOST - window;
+        let behind = match dice.below(3) {
+            0 => 0,
+            1 => places - 1,
+            _ => dice.below(places as u64) as u16,
+        };
+        mark(history, window + behind);
+    }
+}
+
+/// A number near the window's ends, near a border of the history's words, or in the window.
+pub fn number(dice: &mut Dice, anchor: u16, window: u16) -> u16 {
+    let border = [1, 63, 64, 65, 127, 128, 448, 511][dice.below(8) as usize];
+    let d = match dice.below(8) {
+        0 => dice.next() as u16,
+        1 => 32768,
+        2 => window.wrapping_add(dice.below(3) as u16).wrapping_sub(1),
+        3 => dice.below(3) as u16,
+        4 => border,
+        _ => dice.below(window as u64 + 4) as u16,
+    };
+    if dice.one_in(2) {
+        anchor.wrapping_sub(d)
+    } else {
+        anchor.wrapping_add(d)
+    }
 }
 
 /// A random record: most often lawful, in all states; else damaged in one way or in all.
 fn record(dice: &mut Dice) -> Stream {
-    let window = match dice.below(4) {
-        0 => 64,
-        1 => 2,
-        _ => 2 + dice.below(63) as u16,
-    };
+    let window = window(dice);
     let time = 1 + dice.below(65535) as u16;
     let rule = 1 + dice.below(2) as u8;
-    let mut history = dice.next() | dice.next() & dice.next();
-    if dice.one_in(2) {
-        history &= dice.next();
-    }
-    history = history >> (64 - window) | 1;
+    let mut history = history(dice, window);
     let early = early(dice, window, &mut history);
     let mut s = Stream {
         dest: dice.next(),
@@ -171,7 +230,7 @@ fn record(dice: &mut Dice) -> Stream {
         rule,
         used: 1 + dice.below(255) as u8,
         state: State {
-            history: if rule == 1 { history } else { 0 },
+            history: if rule == 1 { history } else { [0; 8] },
             anchor: dice.next() as u16,
             remaining: 1 + dice.below(time as u64) as u16,
             early: if rule == 1 { early } else { 0 },
@@ -190,7 +249,7 @@ fn record(dice: &mut Dice) -> Stream {
     };
     if dice.one_in(8) {
         s.state = State {
-            history: 0,
+            history: [0; 8],
             anchor: 65535,
             remaining: 0,
             early: 0,
@@ -201,6 +260,7 @@ fn record(dice: &mut Dice) -> Stream {
         s.counts.passed = u64::MAX;
         s.counts.arrivals1 = u64::MAX;
     }
+    let place = dice.below(8) as usize;
     match dice.below(40) {
         0 => s.used = 0,
         1 => s.rule = dice.next() as u8,
@@ -209,14 +269,16 @@ fn record(dice: &mut Dice) -> Stream {
         4 => s.vlan = dice.next() as u16,
         5 => s.state.any = dice.below(3) as u16 * 128,
         6 => s.state.remaining = dice.below(2) as u16,
-        7 => s.state.history = dice.next(),
-        8 => s.window = 65,
+        7 => s.state.history[place] = dice.next(),
+        8 => s.window = 513,
         9 => s.window = 1,
         10 => s.state.remaining = s.time.wrapping_add(1),
         11 => s.state.anchor = 65534,
-        12 => s.state.early = 1 + dice.below(65) as u16,
+        12 => s.state.early = 1 + dice.below(512) as u16,
         13 => s.state.early = s.window,
         14 => s.state.early = dice.next() as u16,
+        15 | 16 => mark_behind(dice, s.window, &mut s.state.history),
+        17 => s.state.history[0] &= !1,
         _ => {}
     }
     s
@@ -225,16 +287,10 @@ fn record(dice: &mut Dice) -> Stream {
 pub fn decisions(cases: u64, kept: &mut Cases) -> Result<u64, String> {
     let mut dice = Dice::new();
     let mut seen = [0u64; 4];
+    let mut of_window = [[0u64; 4]; WINDOWS.len()];
     for case in 0..cases {
         let s = record(&mut dice);
-        let near = dice.below(140) as u16;
-        let number = match dice.below(8) {
-            0 => dice.next() as u16,
-            1 => s.state.anchor.wrapping_add(32768),
-            2 => s.state.anchor.wrapping_add(s.window),
-            3 => s.state.anchor.wrapping_sub(s.window),
-            _ => s.state.anchor.wrapping_add(near).wrapping_sub(70),
-        };
+        let number = number(&mut dice, s.state.anchor, s.window);
         let network = match dice.below(5) {
             0 => dice.next() as u8,
             n => (n % 2) as u8,
@@ -247,6 +303,9 @@ pub fn decisions(cases: u64, kept: &mut Cases) -> Result<u64, String> {
             return Err(wrong("one decision", case));
         }
         seen[x.verdict as usize] += 1;
+        if let Some(n) = WINDOWS.iter().position(|&w| w == s.window) {
+            of_window[n][x.verdict as usize] += 1;
+        }
         kept.add(&[
             &[3],
             &s.to_bytes(),
@@ -255,10 +314,13 @@ pub fn decisions(cases: u64, kept: &mut Cases) -> Result<u64, String> {
             &x.stream.to_bytes(),
             &[x.verdict],
         ]);
-        let step = match dice.below(4) {
-            0 => 1,
-            1 => 63,
+        let step = match dice.below(8) {
+            0 | 1 => 1,
             2 => 0,
+            3 => 63,
+            4 => 64,
+            5 => s.window.wrapping_sub(1),
+            6 => dice.below(512) as u16,
             _ => dice.next() as u16,
         };
         let times = dice.below(20);
@@ -279,5 +341,8 @@ pub fn decisions(cases: u64, kept: &mut Cases) -> Result<u64, String> {
         ]);
     }
     all_seen("one decision", &seen, &[0, 1, 2, 3])?;
+    for (w, seen) in WINDOWS.iter().zip(&of_window) {
+        all_seen(&format!("one decision with L = {}", w), seen, &[0, 1, 2, 3])?;
+    }
     Ok(2 * cases)
 }

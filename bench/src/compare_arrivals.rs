@@ -1,6 +1,8 @@
 //! Random arrivals on random tables: the archive's call, the second program's and the plain one in place. Answers, every
 //! record field by field, and every output byte must be equal, and each refusal and verdict must have come up.
-use crate::compare::{all_seen, early, individual, wrong, Dice};
+use crate::compare::{
+    all_seen, early, history, individual, mark_behind, number, window, wrong, Dice,
+};
 use crate::record::{
     ArrivalAnswer, Counts, SlotAnswer, State, Stream, TickAnswer, DUPLICATE, HANDED_UP, ROGUE,
 };
@@ -14,7 +16,7 @@ pub fn record_of(s: &second::Stream) -> Stream {
     Stream {
         dest: u64::from_be_bytes([0, 0, d[0], d[1], d[2], d[3], d[4], d[5]]),
         vlan: s.vlan,
-        window: s.window as u16,
+        window: s.window,
         time: s.reset_time,
         rule: s.rule,
         used: s.in_use,
@@ -114,10 +116,9 @@ pub fn tables(dice: &mut Dice, case: u64) -> Result<Tables, String> {
     };
     for _ in 0..slots + slots / 4 {
         let destination = destination(dice);
-        let window = if dice.one_in(4) {
-            64
-        } else {
-            2 + dice.below(64) as u8
+        let window = match dice.below(16) {
+            0 => 513,
+            _ => window(dice),
         };
         let s = Settings {
             destination,
@@ -142,7 +143,7 @@ pub fn tables(dice: &mut Dice, case: u64) -> Result<Tables, String> {
             &destination,
             s.vlan,
             s.rule,
-            s.window as u16,
+            s.window,
             s.reset_time,
         ) {
             return Err(wrong("an open", case));
@@ -156,17 +157,19 @@ pub fn tables(dice: &mut Dice, case: u64) -> Result<Tables, String> {
 pub fn stir(dice: &mut Dice, t: &mut Tables) {
     let slot = dice.below(t.second.len() as u64) as usize;
     let mut s = t.second[slot];
-    match dice.below(11) {
+    let place = dice.below(8) as usize;
+    match dice.below(12) {
         0 => s.in_use = dice.below(3) as u8,
         1 => s.rule = dice.below(4) as u8,
-        2 => s.window = dice.next() as u8,
+        2 => s.window = dice.below(1024) as u16,
         3 => s.reset_time = dice.below(3) as u16,
         4 => s.take_any = dice.below(3) as u16 * 128,
         5 => s.remaining = dice.below(4) as u16,
-        6 => s.history = dice.next(),
+        6 => s.history[place] = dice.next(),
         7 => s.anchor = dice.next() as u16,
         8 => s.destination = t.second[0].destination,
-        9 => s.early = dice.below(66) as u16,
+        9 => s.early = dice.below(514) as u16,
+        10 => mark_behind(dice, s.window, &mut s.history),
         _ => {
             s.passed = u64::MAX;
             s.arrivals = [u64::MAX; 2];
@@ -179,16 +182,16 @@ pub fn stir(dice: &mut Dice, t: &mut Tables) {
         let mut mended = s;
         mended.in_use = 1;
         mended.rule = 1 + dice.below(2) as u8;
-        mended.window = 2 + dice.below(63) as u8;
+        mended.window = window(dice);
         mended.reset_time = mended.reset_time.max(1);
         mended.vlan = mended.vlan.min(4094);
         mended.take_any = 0;
         mended.remaining = mended.reset_time;
-        mended.history = 0;
+        mended.history = [0; 8];
         mended.early = 0;
         if mended.rule == 1 {
-            mended.history = s.history >> (64 - mended.window) | 1;
-            mended.early = early(dice, mended.window as u16, &mut mended.history);
+            mended.history = history(dice, mended.window);
+            mended.early = early(dice, mended.window, &mut mended.history);
         }
         t.set(slot, mended);
     }
@@ -234,16 +237,10 @@ pub fn frame(dice: &mut Dice, pool: &[u8], t: &Tables) -> Vec<u8> {
             &[0xF1, 0xC1]
         },
     );
-    let near = dice.below(140) as u16;
     let number = match dice.below(16) {
-        0 => dice.next() as u16,
-        1 => s.anchor.wrapping_add(32768),
-        2 => s.anchor.wrapping_add(s.window as u16),
-        3 => s.anchor.wrapping_sub(s.window as u16),
-        4 => s.anchor.wrapping_add(near).wrapping_sub(70),
-        5 => s.anchor,
-        6 | 7 => s.anchor.wrapping_sub(near % 8),
-        8 | 9 => s.anchor.wrapping_add(near % 8),
+        0..=5 => number(dice, s.anchor, s.window),
+        6 | 7 => s.anchor.wrapping_sub(dice.below(8) as u16),
+        8 | 9 => s.anchor.wrapping_add(dice.below(8) as u16),
         _ => s.anchor.wrapping_add(1),
     };
     put(at + 4, &number.to_be_bytes());

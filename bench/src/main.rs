@@ -99,6 +99,7 @@ fn tables(counts: &str, names: &[&str]) -> Result<(), String> {
     let counts = table::Counts::read(counts)?;
     for (mut group, print) in cells::all().into_iter().zip([
         table::arrivals,
+        table::windows,
         table::batches,
         table::tags,
         table::decisions,

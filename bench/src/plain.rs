@@ -9,6 +9,7 @@ use crate::record::{
 const SLOTS_MOST: usize = 64;
 const FRAME_MOST: usize = 2000;
 const UNTAGGED_MOST: usize = 1994;
+const WINDOW_MOST: u16 = 512;
 const VLAN_TAG: u16 = 0x8100;
 const TAG: u16 = 0xF1C1;
 const TABLE: u8 = 1;
@@ -132,12 +133,48 @@ pub extern "C" fn write_tag(frame: &[u8], number: u16, out: &mut [u8]) -> TagAns
     }
 }
 
+/// Bit k of the history is bit k % 64 of word k / 64.
+type History = [u64; Stream::HISTORY_WORDS];
+
+/// The word of the window's last place, and that place in the word.
+#[inline(always)]
+fn last(window: u16) -> (usize, u32) {
+    let k = window as usize - 1;
+    (k / 64, k as u32 % 64)
+}
+
+/// Is a bit set?
+#[inline(always)]
+fn is_set(history: &History, k: usize) -> bool {
+    history[k / 64] >> (k % 64) & 1 != 0
+}
+
+#[inline(always)]
+fn is_empty(history: &History) -> bool {
+    history.iter().fold(0, |all, w| all | w) == 0
+}
+
+/// Is no bit set behind the window's last place?
+#[inline(always)]
+fn within(history: &History, window: u16) -> bool {
+    let (top, place) = last(window);
+    if history[top] >> place > 1 {
+        return false;
+    }
+    // Most windows have one word, and then the number of the others is known here.
+    if top == 0 {
+        history[1..].iter().fold(0, |all, w| all | w) == 0
+    } else {
+        history[top + 1..].iter().all(|&w| w == 0)
+    }
+}
+
 #[inline(always)]
 fn lawful(s: &Stream) -> bool {
     if s.used == 0
         || (s.rule != 1 && s.rule != 2)
         || s.window < 2
-        || s.window > 64
+        || s.window > WINDOW_MOST
         || s.time == 0
         || s.vlan > 4094
     {
@@ -147,17 +184,21 @@ fn lawful(s: &Stream) -> bool {
     if t.remaining > s.time || (t.remaining == 0) != (t.any != 0) {
         return false;
     }
-    if t.any != 0 {
-        return t.anchor == 65535 && t.history == 0 && t.early == 0;
+    if t.any != 0 || s.rule == 2 {
+        return (t.any == 0 || t.anchor == 65535) && is_empty(&t.history) && t.early == 0;
     }
-    if s.rule == 2 {
-        return t.history == 0 && t.early == 0;
-    }
-    if t.history & 1 == 0 || t.history >> (s.window - 1) > 1 {
+    if t.history[0] & 1 == 0 || !within(&t.history, s.window) {
         return false;
     }
-    // Most often no place is left for numbers older than the first; else the first stands next to them.
-    t.early == 0 || t.early < s.window && t.history >> (s.window - 1 - t.early) & 1 == 1
+    // Most often no place is left for numbers older than the first.
+    t.early == 0 || first_stands(s)
+}
+
+/// The first number stands next to the places for older ones. Asked for the first L numbers of a stream only.
+#[cold]
+fn first_stands(s: &Stream) -> bool {
+    let t = &s.state;
+    t.early < s.window && is_set(&t.history, (s.window - 1 - t.early) as usize)
 }
 
 /// The decision in place: what a program in Rust would write. A record that is not lawful stays as it is.
@@ -169,15 +210,87 @@ fn decide_in(s: &mut Stream, number: u16, network: u8) -> u8 {
     decide_lawful(s, number, network)
 }
 
-/// How many are lost while there are places for numbers older than the first: those leave before the others and do not count.
-#[cold]
-fn lost_at_start(history: u64, window: u16, d: u16, early: u16) -> u64 {
-    if d <= early {
-        return 0;
+/// How many bits are set at a place and above.
+#[inline(always)]
+fn ones_from(history: &[u64], k: usize) -> u64 {
+    let first = (history[k / 64] >> (k % 64)).count_ones();
+    let more: u32 = history[k / 64 + 1..].iter().map(|w| w.count_ones()).sum();
+    (first + more) as u64
+}
+
+/// Moves words up by 1 to 63 places, and cuts the last one. A bit comes in at place 0.
+#[inline(always)]
+fn shift(words: &mut [u64], d: u32, cut: u64) {
+    let mut carry = 1;
+    if let Some((last, others)) = words.split_last_mut() {
+        for w in others {
+            let out = *w >> (64 - d);
+            *w = *w << d | carry;
+            carry = out;
+        }
+        *last = (*last << d | carry) & cut;
     }
-    let counted = d - early;
-    let leaving = history << (64 - window + early) >> (64 - counted);
-    counted as u64 - leaving.count_ones() as u64
+}
+
+// The moves: the history goes up d places, 1 to L - 1, and place 0 is marked. The d places below L leave, and each zero bit
+// among them is lost. Each is a call of its own, so that it keeps no registers from the common case, which is the next number
+// in a window of one word.
+
+/// In a window of one word.
+#[inline(never)]
+fn move_word(s: &mut Stream, d: u16) {
+    let word = &mut s.state.history[0];
+    let leaving = *word >> (s.window - d);
+    *word = (*word << d) & (u64::MAX >> (64 - s.window)) | 1;
+    let lost = d as u64 - leaving.count_ones() as u64;
+    s.counts.lost = s.counts.lost.wrapping_add(lost);
+}
+
+/// By one place, in a window of any size. Only the words that it has are read and written.
+#[inline(never)]
+fn step_words(s: &mut Stream) {
+    let (top, place) = last(s.window);
+    let words = &mut s.state.history[..=top];
+    s.counts.lost = s.counts.lost.wrapping_add(1 - (words[top] >> place));
+    shift(words, 1, u64::MAX >> (63 - place));
+}
+
+/// In a window of any size.
+#[inline(never)]
+fn move_words(s: &mut Stream, d: u16) {
+    let (top, place) = last(s.window);
+    let words = &mut s.state.history[..=top];
+    let cut = u64::MAX >> (63 - place);
+    let lost = d as u64 - ones_from(words, (s.window - d) as usize);
+    s.counts.lost = s.counts.lost.wrapping_add(lost);
+    if d < 64 {
+        shift(words, d as u32, cut);
+    } else {
+        // Whole words first, from the highest on; those that nothing comes to are empty.
+        let (whole, rest) = (d as usize / 64, d as u32 % 64);
+        for i in (whole + 1..=top).rev() {
+            words[i] = words[i - whole] << rest | words[i - whole - 1] >> 1 >> (63 - rest);
+        }
+        words[whole] = words[0] << rest;
+        words[..whole].fill(0);
+        words[0] = 1;
+        words[top] &= cut;
+    }
+}
+
+/// While there are places for numbers older than the first: those leave before the others and are not lost.
+#[cold]
+fn move_at_start(s: &mut Stream, d: u16) {
+    let (window, early) = (s.window as usize, s.state.early);
+    let mut lost = s.counts.lost;
+    if d > early {
+        let (from, to) = (window - d as usize, window - early as usize);
+        let ones = ones_from(&s.state.history, from) - ones_from(&s.state.history, to);
+        lost = lost.wrapping_add((to - from) as u64 - ones);
+    }
+    move_words(s, d);
+    s.counts.lost = lost;
+    s.state.early = early.saturating_sub(d);
 }
 
 #[inline(always)]
@@ -193,7 +306,7 @@ fn decide_lawful(s: &mut Stream, number: u16, network: u8) -> u8 {
         s.state.any = 0;
         s.state.anchor = number;
         if s.rule == 1 {
-            s.state.history = 1;
+            s.state.history[0] = 1;
             s.state.early = s.window - 1;
         }
     } else if s.rule == 1 {
@@ -202,32 +315,30 @@ fn decide_lawful(s: &mut Stream, number: u16, network: u8) -> u8 {
             return ROGUE;
         }
         if d <= 0 {
-            let bit = 1u64 << -d;
-            if s.state.history & bit != 0 {
+            let k = -d as usize;
+            let (word, bit) = (&mut s.state.history[k / 64], 1 << (k % 64));
+            if *word & bit != 0 {
                 s.counts.discarded = s.counts.discarded.wrapping_add(1);
                 return DUPLICATE;
             }
-            s.state.history |= bit;
+            *word |= bit;
             s.counts.disorder = s.counts.disorder.wrapping_add(1);
         } else {
-            let lost = if s.state.early == 0 {
-                // The d places below L leave, and each zero bit among them is lost. The next number is the common case, and has
-                // no bits to count.
-                let leaving = s.state.history >> (window - d);
-                let ones = if d == 1 {
-                    leaving
+            if s.state.early != 0 {
+                move_at_start(s, d as u16);
+            } else if window > 64 {
+                if d == 1 {
+                    step_words(s);
                 } else {
-                    leaving.count_ones() as u64
-                };
-                d as u64 - ones
+                    move_words(s, d as u16);
+                }
+            } else if d == 1 {
+                let word = &mut s.state.history[0];
+                s.counts.lost = s.counts.lost.wrapping_add(1 - (*word >> (window - 1)));
+                *word = (*word << 1) & (u64::MAX >> (64 - window)) | 1;
             } else {
-                let early = s.state.early;
-                s.state.early = early.saturating_sub(d as u16);
-                lost_at_start(s.state.history, s.window, d as u16, early)
-            };
-            s.counts.lost = s.counts.lost.wrapping_add(lost);
-            let cut = u64::MAX >> (64 - window);
-            s.state.history = ((s.state.history << d) & cut) | 1;
+                move_word(s, d as u16);
+            }
             s.state.anchor = number;
             if d != 1 {
                 s.counts.disorder = s.counts.disorder.wrapping_add(1);

@@ -123,20 +123,52 @@ fn tell_aim(ratios: &[f64], beside: &str, aim: f64) {
     );
 }
 
-/// How much more a gap of 63 costs than one of 1, where both cells were timed.
-fn tell_gap(rows: &[Row], one: &str, gap: &str) {
-    let time = |name: &str| rows.iter().find(|r| r.name == name).map(|r| r.ns[PRODUCT]);
-    if let (Some(one), Some(gap)) = (time(one), time(gap)) {
+/// How much more a gap costs than one of 1, where both cells were timed, which are so called but for the gap.
+fn tell_gap(rows: &[Row], cells: &str, gap: u16, aim: f64) {
+    let time = |name: String| rows.iter().find(|r| r.name == name).map(|r| r.ns[PRODUCT]);
+    if let (Some(one), Some(more)) = (
+        time(format!("{}-new", cells)),
+        time(format!("{}-gap{}", cells, gap)),
+    ) {
         println!(
-            "A forward gap of 63 costs the product {:.2} times a gap of 1 (aim: at most 2).",
-            gap / one
+            "A forward gap of {} costs the product {:.2} times a gap of 1 (aim: at most {}).",
+            gap,
+            more / one,
+            aim
         );
     }
 }
 
 /// The one table.
 pub fn arrivals(rows: &[Row], aim: f64) {
-    println!("the arrivals           |       ns an arrival         | instructions an arrival     |  product to  |  line rate  | most");
+    of_arrivals("the arrivals", rows);
+    println!("plain: Rust written for speed. second: the second program's arrival. memcpy: the frame's bytes copied, nothing else.");
+    println!("line rate: the time that two full networks of 1 or 10 Gbit/s leave one core for an arrival (frame + 20 bytes),");
+    println!("divided by the product's time: above 1 it keeps up. most of it: the search, the copy, or the rest.");
+    tell_arrivals(rows, aim);
+    tell_gap(rows, "arrival-64-1", 63, 2.0);
+    let bare: Vec<f64> = rows.iter().map(|r| r.ns[BARE]).collect();
+    println!(
+        "In every time: the loop that writes the frames and a bare call, together {} ns.",
+        range(&bare, 1)
+    );
+}
+
+/// The same for the largest window.
+pub fn windows(rows: &[Row], aim: f64) {
+    of_arrivals("with L = 512", rows);
+    tell_arrivals(rows, aim);
+    tell_gap(rows, "window-64-1", 511, 1.5);
+}
+
+fn tell_arrivals(rows: &[Row], aim: f64) {
+    let tell = |to, beside| tell_aim(&ratios(rows.iter(), to), beside, aim);
+    tell(PLAIN, "the plain arrival written for speed");
+    tell(SECOND, "the second program's arrival");
+}
+
+fn of_arrivals(what: &str, rows: &[Row]) {
+    println!("{:22} |       ns an arrival         | instructions an arrival     |  product to  |  line rate  | most", what);
     println!("size streams mix       | product plain second memcpy | product plain second memcpy | plain second |    1G   10G | of it");
     println!("-----------------------+-----------------------------+-----------------------------+--------------+-------------+------");
     for r in rows {
@@ -163,18 +195,6 @@ pub fn arrivals(rows: &[Row], aim: f64) {
         );
     }
     println!();
-    println!("plain: Rust written for speed. second: the second program's arrival. memcpy: the frame's bytes copied, nothing else.");
-    println!("line rate: the time that two full networks of 1 or 10 Gbit/s leave one core for an arrival (frame + 20 bytes),");
-    println!("divided by the product's time: above 1 it keeps up. most of it: the search, the copy, or the rest.");
-    let tell = |to, beside| tell_aim(&ratios(rows.iter(), to), beside, aim);
-    tell(PLAIN, "the plain arrival written for speed");
-    tell(SECOND, "the second program's arrival");
-    tell_gap(rows, "arrival-64-1-new", "arrival-64-1-gap63");
-    let bare: Vec<f64> = rows.iter().map(|r| r.ns[BARE]).collect();
-    println!(
-        "In every time: the loop that writes the frames and a bare call, together {} ns.",
-        range(&bare, 1)
-    );
 }
 
 /// What a batch's cell is called after: its frames, their size and the streams.
@@ -277,5 +297,5 @@ pub fn decisions(rows: &[Row], aim: f64) {
     let tell = |to, beside| tell_aim(&ratios(rows.iter(), to), beside, aim);
     tell(PLAIN, "the plain decision by value");
     tell(SECOND, "the plain decision in place");
-    tell_gap(rows, "row-new", "row-gap63");
+    tell_gap(rows, "row", 63, 2.0);
 }

@@ -1,7 +1,7 @@
 /* Nippitsun for C and C++: a receiver for frames that arrive on two networks, and the redundancy tag in and out.
  *
  * The calls are the exported functions of the crates `port`, `port_batch` and `port_tick`, proved to do what document 01 says,
- * with orders 1, 3 and 4 of document 02 (order 2 changes no answer). This header is written by hand: bindings/c/test.c holds it
+ * with orders 1, 3, 4 and 5 of document 02 (order 2 changes no answer). This header is written by hand: bindings/c/test.c holds it
  * to the compiled code, and bindings/check to the sources. C11 or C++11, x86-64; link with libport.a, which is called
  * libnippitsun.a once it is installed (docs/LINKING.md).
  *
@@ -26,9 +26,9 @@
 #include <stddef.h>
 #include <stdint.h>
 
-#define NIPPITSUN_VERSION "0.5.0"
+#define NIPPITSUN_VERSION "0.6.0"
 #define NIPPITSUN_VERSION_MAJOR 0
-#define NIPPITSUN_VERSION_MINOR 5
+#define NIPPITSUN_VERSION_MINOR 6
 #define NIPPITSUN_VERSION_PATCH 0
 
 #ifdef __cplusplus
@@ -48,7 +48,8 @@ extern "C" {
 #define NIPPITSUN_FRAME_MOST 2000    /* bytes in a frame */
 #define NIPPITSUN_UNTAGGED_MOST 1994 /* bytes in a frame before the tag is put in */
 #define NIPPITSUN_WINDOW_LEAST 2     /* the window L */
-#define NIPPITSUN_WINDOW_MOST 64
+#define NIPPITSUN_WINDOW_MOST 512    /* document 02, order 5 */
+#define NIPPITSUN_HISTORY_WORDS 8    /* of 64 bits: one bit for each place of the largest window */
 #define NIPPITSUN_TIME_LEAST 1 /* the reset time R, in ticks */
 #define NIPPITSUN_TIME_MOST 65535
 #define NIPPITSUN_VLAN_MOST 4094 /* the VLAN id in a key; 0 is a frame with no VLAN tag */
@@ -94,12 +95,13 @@ enum nippitsun_refusal {
  *
  * A table is an array of these, made and kept by the caller. All bytes zero is a table of free slots. The fields may be read
  * between two calls; a caller who writes to them may damage a record, which a call then refuses or a tick then counts. A
- * record has 96 bytes, and each of them belongs to a field; where each field stands is asserted at the end of this file. In
- * 0.5.0 `any` has moved and has two bytes: a record that was kept from an earlier version is not to be lent. */
+ * record has 152 bytes, and each of them belongs to a field; where each field stands is asserted at the end of this file. In
+ * 0.6.0 the history has eight words: a record that was kept from an earlier version is not to be lent. */
 
 /* What an arrival and a tick change. */
 typedef struct nippitsun_state {
-    uint64_t history;   /* bit k stands for the number anchor - k */
+    uint64_t history[NIPPITSUN_HISTORY_WORDS]; /* bit k of the history, bit k % 64 of word k / 64, stands for the number
+                                                  anchor - k */
     uint16_t anchor;    /* the number that differences are taken from */
     uint16_t remaining; /* ticks left until the stream is reset */
     uint16_t early;     /* so many places of the window still stand for numbers older than the first that was handed up since
@@ -244,12 +246,12 @@ nippitsun_tag_answer nippitsun_write_tag(const uint8_t *NIPPITSUN_APART frame, s
 
 NIPPITSUN_TYPE(size_t, 8);
 
-NIPPITSUN_TYPE(nippitsun_state, 16);
-NIPPITSUN_FIELD(nippitsun_state, history, 0, 8);
-NIPPITSUN_FIELD(nippitsun_state, anchor, 8, 2);
-NIPPITSUN_FIELD(nippitsun_state, remaining, 10, 2);
-NIPPITSUN_FIELD(nippitsun_state, early, 12, 2);
-NIPPITSUN_FIELD(nippitsun_state, any, 14, 2);
+NIPPITSUN_TYPE(nippitsun_state, 72);
+NIPPITSUN_FIELD(nippitsun_state, history, 0, 64);
+NIPPITSUN_FIELD(nippitsun_state, anchor, 64, 2);
+NIPPITSUN_FIELD(nippitsun_state, remaining, 66, 2);
+NIPPITSUN_FIELD(nippitsun_state, early, 68, 2);
+NIPPITSUN_FIELD(nippitsun_state, any, 70, 2);
 
 NIPPITSUN_TYPE(nippitsun_counts, 64);
 NIPPITSUN_FIELD(nippitsun_counts, arrivals0, 0, 8);
@@ -261,15 +263,15 @@ NIPPITSUN_FIELD(nippitsun_counts, disorder, 40, 8);
 NIPPITSUN_FIELD(nippitsun_counts, lost, 48, 8);
 NIPPITSUN_FIELD(nippitsun_counts, resets, 56, 8);
 
-NIPPITSUN_TYPE(nippitsun_stream, 96);
+NIPPITSUN_TYPE(nippitsun_stream, 152);
 NIPPITSUN_FIELD(nippitsun_stream, dest, 0, 8);
 NIPPITSUN_FIELD(nippitsun_stream, vlan, 8, 2);
 NIPPITSUN_FIELD(nippitsun_stream, window, 10, 2);
 NIPPITSUN_FIELD(nippitsun_stream, time, 12, 2);
 NIPPITSUN_FIELD(nippitsun_stream, rule, 14, 1);
 NIPPITSUN_FIELD(nippitsun_stream, used, 15, 1);
-NIPPITSUN_FIELD(nippitsun_stream, state, 16, 16);
-NIPPITSUN_FIELD(nippitsun_stream, counts, 32, 64);
+NIPPITSUN_FIELD(nippitsun_stream, state, 16, 72);
+NIPPITSUN_FIELD(nippitsun_stream, counts, 88, 64);
 
 NIPPITSUN_TYPE(nippitsun_arrival_answer, 24);
 NIPPITSUN_FIELD(nippitsun_arrival_answer, slot, 0, 8);

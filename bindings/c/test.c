@@ -167,7 +167,8 @@ static nippitsun_tag_answer written(const uint8_t *frame, size_t n, uint16_t num
 /* ---- records, field by field */
 
 static int same_state(nippitsun_state a, nippitsun_state b) {
-    return a.history == b.history && a.anchor == b.anchor && a.remaining == b.remaining && a.early == b.early && a.any == b.any;
+    return equal(a.history, b.history, sizeof a.history) && a.anchor == b.anchor && a.remaining == b.remaining
+        && a.early == b.early && a.any == b.any;
 }
 
 static int same_counts(nippitsun_counts a, nippitsun_counts b) {
@@ -180,7 +181,7 @@ static int same(nippitsun_stream a, nippitsun_stream b) {
         && a.used == b.used && same_state(a.state, b.state) && same_counts(a.counts, b.counts);
 }
 
-static const nippitsun_state fresh = {.history = 0, .anchor = 65535, .remaining = 0, .early = 0, .any = 1};
+static const nippitsun_state fresh = {.history = {0}, .anchor = 65535, .remaining = 0, .early = 0, .any = 1};
 static const nippitsun_counts zero = {0, 0, 0, 0, 0, 0, 0, 0};
 
 /* A distinct value in each field, all bytes of it distinct where it has several. */
@@ -191,7 +192,14 @@ static const nippitsun_stream distinct = {
     .time = 0x1516,
     .rule = 0x17,
     .used = 0x18,
-    .state = {.history = 0x2122232425262728, .anchor = 0x292A, .remaining = 0x2B2C, .early = 0x2D2E, .any = 0x2F30},
+    .state = {
+        .history = {0x2122232425262728, 0xB1B2B3B4B5B6B7B8, 0xC1C2C3C4C5C6C7C8, 0xD1D2D3D4D5D6D7D8, 0xE1E2E3E4E5E6E7E8,
+                    0xF1F2F3F4F5F6F7F8, 0x191A1B1C1D1E1F20, 0x393A3B3C3D3E3F40},
+        .anchor = 0x292A,
+        .remaining = 0x2B2C,
+        .early = 0x2D2E,
+        .any = 0x2F30,
+    },
     .counts = {
         .arrivals0 = 0x3132333435363738,
         .arrivals1 = 0x4142434445464748,
@@ -214,7 +222,7 @@ static nippitsun_stream running(void) {
     s.time = 9;
     s.rule = NIPPITSUN_RULE_VECTOR;
     s.used = 1;
-    s.state = (nippitsun_state){.history = 5, .anchor = 100, .remaining = 6, .early = 0, .any = 0};
+    s.state = (nippitsun_state){.history = {5}, .anchor = 100, .remaining = 6, .early = 0, .any = 0};
     return s;
 }
 
@@ -351,7 +359,7 @@ static void arrivals(void) {
     want.counts.arrivals1++;
     want.counts.passed++;
     want.counts.disorder++;
-    want.state.history = 7;
+    want.state.history[0] = 7;
     want.state.remaining = 9;
     CHECK(same(table[1], want));
 
@@ -362,7 +370,7 @@ static void arrivals(void) {
     want.counts.passed++;
     want.counts.disorder++;
     want.counts.lost++;
-    want.state.history = 13;
+    want.state.history[0] = 13;
     want.state.anchor = 102;
     CHECK(same(table[1], want));
 
@@ -372,14 +380,14 @@ static void arrivals(void) {
     make_out(NIPPITSUN_FRAME_MOST - NIPPITSUN_TAG_LENGTH);
     a = arrive(0, tagged(NIPPITSUN_FRAME_MOST, 0xABC, 0xFEDC), NIPPITSUN_FRAME_MOST);
     CHECK(a.slot == 1 && a.number == 0xFEDC && a.verdict == NIPPITSUN_VERDICT_HANDED_UP && a.length == 1994 && without(2000, 16));
-    want.state = (nippitsun_state){.history = 1, .anchor = 0xFEDC, .remaining = 9, .early = 3, .any = 0};
+    want.state = (nippitsun_state){.history = {1}, .anchor = 0xFEDC, .remaining = 9, .early = 3, .any = 0};
     want.counts.arrivals0++;
     want.counts.passed++;
     CHECK(same(table[1], want) && same(table[0], distinct));
 
     /* The match rule: no rogue, no history, and no places for older numbers. */
     table[1].rule = want.rule = NIPPITSUN_RULE_MATCH;
-    table[1].state.history = want.state.history = 0;
+    table[1].state.history[0] = want.state.history[0] = 0;
     table[1].state.early = want.state.early = 0;
     a = arrive(1, tagged(60, 0xABC, 5), 60);
     CHECK(a.verdict == NIPPITSUN_VERDICT_HANDED_UP && a.number == 5);
@@ -408,7 +416,7 @@ static void start(const struct step *steps, size_t n) {
     CHECK(reset(0) == 0);
     for (size_t i = 0; i < n; i++) {
         CHECK(arrive(i % 2, tagged(60, 0, steps[i].number), 60).verdict == NIPPITSUN_VERDICT_HANDED_UP);
-        CHECK(table[0].state.history == steps[i].history && table[0].state.early == steps[i].early);
+        CHECK(table[0].state.history[0] == steps[i].history && table[0].state.early == steps[i].early);
         CHECK(table[0].counts.lost == steps[i].lost);
     }
 }
@@ -437,8 +445,10 @@ static void starts(void) {
     start(across, sizeof across / sizeof *across);
     start(gap, sizeof gap / sizeof *gap);
 
-    /* Every L: with no number missing lost stays 0. A match record has no such places. */
+    /* Every L of one word, and those about the ends of the others: with no number missing lost stays 0. A match record has no
+     * such places. */
     for (uint16_t window = NIPPITSUN_WINDOW_LEAST; window <= NIPPITSUN_WINDOW_MOST; window++) {
+        if (window > 64 && (window + 1) % 64 > 2) continue;
         for (uint8_t rule = NIPPITSUN_RULE_VECTOR; rule <= NIPPITSUN_RULE_MATCH; rule++) {
             make_table(1);
             CHECK(opened(running_dest, 0, rule, window, 3).refusal == 0 && table[0].state.early == 0);
@@ -455,20 +465,20 @@ static void starts(void) {
 static void places(void) {
     enum { vector = NIPPITSUN_RULE_VECTOR, match = NIPPITSUN_RULE_MATCH };
     static const struct { uint8_t rule; nippitsun_state state; int lawful; } cases[] = {
-        {vector, {.history = 5, .anchor = 100, .remaining = 6, .early = 0}, 1},
-        {vector, {.history = 5, .anchor = 100, .remaining = 6, .early = 1}, 1},
-        {vector, {.history = 5, .anchor = 100, .remaining = 6, .early = 2}, 0}, /* bit 1 is clear */
-        {vector, {.history = 5, .anchor = 100, .remaining = 6, .early = 3}, 1},
-        {vector, {.history = 5, .anchor = 100, .remaining = 6, .early = 4}, 0}, /* L */
-        {vector, {.history = 15, .anchor = 100, .remaining = 6, .early = 4}, 0},
-        {vector, {.history = 15, .anchor = 100, .remaining = 6, .early = 256}, 0},
-        {vector, {.history = 15, .anchor = 100, .remaining = 6, .early = 65535}, 0},
-        {match, {.history = 0, .anchor = 100, .remaining = 6, .early = 0}, 1},
-        {match, {.history = 0, .anchor = 100, .remaining = 6, .early = 3}, 0},
-        {vector, {.history = 0, .anchor = 65535, .remaining = 0, .early = 0, .any = 1}, 1},
-        {vector, {.history = 0, .anchor = 65535, .remaining = 0, .early = 3, .any = 1}, 0},
-        {match, {.history = 0, .anchor = 65535, .remaining = 0, .early = 1, .any = 1}, 0},
-        {vector, {.history = 0, .anchor = 65535, .remaining = 0, .early = 1, .any = 0}, 0}, /* a fresh record of 0.4.0 */
+        {vector, {.history = {5}, .anchor = 100, .remaining = 6, .early = 0}, 1},
+        {vector, {.history = {5}, .anchor = 100, .remaining = 6, .early = 1}, 1},
+        {vector, {.history = {5}, .anchor = 100, .remaining = 6, .early = 2}, 0}, /* bit 1 is clear */
+        {vector, {.history = {5}, .anchor = 100, .remaining = 6, .early = 3}, 1},
+        {vector, {.history = {5}, .anchor = 100, .remaining = 6, .early = 4}, 0}, /* L */
+        {vector, {.history = {15}, .anchor = 100, .remaining = 6, .early = 4}, 0},
+        {vector, {.history = {15}, .anchor = 100, .remaining = 6, .early = 256}, 0},
+        {vector, {.history = {15}, .anchor = 100, .remaining = 6, .early = 65535}, 0},
+        {match, {.history = {0}, .anchor = 100, .remaining = 6, .early = 0}, 1},
+        {match, {.history = {0}, .anchor = 100, .remaining = 6, .early = 3}, 0},
+        {vector, {.history = {0}, .anchor = 65535, .remaining = 0, .early = 0, .any = 1}, 1},
+        {vector, {.history = {0}, .anchor = 65535, .remaining = 0, .early = 3, .any = 1}, 0},
+        {match, {.history = {0}, .anchor = 65535, .remaining = 0, .early = 1, .any = 1}, 0},
+        {vector, {.history = {0}, .anchor = 65535, .remaining = 0, .early = 1, .any = 0}, 0}, /* without take-any */
     };
     make_out(60);
     for (size_t i = 0; i < sizeof cases / sizeof *cases; i++) {
@@ -500,6 +510,151 @@ static void places(void) {
     }
 }
 
+/* ---- histories of several words (document 02, order 5) */
+
+static void mark(nippitsun_state *s, unsigned place) { s->history[place / 64] |= (uint64_t)1 << place % 64; }
+
+/* A history place by place, with no words, that moves one place at a time. */
+static struct { uint8_t came[NIPPITSUN_WINDOW_MOST]; uint16_t early; uint64_t lost; } model;
+
+static void model_moves(unsigned window) {
+    if (model.early) model.early--;
+    else model.lost += !model.came[window - 1];
+    for (unsigned k = window - 1; k > 0; k--) model.came[k] = model.came[k - 1];
+    model.came[0] = 0;
+}
+
+/* The arrival of the number that is d from the anchor, held to the model. */
+static void arrives_at(int d) {
+    int window = table[0].window;
+    uint16_t anchor = table[0].state.anchor, number = (uint16_t)(anchor + d);
+    uint8_t verdict = NIPPITSUN_VERDICT_HANDED_UP;
+    if (d >= window || d <= -window) verdict = NIPPITSUN_VERDICT_ROGUE;
+    else if (d <= 0) {
+        if (model.came[-d]) verdict = NIPPITSUN_VERDICT_DUPLICATE;
+        model.came[-d] = 1;
+    } else {
+        for (int i = 0; i < d; i++) model_moves((unsigned)window);
+        model.came[0] = 1;
+        anchor = number;
+    }
+    nippitsun_state want = {.history = {0}, .anchor = anchor, .remaining = 9, .early = model.early, .any = 0};
+    for (unsigned k = 0; k < NIPPITSUN_WINDOW_MOST; k++)
+        if (model.came[k]) mark(&want, k);
+    CHECK(arrive(0, tagged(60, 0, number), 60).verdict == verdict);
+    CHECK(same_state(table[0].state, want) && table[0].counts.lost == model.lost);
+}
+
+/* A stream with its first number. */
+static void starts_at(uint16_t window, uint16_t number) {
+    make_table(1);
+    CHECK(opened(running_dest, 0, NIPPITSUN_RULE_VECTOR, window, 9).refusal == 0 && table[0].window == window);
+    CHECK(arrive(0, tagged(60, 0, number), 60).verdict == NIPPITSUN_VERDICT_HANDED_UP);
+    for (unsigned k = 0; k < NIPPITSUN_WINDOW_MOST; k++) model.came[k] = k == 0;
+    model.early = (uint16_t)(window - 1);
+    model.lost = 0;
+    CHECK(table[0].state.early == model.early && table[0].state.history[0] == 1);
+}
+
+/* A number below n, the same ones in every run. */
+static unsigned below(unsigned n) {
+    static uint64_t dice = 3;
+    dice = dice * 6364136223846793005u + 1;
+    return (unsigned)(dice >> 33) % n;
+}
+
+static void words(void) {
+    static const uint16_t windows[] = {2, 63, 64, 65, 127, 128, 129, 448, 511, 512};
+    static const int ds[] = {1,   -1,  0,    63,   -64,  -63, 64,   -65, -63,  65,   -127, -128, 2,    127, -126,
+                             128, -64, -447, -448, -449, 447, -510, 448, -511, -512, 511,  -511, -510, 512, -512,
+                             510, 1,   -510, -511, -1,   1,   1,    -64, -128, 63,   1,    64,   -256, 256, -32768};
+    make_out(60);
+    for (size_t i = 0; i < sizeof windows / sizeof *windows; i++) {
+        int window = windows[i];
+        /* From the wrap on, and across it: each d, the ends of the window, and any d about it. */
+        for (uint16_t from = 65000; from != 136; from = (uint16_t)(from + 168)) {
+            starts_at(windows[i], from);
+            for (size_t n = 0; n < sizeof ds / sizeof *ds; n++) {
+                arrives_at(ds[n]);
+                arrives_at(n % 2 ? window - 1 : -(window - 1));
+                if (n % 4 == 0) arrives_at(n % 8 ? window : -window);
+            }
+            for (size_t n = 0; n < 100; n++) arrives_at(below(3) ? (int)below(2u * windows[i] + 3) - window - 1 : 1);
+        }
+    }
+
+    /* A move across every border of two words, by one place and by more. */
+    for (unsigned border = 64; border < NIPPITSUN_WINDOW_MOST; border += 64) {
+        starts_at(NIPPITSUN_WINDOW_MOST, 65500);
+        arrives_at((int)border - 1);
+        CHECK(table[0].state.history[border / 64 - 1] >> 63 == 1 && table[0].state.history[border / 64] == 0);
+        arrives_at(1);
+        CHECK(table[0].state.history[border / 64 - 1] >> 63 == 0 && table[0].state.history[border / 64] == 1);
+        arrives_at(63);
+        CHECK(table[0].state.history[border / 64] >> 63 == 1 && (table[0].state.history[1] & 1) == 1);
+    }
+
+    /* The first stays in the largest window until 511 have come behind it, and is a duplicate until then. */
+    starts_at(NIPPITSUN_WINDOW_MOST, 65400);
+    arrives_at(511);
+    CHECK(table[0].state.history[0] == 1 && table[0].state.history[7] == (uint64_t)1 << 63 && table[0].state.early == 0);
+    arrives_at(-511);
+    arrives_at(-512);
+    CHECK(table[0].counts.discarded == 1 && table[0].counts.rogue == 1 && table[0].counts.lost == 0);
+    arrives_at(1);
+    CHECK(table[0].state.history[7] == 0 && table[0].counts.lost == 0);
+    arrives_at(1);
+    CHECK(table[0].counts.lost == 1);
+}
+
+/* A record that is lent: no bit at L or above in any word, and the places for older numbers in all of them. */
+static void lent_words(void) {
+    enum { none = 999 };
+    static const struct { uint16_t window; unsigned place; uint16_t early; int lawful; } cases[] = {
+        {64, 63, 0, 1},   {64, 64, 0, 0},   {64, 127, 0, 0},  {64, 511, 0, 0},   {65, 64, 0, 1},    {65, 65, 0, 0},
+        {65, 128, 0, 0},  {127, 126, 0, 1}, {127, 127, 0, 0}, {127, 448, 0, 0},  {128, 127, 0, 1},  {128, 128, 0, 0},
+        {128, 511, 0, 0}, {511, 510, 0, 1}, {511, 511, 0, 0}, {512, 511, 0, 1},  {512, none, 0, 1}, {2, 1, 0, 1},
+        {2, 2, 0, 0},     {2, 66, 0, 0},    {4, 64, 0, 0},    {4, 320, 0, 0},    {513, 1, 0, 0},    {513, 512, 0, 0},
+        {1, none, 0, 0},  {0, none, 0, 0},  {65535, 1, 0, 0}, {512, 255, 256, 1}, {512, 255, 255, 0}, {512, 255, 257, 0},
+        {512, 1, 510, 1}, {512, none, 511, 1}, {512, 511, 512, 0}, {512, 447, 64, 1}, {512, 448, 64, 0}, {512, 511, 1, 0},
+        {512, 510, 1, 1}, {65, 63, 1, 1},   {65, 64, 1, 0},   {65, none, 64, 1}, {65, none, 65, 0}, {129, 64, 64, 1},
+        {129, 0, 64, 0},  {511, none, 510, 1}, {511, none, 511, 0},
+    };
+    make_out(60);
+    for (size_t i = 0; i < sizeof cases / sizeof *cases; i++) {
+        make_table(1);
+        table[0] = running();
+        table[0].window = cases[i].window;
+        table[0].state = (nippitsun_state){.history = {1}, .anchor = 100, .remaining = 6, .early = cases[i].early, .any = 0};
+        if (cases[i].place < NIPPITSUN_WINDOW_MOST) mark(&table[0].state, cases[i].place);
+        nippitsun_stream lent = table[0];
+        int in_range = cases[i].window >= NIPPITSUN_WINDOW_LEAST && cases[i].window <= NIPPITSUN_WINDOW_MOST;
+        CHECK(ticked().damaged == !cases[i].lawful);
+        table[0] = lent;
+        CHECK(arrive(0, tagged(60, 0, 101), 60).refusal == (cases[i].lawful ? 0 : NIPPITSUN_REFUSED_DAMAGED));
+        CHECK(reset(0) == (in_range ? 0 : NIPPITSUN_REFUSED_DAMAGED));
+        if (in_range) CHECK(same_state(table[0].state, fresh));
+    }
+
+    /* Fresh records and those of the match rule have no bit in any word. */
+    for (unsigned place = 0; place < NIPPITSUN_WINDOW_MOST; place++) {
+        for (int rule = NIPPITSUN_RULE_VECTOR; rule <= NIPPITSUN_RULE_MATCH; rule++) {
+            make_table(2);
+            table[0] = table[1] = running();
+            table[0].rule = (uint8_t)rule;
+            table[1].rule = NIPPITSUN_RULE_MATCH;
+            table[0].window = table[1].window = NIPPITSUN_WINDOW_MOST;
+            table[0].state = fresh;
+            table[1].state.history[0] = 0;
+            CHECK(ticked().damaged == 0);
+            mark(&table[0].state, place);
+            mark(&table[1].state, place);
+            CHECK(ticked().damaged == 2);
+            CHECK(arrive(0, tagged(60, 0, 101), 60).refusal == NIPPITSUN_REFUSED_DAMAGED);
+        }
+    }
+}
+
 /* Open writes every field of a record that had another value in each. */
 static void opens(void) {
     static const uint8_t dest[6] = {0xC1, 0xC2, 0xC3, 0xC4, 0xC5, 0xC6};
@@ -523,7 +678,11 @@ static void opens(void) {
         {0, 255, 4, 3, 0},
         {0, 1, NIPPITSUN_WINDOW_LEAST - 1, 3, 0},
         {0, 1, NIPPITSUN_WINDOW_MOST + 1, 3, 0},
-        {0, 1, 256 + 4, 3, 0},
+        {0, 1, 64, 3, 1},
+        {0, 1, 65, 3, 1},
+        {0, 1, 256 + 4, 3, 1},
+        {0, 1, 512 + 4, 3, 0},
+        {0, 1, 65535, 3, 0},
         {0, 1, 4, NIPPITSUN_TIME_LEAST - 1, 0},
     };
     for (size_t i = 0; i < sizeof cases / sizeof *cases; i++) {
@@ -823,13 +982,6 @@ static void batches(void) {
     CHECK(at == packed_bytes && same(table[0], at_once));
 }
 
-/* A number below n, the same ones in every run. */
-static unsigned below(unsigned n) {
-    static uint64_t dice = 3;
-    dice = dice * 6364136223846793005u + 1;
-    return (unsigned)(dice >> 33) % n;
-}
-
 /* Batches of all kinds, each held to single arrivals in turn. */
 static void batches_in_turn(void) {
     static const size_t lengths[] = {0, 13, 19, 20, 24, 64, 300, 2001};
@@ -841,14 +993,14 @@ static void batches_in_turn(void) {
         for (size_t s = 0; s < 3; s++) table[s] = running();
         table[0].vlan = 7;
         table[1].vlan = 5;
-        table[2].window = below(2) ? 4 : 64;
+        table[2].window = (uint16_t[]){4, 64, 65, 512}[below(4)];
         table[2].state.early = (uint16_t)(below(2) * (table[2].window - 1u));
         if (below(3) == 0) table[2].state = distinct.state;
         pack_none();
         for (size_t n = below(NIPPITSUN_FRAMES_MOST + 1); n > 0; n--) {
             size_t length = lengths[below(8)];
             uint16_t vlan = below(2) ? 5 : 0;
-            tagged(length, vlan, (uint16_t)(90 + below(40)));
+            tagged(length, vlan, (uint16_t)(90 + below(below(8) ? 40 : 600)));
             if (below(12) == 0) frame_bytes[13] = 0;
             if (below(12) == 0) frame_bytes[6] |= 1;
             if (below(12) == 0) frame_bytes[5] ^= 1;
@@ -917,6 +1069,8 @@ int main(void) {
     arrivals();
     starts();
     places();
+    words();
+    lent_words();
     opens();
     closes_resets_and_ticks();
     refusals();

@@ -1,5 +1,5 @@
-//! A receiver for frames that arrive on two networks, proved to do what document 01 says, with orders 1, 3 and 4 of document
-//! 02 (order 2 changes no answer), and safe to use from Rust.
+//! A receiver for frames that arrive on two networks, proved to do what document 01 says, with orders 1, 3, 4 and 5 of
+//! document 02 (order 2 changes no answer), and safe to use from Rust.
 //!
 //! [`Receiver`] owns a table of streams and decides each arrival: handed up, duplicate or rogue. A [`Batch`] is the answer to up
 //! to 32 frames in one call, each decided as if it had come alone. [`tag`] puts the redundancy tag into a frame and takes it

@@ -14,7 +14,7 @@ pub struct Settings {
     pub vlan: u16,
     /// [`Stream::VECTOR_RULE`] or [`Stream::MATCH_RULE`].
     pub rule: u8,
-    /// The window L, 2 to 64.
+    /// The window L, 2 to 512.
     pub window: u16,
     /// The reset time R, 1 to 65535 ticks.
     pub time: u16,

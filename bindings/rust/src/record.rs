@@ -6,8 +6,8 @@ use std::mem::{align_of, size_of};
 #[repr(C)]
 #[derive(Clone, Copy, Debug, Default, PartialEq, Eq)]
 pub struct State {
-    /// Bit k stands for the number anchor - k.
-    pub history: u64,
+    /// Eight words of 64 bits. Bit k of the history is bit k mod 64 of word k / 64, and stands for the number anchor - k.
+    pub history: [u64; Stream::HISTORY_WORDS],
     /// The number that differences are taken from.
     pub anchor: u16,
     /// Ticks left until the stream is reset.
@@ -94,7 +94,9 @@ impl Stream {
     /// Smallest window L.
     pub const WINDOW_LEAST: u16 = 2;
     /// Largest window L.
-    pub const WINDOW_MOST: u16 = 64;
+    pub const WINDOW_MOST: u16 = 512;
+    /// The words of a history: one bit for each place of the largest window.
+    pub const HISTORY_WORDS: usize = Stream::WINDOW_MOST as usize / 64;
     /// Smallest reset time R, in ticks.
     pub const TIME_LEAST: u16 = 1;
     /// Largest reset time R.
@@ -106,8 +108,8 @@ impl Stream {
     /// The match rule.
     pub const MATCH_RULE: u8 = 2;
 
-    /// The record's bytes as they lie in memory, low byte first: for a file, or for another program. In 0.5.0 `any` has moved
-    /// and has two bytes: bytes that were kept from an earlier version are no record any more.
+    /// The record's bytes as they lie in memory, low byte first: for a file, or for another program. In 0.6.0 the history has
+    /// eight words: bytes that were kept from an earlier version are no record any more.
     pub fn to_bytes(&self) -> [u8; size_of::<Stream>()] {
         let state = &self.state;
         let mut bytes = Vec::with_capacity(size_of::<Stream>());
@@ -116,7 +118,9 @@ impl Stream {
             bytes.extend_from_slice(&field.to_le_bytes());
         }
         bytes.extend_from_slice(&[self.rule, self.used]);
-        bytes.extend_from_slice(&state.history.to_le_bytes());
+        for word in state.history {
+            bytes.extend_from_slice(&word.to_le_bytes());
+        }
         for field in [state.anchor, state.remaining, state.early, state.any] {
             bytes.extend_from_slice(&field.to_le_bytes());
         }
@@ -138,6 +142,6 @@ pub fn dest_of(six: [u8; 6]) -> u64 {
 }
 
 // The order of the fields is C's. With these sizes there is no room for a field of another width.
-const _: () = assert!(size_of::<State>() == 16 && align_of::<State>() == 8);
+const _: () = assert!(size_of::<State>() == 72 && align_of::<State>() == 8);
 const _: () = assert!(size_of::<Counts>() == 64 && align_of::<Counts>() == 8);
-const _: () = assert!(size_of::<Stream>() == 96 && align_of::<Stream>() == 8);
+const _: () = assert!(size_of::<Stream>() == 152 && align_of::<Stream>() == 8);

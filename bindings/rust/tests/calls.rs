@@ -2,13 +2,15 @@
 
 #[path = "calls/batch.rs"]
 mod batch;
+#[path = "calls/words.rs"]
+mod words;
 
 use nippitsun::{
     dest_of, tag, Arrival, Counts, Receiver, Refusal, Settings, State, Stream, Ticked, Verdict,
 };
 
 const FRESH: State = State {
-    history: 0,
+    history: [0; 8],
     anchor: 65535,
     remaining: 0,
     early: 0,
@@ -24,7 +26,16 @@ const DISTINCT: Stream = Stream {
     rule: 0x17,
     used: 0x18,
     state: State {
-        history: 0x2122232425262728,
+        history: [
+            0x2122232425262728,
+            0xB1B2B3B4B5B6B7B8,
+            0xC1C2C3C4C5C6C7C8,
+            0xD1D2D3D4D5D6D7D8,
+            0xE1E2E3E4E5E6E7E8,
+            0xF1F2F3F4F5F6F7F8,
+            0x191A1B1C1D1E1F20,
+            0x393A3B3C3D3E3F40,
+        ],
         anchor: 0x292A,
         remaining: 0x2B2C,
         early: 0x2D2E,
@@ -44,6 +55,11 @@ const DISTINCT: Stream = Stream {
 
 const DESTINATION: [u8; 6] = [2, 3, 4, 5, 6, 7];
 
+/// A history whose bits are all in the first word.
+fn history(first: u64) -> [u64; Stream::HISTORY_WORDS] {
+    [first, 0, 0, 0, 0, 0, 0, 0]
+}
+
 /// A lawful record of the vector rule with distinct counters: the numbers 100 and 98 came, and older ones before.
 fn running() -> Stream {
     Stream {
@@ -54,7 +70,7 @@ fn running() -> Stream {
         rule: Stream::VECTOR_RULE,
         used: 1,
         state: State {
-            history: 5,
+            history: history(5),
             anchor: 100,
             remaining: 6,
             early: 0,
@@ -131,7 +147,7 @@ fn arrivals_change_the_fields_that_they_should() {
     want.counts.disorder += 1;
     want.counts.lost += 1;
     want.state = State {
-        history: 5,
+        history: history(5),
         anchor: 102,
         remaining: 9,
         early: 0,
@@ -175,7 +191,7 @@ fn places_for_older_numbers_are_looked_at() {
     let match_rule = Stream {
         rule: Stream::MATCH_RULE,
         state: State {
-            history: 0,
+            history: [0; 8],
             ..vector
         },
         ..running()
@@ -310,7 +326,7 @@ fn every_refusal() {
     assert_eq!(long.reset(99), Err(Refusal::Table));
     assert_eq!(long.tick(), Err(Refusal::Table));
     assert_eq!(r.reset(1), Err(Refusal::Slot));
-    r.records_mut()[0].window = 65;
+    r.records_mut()[0].window = 513;
     assert_eq!(r.reset(0), Err(Refusal::Damaged));
     assert_eq!(tag::put(&[1; 1995], 2, &mut out), Err(Refusal::Long));
     assert_eq!(tag::put(&group[..13], 2, &mut out), Err(Refusal::Short));
@@ -404,13 +420,20 @@ fn refusals_have_their_numbers_and_say_why() {
 #[test]
 fn a_record_as_bytes() {
     let bytes = DISTINCT.to_bytes();
-    assert_eq!(bytes.len(), 96);
+    assert_eq!(bytes.len(), 152);
     // Each field of DISTINCT is written with its high byte first, so in memory it stands backwards.
     assert_eq!(bytes[..8], [8, 7, 6, 5, 4, 3, 2, 1]);
     assert_eq!(
         bytes[8..16],
         [0x12, 0x11, 0x14, 0x13, 0x16, 0x15, 0x17, 0x18]
     );
-    assert_eq!(bytes[24..32], [0x2A, 0x29, 0x2C, 0x2B, 0x2E, 0x2D, 0x30, 0x2F]);
-    assert_eq!(bytes[88..], 0xA1A2A3A4A5A6A7A8u64.to_le_bytes());
+    assert_eq!(bytes[16..24], 0x2122232425262728u64.to_le_bytes());
+    assert_eq!(bytes[24..32], 0xB1B2B3B4B5B6B7B8u64.to_le_bytes());
+    assert_eq!(bytes[72..80], 0x393A3B3C3D3E3F40u64.to_le_bytes());
+    assert_eq!(
+        bytes[80..88],
+        [0x2A, 0x29, 0x2C, 0x2B, 0x2E, 0x2D, 0x30, 0x2F]
+    );
+    assert_eq!(bytes[88..96], 0x3132333435363738u64.to_le_bytes());
+    assert_eq!(bytes[144..], 0xA1A2A3A4A5A6A7A8u64.to_le_bytes());
 }

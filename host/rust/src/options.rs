@@ -285,7 +285,7 @@ mod tests {
 
     #[test]
     fn what_is_refused() {
-        let setting = "020000000001,0,vector,65,3";
+        let setting = "020000000001,0,vector,513,3";
         let id = "020000000001,4095,vector,5,3";
         for (line, said) in [
             ("a b", "no stream: --open names one"),

@@ -1,6 +1,6 @@
 //! Event file to text.
 
-use crate::{Frame, LastOpened, ARRIVAL, CLOSE, OPEN, RESET, TICK};
+use crate::{Frame, LastOpened, ARRIVAL, CLOSE, OPEN, OPEN_LONG, RESET, TICK};
 use crate::{SOURCE, TAG_MARK, TYPE, VERSION, VLAN_MARK};
 
 /// Turns any bytes into a text that `encode` turns into the same bytes.
@@ -70,20 +70,14 @@ impl Lines {
             [TICK] => self.ticks += 1,
             [CLOSE, slot] => self.push(format!("close {slot}")),
             [RESET, slot] => self.push(format!("reset {slot}")),
-            [OPEN, d0, d1, d2, d3, d4, d5, v0, v1, rule, window, r0, r1] => {
-                let to = [d0, d1, d2, d3, d4, d5];
-                let vlan = u16::from_be_bytes([v0, v1]);
-                let rule = match rule {
-                    1 => "vector".into(),
-                    2 => "match".into(),
-                    _ => format!("rule {rule}"),
-                };
-                let reset_time = u16::from_be_bytes([r0, r1]);
-                self.last_opened = LastOpened { to: Some(to), vlan };
-                let to = address(to);
-                self.push(format!(
-                    "open {to} vlan {vlan} {rule} L {window} R {reset_time}"
-                ));
+            [OPEN, ref key @ .., rule, window, r0, r1] if key.len() == 8 => {
+                self.open(key, rule, &format!("L {window}"), [r0, r1]);
+            }
+            [OPEN_LONG, ref key @ .., rule, l0, l1, r0, r1] if key.len() == 8 => {
+                let window = u16::from_be_bytes([l0, l1]);
+                // One byte would hold it too: that would be the other kind.
+                let long = if window < 256 { " long" } else { "" };
+                self.open(key, rule, &format!("L {window}{long}"), [r0, r1]);
             }
             [ARRIVAL, network, ref bytes @ ..] => match parse(bytes) {
                 Some(frame) => {
@@ -94,6 +88,24 @@ impl Lines {
             },
             _ => self.push(raw(body)),
         }
+    }
+
+    /// The key is the six bytes of the destination and the two of the VLAN id.
+    fn open(&mut self, key: &[u8], rule: u8, window: &str, reset_time: [u8; 2]) {
+        let mut to = [0; 6];
+        to.copy_from_slice(&key[..6]);
+        let vlan = u16::from_be_bytes([key[6], key[7]]);
+        let rule = match rule {
+            1 => "vector".into(),
+            2 => "match".into(),
+            _ => format!("rule {rule}"),
+        };
+        let reset_time = u16::from_be_bytes(reset_time);
+        self.last_opened = LastOpened { to: Some(to), vlan };
+        let to = address(to);
+        self.push(format!(
+            "open {to} vlan {vlan} {rule} {window} R {reset_time}"
+        ));
     }
 
     /// Only what differs from the defaults is said.

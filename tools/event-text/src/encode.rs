@@ -2,7 +2,7 @@
 
 use std::fmt;
 
-use crate::{Frame, LastOpened, ARRIVAL, CLOSE, MAX_BODY, OPEN, RESET, TICK};
+use crate::{Frame, LastOpened, ARRIVAL, CLOSE, MAX_BODY, OPEN, OPEN_LONG, RESET, TICK};
 use crate::{SOURCE, TYPE, VERSION};
 
 /// What is wrong with a text, and in which line.
@@ -138,13 +138,15 @@ impl Writer {
     fn open(&mut self, words: &mut Words) -> Result<(), String> {
         let to = address(words.need("the destination")?)?;
         let (mut vlan, mut rule, mut window, mut reset_time) = (0, None, None, None);
+        let mut long = false;
         while let Some(word) = words.next() {
             match word {
                 "vlan" => vlan = words.number("the VLAN id", 65535)? as u16,
                 "vector" => rule = Some(1),
                 "match" => rule = Some(2),
                 "rule" => rule = Some(words.number("the rule", 255)? as u8),
-                "L" => window = Some(words.number("L", 255)? as u8),
+                "L" => window = Some(words.number("L", 65535)? as u16),
+                "long" => long = true,
                 "R" => reset_time = Some(words.number("R", 65535)? as u16),
                 _ => return Err(format!("'{word}' means nothing in an open")),
             }
@@ -153,10 +155,15 @@ impl Writer {
         let window = window.ok_or("the window is missing: 'L N'")?;
         let reset_time = reset_time.ok_or("the reset time is missing: 'R N'")?;
         self.last_opened = LastOpened { to: Some(to), vlan };
-        let mut body = vec![OPEN];
+        let short = u8::try_from(window).ok().filter(|_| !long);
+        let mut body = vec![if short.is_some() { OPEN } else { OPEN_LONG }];
         body.extend(to);
         body.extend(vlan.to_be_bytes());
-        body.extend([rule, window]);
+        body.push(rule);
+        match short {
+            Some(window) => body.push(window),
+            None => body.extend(window.to_be_bytes()),
+        }
         body.extend(reset_time.to_be_bytes());
         self.record(&body)
     }

@@ -1,5 +1,6 @@
 //! Event files as readable text, and back. The form of the file is document
-//! 01's ("Event file and the program `events`"); the text is ours.
+//! 01's ("Event file and the program `events`"), with the open of order 5; the
+//! text is ours.
 //!
 //! One statement a line; `#` starts a comment.
 //!
@@ -7,17 +8,19 @@
 //! version 2                     another version byte than 1; only as the first statement
 //! empty                         no byte at all; only alone
 //! open 02:00:00:00:00:01 vlan 0 vector L 4 R 3
+//!                               L up to 255 has one byte, kind 1; above it has two, kind 6
 //! net 0 number 7                a tagged frame on network 0, to the destination last opened
 //! net 1 number 65534..2         five of them, through the wrap
 //! net 1 untagged                a frame without a redundancy tag
 //! tick                          tick 5: five of them
 //! close 0
 //! reset 0
-//! raw 0601                      any body, in hex; raw alone is a body of length 0
+//! raw 0701                      any body, in hex; raw alone is a body of length 0
 //! cut 0016 04                   bytes at the end of the file that are no whole record
 //! ```
 //!
-//! `open` also takes `match`, or `rule N` for any rule. Behind `net` may stand
+//! `open` also takes `match`, or `rule N` for any rule, and `long`: kind 6 for
+//! an L that one byte would hold too. Behind `net` may stand
 //! `to ADDRESS`, `from ADDRESS`, `vlan N` (a VLAN tag), `vlan none`, `tci HEX`
 //! (all 16 bits behind 8100), `reserved HEX`, `type HEX`, `data HEX` (what
 //! follows the type) and `size N` (filled with zeros, or cut, to N bytes).
@@ -41,6 +44,8 @@ const CLOSE: u8 = 2;
 const RESET: u8 = 3;
 const ARRIVAL: u8 = 4;
 const TICK: u8 = 5;
+/// An open with two bytes for L.
+const OPEN_LONG: u8 = 6;
 
 const TAG_MARK: [u8; 2] = [0xF1, 0xC1];
 const VLAN_MARK: [u8; 2] = [0x81, 0x00];

@@ -60,11 +60,33 @@ fn every_statement() {
         ("close 255\nreset 8", "01 0002 02FF 0002 0308"),
         ("raw", "01 0000"),
         ("raw 06 0708 ab", "01 0004 060708AB"),
+        ("raw 07", "01 0001 07"),
         ("tick\ncut 00", "01 0001 05 00"),
         ("cut 0003 05 05", "01 0003 0505"),
         (
             "open aA:00:00:00:00:01 rule 9 L 255 R 65535 vlan 65535",
             "01 000D 01 AA0000000001 FFFF 09 FF FFFF",
+        ),
+        // One byte for L where it fits, else two, the high one first.
+        (
+            "open 01:02:03:04:05:06 vlan 7 vector L 256 R 3",
+            "01 000E 06 010203040506 0007 01 0100 0003",
+        ),
+        (
+            "open 01:02:03:04:05:06 match L 513 R 772",
+            "01 000E 06 010203040506 0000 02 0201 0304",
+        ),
+        (
+            "open 01:02:03:04:05:06 vector L 65535 R 1",
+            "01 000E 06 010203040506 0000 01 FFFF 0001",
+        ),
+        (
+            "open 01:02:03:04:05:06 vector long L 4 R 3",
+            "01 000E 06 010203040506 0000 01 0004 0003",
+        ),
+        (
+            "open 01:02:03:04:05:06 vector L 300 R 3 long",
+            "01 000E 06 010203040506 0000 01 012C 0003",
         ),
         (
             "net 255 untagged to 01:02:03:04:05:06 from 11:12:13:14:15:16 type 88B5 data 0102",
@@ -85,6 +107,27 @@ fn every_statement() {
         ),
     ] {
         assert_eq!(file(text), bytes(hex), "{text}");
+        comes_back(&bytes(hex));
+    }
+}
+
+#[test]
+fn the_kind_of_an_open_comes_back() {
+    let short = "open 01:00:00:00:00:01 vlan 5 match L 255 R 1\nnet 0 number 1\n";
+    let long = "open 01:00:00:00:00:01 vlan 5 match L 255 long R 1\nnet 0 number 1\n";
+    let above = "open 01:00:00:00:00:01 vlan 5 match L 256 R 1\nnet 0 number 1\n";
+    for (text, kind, length) in [(short, 1, 13), (long, 6, 14), (above, 6, 14)] {
+        let bytes = file(text);
+        assert_eq!(bytes[1..4], [0, length, kind], "{text}");
+        assert_eq!(decode(&bytes), text);
+    }
+    // A kind with the other one's length is no open.
+    for hex in [
+        "01 000E 01 010203040506 0007 01 0100 0003",
+        "01 000D 06 010203040506 0007 01 04 0003",
+        "01 000F 06 010203040506 0007 01 0100 000300",
+    ] {
+        assert!(decode(&bytes(hex)).starts_with("raw "), "{hex}");
         comes_back(&bytes(hex));
     }
 }
@@ -129,7 +172,7 @@ fn any_bytes_come_back() {
         let length = below(80);
         let any: Vec<u8> = (0..length)
             .map(|_| {
-                let few = [0, 0, 0, 1, 2, 4, 5, 13, 0x16, 0x81, 0xF1, 0xC1];
+                let few = [0, 0, 0, 1, 2, 4, 5, 6, 13, 14, 0x16, 0x81, 0xF1, 0xC1];
                 few[below(few.len() as u64) as usize]
             })
             .collect();
@@ -190,6 +233,11 @@ fn faults_name_their_line() {
             "the reset time is missing",
         ),
         ("open 01:02:03:04:05:06 vector l 4", 1, "'l' means nothing"),
+        (
+            "open 01:02:03:04:05:06 vector L 65536",
+            1,
+            "from 0 to 65535",
+        ),
         ("open 01:02:03:04:05:0600 vector", 1, "no address"),
     ] {
         let fault = encode(text).unwrap_err();

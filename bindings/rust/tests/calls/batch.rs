@@ -287,7 +287,7 @@ fn batches_are_single_arrivals_in_turn() {
     for _ in 0..20_000 {
         let mut r = Receiver::from_records(vec![running(), running()]);
         r.records_mut()[0].vlan = 7;
-        r.records_mut()[1].window = [4, 64][dice.below(2) as usize];
+        r.records_mut()[1].window = [4, 64, 65, 512][dice.below(4) as usize];
         if dice.below(3) == 0 {
             r.records_mut()[1].state = State::default();
         }
