@@ -277,12 +277,14 @@ fn no_index_is_handed_up_twice() {
 fn one_step_further_the_number_is_ambiguous() {
     // Why the premise is 65536 - L: one further on, the number falls into the
     // window from the other side, and no receiver could tell.
-    let window = 4i64;
     let highest = 100;
-    let index = highest + 65536 - (window - 1);
-    let mut table = [running(Stream::VECTOR, 4, 3, number(highest), 0b0001)];
-    assert_eq!(arrive(&mut table, number(index)), "up");
-    assert_eq!(table[0].anchor, number(highest));
-    let mut table = [running(Stream::VECTOR, 4, 3, number(highest), 0b0001)];
-    assert_eq!(arrive(&mut table, number(index - 1)), "rogue");
+    for window in [2, 4, 64, 65, 128, 512] {
+        let index = highest + 65536 - (window - 1);
+        let lent = running(Stream::VECTOR, window as u16, 3, number(highest), 1);
+        let mut table = [lent];
+        assert_eq!(arrive(&mut table, number(index)), "up");
+        assert_eq!(table[0].anchor, number(highest));
+        let mut table = [lent];
+        assert_eq!(arrive(&mut table, number(index - 1)), "rogue");
+    }
 }
