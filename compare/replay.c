@@ -49,8 +49,9 @@ static u64 number(int bytes) {
 
 static int same(const stream *a, const stream *b) {
     return a->dest == b->dest && a->vlan == b->vlan && a->window == b->window && a->time == b->time && a->rule == b->rule
-        && a->used == b->used && a->state.history == b->state.history && a->state.anchor == b->state.anchor
-        && a->state.remaining == b->state.remaining && a->state.early == b->state.early && a->state.any == b->state.any
+        && a->used == b->used && memcmp(a->state.history, b->state.history, sizeof a->state.history) == 0
+        && a->state.anchor == b->state.anchor && a->state.remaining == b->state.remaining && a->state.early == b->state.early
+        && a->state.any == b->state.any
         && memcmp(&a->counts, &b->counts, sizeof a->counts) == 0;
 }
 

@@ -172,20 +172,15 @@ impl Side for Product {
     }
 }
 
-/// The second program. Its record has no room for a destination of more than six bytes, nor for a window above 255. Such a
-/// record has a stand-in here: a destination that no call may name, and a window of 255, which is out of range too. The real
-/// values are kept beside it.
+/// The second program. Its record has no room for a destination of more than six bytes. Such a record has a stand-in here: a
+/// destination that no call may name. The real one is kept beside it.
 pub struct Second {
     table: Vec<second::Stream>,
-    real: Vec<(u64, u16)>,
+    real: Vec<u64>,
 }
 
 /// Stands in for a destination of more than six bytes.
 const NOBODY: [u8; 6] = [0xFF; 6];
-
-fn window_of(window: u16) -> u8 {
-    window.try_into().unwrap_or(u8::MAX)
-}
 
 /// What the second program answers to one frame of a batch, as the archive has it. The mark is all zeros.
 fn plain(answer: Option<Result<second::Arrival, second::Refusal>>) -> ArrivalAnswer {
@@ -210,7 +205,7 @@ impl Side for Second {
     fn new(records: &[Stream]) -> Second {
         let mut side = Second {
             table: vec![second::Stream::FREE; records.len()],
-            real: vec![(0, 0); records.len()],
+            real: vec![0; records.len()],
         };
         for (slot, &record) in records.iter().enumerate() {
             side.set(slot, record);
@@ -220,7 +215,7 @@ impl Side for Second {
 
     fn set(&mut self, slot: usize, s: Stream) {
         let [_, _, destination @ ..] = s.dest.to_be_bytes();
-        self.real[slot] = (s.dest, s.window);
+        self.real[slot] = s.dest;
         self.table[slot] = second::Stream {
             in_use: s.used,
             destination: if s.dest >> 48 == 0 {
@@ -230,7 +225,7 @@ impl Side for Second {
             },
             vlan: s.vlan,
             rule: s.rule,
-            window: window_of(s.window),
+            window: s.window,
             reset_time: s.time,
             anchor: s.state.anchor,
             history: s.state.history,
@@ -249,19 +244,14 @@ impl Side for Second {
 
     fn record(&self, slot: usize) -> Stream {
         let s = &self.table[slot];
-        let (dest, window) = self.real[slot];
         Stream {
             dest: if s.destination == NOBODY {
-                dest
+                self.real[slot]
             } else {
                 nippitsun::dest_of(s.destination)
             },
             vlan: s.vlan,
-            window: if s.window == u8::MAX {
-                window
-            } else {
-                s.window.into()
-            },
+            window: s.window,
             time: s.reset_time,
             rule: s.rule,
             used: s.in_use,
@@ -308,7 +298,7 @@ impl Side for Second {
                         destination: s.destination,
                         vlan: s.vlan,
                         rule: s.rule,
-                        window: window_of(s.window),
+                        window: s.window,
                         reset_time: s.time,
                     },
                 )

@@ -11,7 +11,7 @@
 //! | 240 arrival with less room | room 2, network 1, frame |
 //! | 241 write a tag | room 2, number 2, frame |
 //! | 242 take a tag out | room 2, frame |
-//! | 243 set a record | slot 1, its 96 bytes as they lie in memory, low bytes first |
+//! | 243 set a record | slot 1, its 152 bytes as they lie in memory, low bytes first |
 //! | 244 change one byte of a record | slot 1, place 1, value 1 |
 //! | 245 batch | room 2, network 1, count 1, frames with their lengths |
 
@@ -49,21 +49,21 @@ fn from_bytes(b: &[u8; RECORD]) -> Stream {
         rule: b[14],
         used: b[15],
         state: State {
-            history: eight(16),
-            anchor: two(24),
-            remaining: two(26),
-            early: two(28),
-            any: two(30),
+            history: std::array::from_fn(|word| eight(16 + 8 * word)),
+            anchor: two(80),
+            remaining: two(82),
+            early: two(84),
+            any: two(86),
         },
         counts: Counts {
-            arrivals0: eight(32),
-            arrivals1: eight(40),
-            passed: eight(48),
-            discarded: eight(56),
-            rogue: eight(64),
-            disorder: eight(72),
-            lost: eight(80),
-            resets: eight(88),
+            arrivals0: eight(88),
+            arrivals1: eight(96),
+            passed: eight(104),
+            discarded: eight(112),
+            rogue: eight(120),
+            disorder: eight(128),
+            lost: eight(136),
+            resets: eight(144),
         },
     }
 }
@@ -75,6 +75,18 @@ fn changed(s: Stream, place: usize, value: u8) -> Stream {
     from_bytes(&b)
 }
 
+/// What an open sets, but for the destination that is a stand-in.
+fn settings(destination: [u8; 6], vlan: u16, rule: u8, window: u16, time: u16) -> Option<Settings> {
+    let settings = Settings {
+        destination,
+        vlan,
+        rule,
+        window,
+        time,
+    };
+    (destination != STAND_IN).then_some(settings)
+}
+
 /// A body as the room for its output and the call; none, where `events` would find it bad and where it is no call.
 fn call_of(body: &[u8]) -> Option<(usize, Call<'_>)> {
     let all = Stream::FRAME_MOST;
@@ -83,16 +95,12 @@ fn call_of(body: &[u8]) -> Option<(usize, Call<'_>)> {
     Some(match *body {
         [kind::OPEN, d0, d1, d2, d3, d4, d5, v0, v1, rule, window, r0, r1] => {
             let destination = [d0, d1, d2, d3, d4, d5];
-            if destination == STAND_IN {
-                return None;
-            }
-            let settings = Settings {
-                destination,
-                vlan: two(v0, v1),
-                rule,
-                window: window.into(),
-                time: two(r0, r1),
-            };
+            let settings = settings(destination, two(v0, v1), rule, window.into(), two(r0, r1))?;
+            (all, Call::Open(settings))
+        }
+        [kind::OPEN_WIDE, d0, d1, d2, d3, d4, d5, v0, v1, rule, w0, w1, r0, r1] => {
+            let destination = [d0, d1, d2, d3, d4, d5];
+            let settings = settings(destination, two(v0, v1), rule, two(w0, w1), two(r0, r1))?;
             (all, Call::Open(settings))
         }
         [kind::CLOSE, slot] => (all, Call::Close(slot.into())),

@@ -1,9 +1,9 @@
 //! Runs an event file through the library. Document 01: "Event file and the
-//! program `events`".
+//! program `events`". Kind 6 is of order 5 of document 02.
 
 use std::io::{self, ErrorKind, Read, Write};
 
-use crate::wrong::rule;
+use crate::wrong::{self, rule};
 use crate::{arrival, close, open, reset, tick, Refusal, Settings, Stream, Verdict};
 
 /// The version byte of an event file.
@@ -15,7 +15,7 @@ pub const MAX_BODY: usize = u16::MAX as usize;
 
 /// The first byte of a body.
 pub mod kind {
-    /// Open a stream.
+    /// Open a stream, with L in one byte.
     pub const OPEN: u8 = 1;
     /// Close a slot.
     pub const CLOSE: u8 = 2;
@@ -25,6 +25,8 @@ pub mod kind {
     pub const ARRIVAL: u8 = 4;
     /// A tick.
     pub const TICK: u8 = 5;
+    /// Open a stream, with L in two bytes.
+    pub const OPEN_WIDE: u8 = 6;
 }
 
 /// Input or output failed. Both end the run.
@@ -55,19 +57,34 @@ impl Receiver {
     /// Carries out one record and writes its line. `number` counts the records
     /// from 1.
     pub fn record<W: Write>(&mut self, number: u64, body: &[u8], lines: &mut W) -> io::Result<()> {
+        let other = rule!(
+            None,
+            KindOneOf14: wrong::as_kind(kind::OPEN_WIDE, kind::OPEN, 14, body),
+            KindSixOf13: wrong::as_kind(kind::OPEN, kind::OPEN_WIDE, 13, body),
+            KindSixUnknown: wrong::as_kind(0, kind::OPEN_WIDE, 14, body)
+        );
+        let body = other.as_deref().unwrap_or(body);
         match *body {
             [kind::OPEN, d0, d1, d2, d3, d4, d5, v0, v1, rule, window, r0, r1] => {
                 let settings = Settings {
                     destination: [d0, d1, d2, d3, d4, d5],
                     vlan: u16::from_be_bytes([v0, v1]),
                     rule,
-                    window,
+                    window: rule!(window, KindOneMost64: window * u8::from(window <= 64)).into(),
                     reset_time: u16::from_be_bytes([r0, r1]),
                 };
-                match open(&mut self.table, settings) {
-                    Ok(slot) => writeln!(lines, "{number} O {slot}"),
-                    Err(refusal) => refused(lines, number, 'O', refusal),
-                }
+                self.open(number, settings, lines)
+            }
+            [kind::OPEN_WIDE, d0, d1, d2, d3, d4, d5, v0, v1, rule, w0, w1, r0, r1] => {
+                let window = rule!([w0, w1], KindSixLowFirst: [w1, w0]);
+                let settings = Settings {
+                    destination: [d0, d1, d2, d3, d4, d5],
+                    vlan: u16::from_be_bytes([v0, v1]),
+                    rule,
+                    window: u16::from_be_bytes(window),
+                    reset_time: u16::from_be_bytes([r0, r1]),
+                };
+                self.open(number, settings, lines)
             }
             [kind::CLOSE, slot] => match close(&mut self.table, usize::from(slot)) {
                 Ok(()) => writeln!(lines, "{number} C ok"),
@@ -96,6 +113,14 @@ impl Receiver {
             },
             // Length 0, an unknown kind, or a wrong length for its kind.
             _ => writeln!(lines, "{number} bad"),
+        }
+    }
+
+    /// An open of either kind.
+    fn open<W: Write>(&mut self, number: u64, settings: Settings, lines: &mut W) -> io::Result<()> {
+        match open(&mut self.table, settings) {
+            Ok(slot) => writeln!(lines, "{number} O {slot}"),
+            Err(refusal) => refused(lines, number, 'O', refusal),
         }
     }
 }
@@ -157,7 +182,7 @@ pub fn run<R: Read, W: Write>(input: &mut R, lines: &mut W) -> Result<(), Failur
             .map_err(Failure::Write)?;
         let stop = rule!(
             false,
-            UnknownKindEnds: matches!(*body, [0 | 6.., ..]),
+            UnknownKindEnds: matches!(*body, [0 | 7.., ..]),
             EmptyBodyEnds: body.is_empty()
         );
         if stop {

@@ -106,10 +106,12 @@ impl Walk {
         let random = &mut self.random;
         let (destination, mut vlan) = random.pick(&KEYS);
         let mut rule = random.pick(&[Stream::VECTOR, Stream::VECTOR, Stream::MATCH]);
-        let mut window = match random.below(4) {
+        let mut window = match random.below(8) {
             0 => random.pick(&[2, 3, 63, 64]),
-            1 => random.between(2, 64) as u8,
-            _ => random.between(2, 8) as u8,
+            1 => random.pick(&[65, 127, 128, 129, 255, 256, 257, 511, 512]),
+            2 => random.between(2, 64) as u16,
+            3 => random.between(65, 512) as u16,
+            _ => random.between(2, 8) as u16,
         };
         let mut reset_time = match random.below(8) {
             0 => random.pick(&[255, 256, 65534, 65535]),
@@ -121,11 +123,11 @@ impl Walk {
             match random.below(4) {
                 0 => vlan = random.pick(&[4095, 4096, 65535]),
                 1 => rule = random.pick(&[0, 3, 255]),
-                2 => window = random.pick(&[0, 1, 65, 128, 255]),
+                2 => window = random.pick(&[0, 1, 513, 514, 768, 65535]),
                 _ => reset_time = 0,
             }
         }
-        open_body((destination, vlan), rule, window, reset_time)
+        any_open(random, (destination, vlan), rule, window, reset_time)
     }
 
     /// A key of an open stream, else of the list, else a random one.
@@ -166,7 +168,7 @@ impl Walk {
                 _ => random.word(),
             };
         }
-        let d = match random.below(20) {
+        let d = match random.below(22) {
             0..=6 => 1,
             7..=8 => 0,
             9..=12 => -random.between(0, window - 1),
@@ -174,6 +176,11 @@ impl Walk {
             16 => random.pick(&[window - 1, 1 - window, window - 2, 2 - window]),
             17 => random.pick(&[window, -window, window + 1, -window - 1]),
             18 => random.pick(&[32767, -32768, -32767, 2 * window, 64, -64]),
+            // At the end of a word of the history.
+            19 | 20 => {
+                let words = random.between(1, 1 + window / 64);
+                random.pick(&[1, -1]) * (64 * words + random.between(-1, 1))
+            }
             _ => random.between(-32768, 32767),
         };
         (i64::from(anchor) + d).rem_euclid(65536) as u16
@@ -255,16 +262,22 @@ impl Walk {
         let random = &mut self.random;
         let (kind, length) = match random.below(8) {
             0 => return Vec::new(),
-            1 => (kind::OPEN, random.pick(&[1, 2, 12, 14, 269])),
+            1 => match random.below(2) {
+                0 => (kind::OPEN, random.pick(&[1, 2, 12, 14, 269])),
+                _ => (kind::OPEN_WIDE, random.pick(&[1, 2, 12, 13, 15, 270])),
+            },
             2 => (kind::CLOSE, random.pick(&[1, 3, 258])),
             3 => (kind::RESET, random.pick(&[1, 3, 258])),
             4 => (kind::ARRIVAL, 1),
             5 => (kind::TICK, random.pick(&[2, 3, 257])),
-            6 => (random.pick(&[0, 6, 7, 255]), random.pick(&[1, 2, 13, 22])),
+            6 => (
+                random.pick(&[0, 7, 8, 255]),
+                random.pick(&[1, 2, 13, 14, 22]),
+            ),
             _ => {
                 let longest = if random.chance(1, 64) { MAX_BODY } else { 40 };
                 let length = 1 + random.below(longest as u64) as usize;
-                (random.between(6, 255) as u8, length)
+                (random.between(7, 255) as u8, length)
             }
         };
         let mut body = vec![0; length];
@@ -289,7 +302,7 @@ struct Traffic {
 struct Sender {
     key: Key,
     /// The window and the reset time of its stream.
-    window: u8,
+    window: u16,
     reset_time: u16,
     next: u16,
 }
@@ -398,7 +411,9 @@ impl Traffic {
                 sender.next = match random.below(3) {
                     0 => random.below(3) as u16,
                     1 => random.word(),
-                    _ => sender.next.wrapping_sub(random.below(70) as u16),
+                    _ => sender
+                        .next
+                        .wrapping_sub(random.below(sender.window as u64 + 6) as u16),
                 };
             }
             14 | 15 => {
@@ -423,7 +438,11 @@ impl Sender {
     fn new(random: &mut Random, key: Key) -> Sender {
         Sender {
             key,
-            window: random.between(2, 64) as u8,
+            window: match random.below(4) {
+                0 => random.between(65, 512) as u16,
+                1 => random.pick(&[64, 65, 127, 128, 511, 512]),
+                _ => random.between(2, 64) as u16,
+            },
             reset_time: match random.below(4) {
                 0 => random.between(1, 65535) as u16,
                 _ => random.between(1, 20) as u16,
@@ -434,7 +453,7 @@ impl Sender {
 
     fn open(&self, random: &mut Random) -> Vec<u8> {
         let rule = random.pick(&[Stream::VECTOR, Stream::VECTOR, Stream::MATCH]);
-        open_body(self.key, rule, self.window, self.reset_time)
+        any_open(random, self.key, rule, self.window, self.reset_time)
     }
 }
 
@@ -448,12 +467,31 @@ fn source(random: &mut Random) -> [u8; 6] {
     source
 }
 
-/// The body of an open.
+/// An open of either kind. L above 255 has no room in the first one.
+fn any_open(random: &mut Random, key: Key, rule: u8, window: u16, reset_time: u16) -> Vec<u8> {
+    match u8::try_from(window) {
+        Ok(window) if random.chance(1, 2) => open_body(key, rule, window, reset_time),
+        _ => open_wide_body(key, rule, window, reset_time),
+    }
+}
+
+/// The body of an open with L in one byte.
 pub fn open_body(key: Key, rule: u8, window: u8, reset_time: u16) -> Vec<u8> {
-    let mut body = vec![kind::OPEN];
+    open_of(kind::OPEN, key, rule, &[window], reset_time)
+}
+
+/// The body of an open with L in two bytes.
+pub fn open_wide_body(key: Key, rule: u8, window: u16, reset_time: u16) -> Vec<u8> {
+    let window = &window.to_be_bytes();
+    open_of(kind::OPEN_WIDE, key, rule, window, reset_time)
+}
+
+fn open_of(kind: u8, key: Key, rule: u8, window: &[u8], reset_time: u16) -> Vec<u8> {
+    let mut body = vec![kind];
     body.extend(key.0);
     body.extend(key.1.to_be_bytes());
-    body.extend([rule, window]);
+    body.push(rule);
+    body.extend(window);
     body.extend(reset_time.to_be_bytes());
     body
 }

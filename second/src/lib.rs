@@ -2,7 +2,7 @@
 //! redundancy tag.
 //!
 //! This is a second implementation. It was written from document 01 ("Exact
-//! rules and what to build") and orders 1 to 4 of document 02 (README.md), so that its
+//! rules and what to build") and orders 1 to 5 of document 02 (README.md), so that its
 //! answers can be compared with those of the first one. Section names in the
 //! comments are those of document 01.
 
@@ -12,6 +12,7 @@ pub mod batch;
 pub mod event_file;
 pub mod frame;
 pub mod generate;
+pub mod history;
 pub mod random;
 pub mod stream;
 pub mod table;

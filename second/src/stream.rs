@@ -1,7 +1,9 @@
 //! The stream record, when it is lawful, and the decision on one record.
 //! Document 01: "Sizes", "The stream record", "Decisions". The size of a batch
-//! is that of order 3 of document 02; what is no loss is order 4's.
+//! is that of order 3 of document 02; what is no loss is order 4's; the largest
+//! window and the history's words are order 5's.
 
+use crate::history::{self, History};
 use crate::wrong::{self, rule};
 
 /// One slot of a table.
@@ -20,13 +22,14 @@ pub struct Stream {
     /// 1 vector, 2 match.
     pub rule: u8,
     /// The window L.
-    pub window: u8,
+    pub window: u16,
     /// The reset time R, in ticks.
     pub reset_time: u16,
     /// The number that the differences are taken from.
     pub anchor: u16,
-    /// Bit k stands for the number anchor - k.
-    pub history: u64,
+    /// Bit k stands for the number anchor - k. It is bit k mod 64 of word
+    /// k / 64.
+    pub history: History,
     /// 0 is no, every other value is yes.
     pub take_any: u16,
     /// Ticks left until the stream is reset.
@@ -74,9 +77,11 @@ impl Stream {
     /// Most frames in a batch.
     pub const MAX_BATCH: usize = 32;
     /// Smallest window.
-    pub const MIN_WINDOW: u8 = 2;
+    pub const MIN_WINDOW: u16 = 2;
     /// Largest window.
-    pub const MAX_WINDOW: u8 = 64;
+    pub const MAX_WINDOW: u16 = 512;
+    /// Words of 64 bits in the history.
+    pub const HISTORY_WORDS: usize = 8;
     /// Smallest reset time. The largest, 65535, is the largest value of the
     /// field.
     pub const MIN_RESET_TIME: u16 = 1;
@@ -98,7 +103,7 @@ impl Stream {
         window: 0,
         reset_time: 0,
         anchor: Stream::FRESH_ANCHOR,
-        history: 0,
+        history: history::EMPTY,
         take_any: 1,
         remaining: 0,
         early: 0,
@@ -136,7 +141,7 @@ impl Stream {
     pub fn settings_in_range(&self) -> bool {
         (self.rule == Stream::VECTOR || self.rule == Stream::MATCH)
             && self.window >= Stream::MIN_WINDOW
-            && self.window <= Stream::MAX_WINDOW
+            && self.window <= rule!(Stream::MAX_WINDOW, Most64: 64, Most511: 511)
             && self.reset_time >= Stream::MIN_RESET_TIME
             && self.vlan <= rule!(Stream::MAX_VLAN, Opens4095: 4095)
     }
@@ -150,13 +155,21 @@ impl Stream {
         if (self.remaining == 0) != self.takes_any() {
             return false;
         }
+        let empty = || {
+            rule!(
+                !history::any_marked(&self.history),
+                EmptyByFirstWord: self.history[0] == 0
+            )
+        };
         let shaped = if self.takes_any() {
             // Remaining is already known to be 0 here.
-            self.anchor == Stream::FRESH_ANCHOR && self.history == 0
+            self.anchor == Stream::FRESH_ANCHOR && empty()
         } else if self.rule == Stream::VECTOR {
-            self.history & 1 == 1 && self.history & !self.window_mask() == 0
+            // With L = 512 there is no place at L or above.
+            let outside = rule!(self.places(), BitAtLLawful: self.places() + 1);
+            history::is_marked(&self.history, 0) && !history::marked_from(&self.history, outside)
         } else {
-            self.history == 0
+            empty()
         };
         shaped && self.early_fits()
     }
@@ -175,30 +188,30 @@ impl Stream {
             return true;
         }
         match self.most_early().checked_sub(self.early) {
-            Some(first) => rule!(self.history >> first & 1 == 1, EarlyWithoutBit: true),
+            Some(first) => rule!(
+                history::is_marked(&self.history, first.into()),
+                EarlyWithoutBit: true,
+                EarlyInFirstWord: history::is_marked(&self.history, usize::from(first) % 64)
+            ),
             None => rule!(false, EarlyTooHigh: true),
         }
     }
 
     /// L - 1: all places of the window but that of the anchor.
     fn most_early(&self) -> u16 {
-        u16::from(self.window) - 1
+        self.window - 1
     }
 
-    /// The lowest L bits. A shift by 64 is not allowed, so L = 64 stands
-    /// apart. Only for records with L in range.
-    fn window_mask(&self) -> u64 {
-        if self.window >= 64 {
-            rule!(u64::MAX, EmptyWindow64: 0)
-        } else {
-            (1u64 << self.window) - 1
-        }
+    /// L, as a place of the history: the first one behind the window.
+    fn places(&self) -> usize {
+        usize::from(self.window)
     }
 
     /// Back to the fresh state. Key, settings and counters stay.
     pub(crate) fn refresh(&mut self) {
         self.anchor = Stream::FRESH_ANCHOR;
-        self.history = 0;
+        self.history =
+            rule!(history::EMPTY, ResetFirstWord: wrong::without_first_word(&self.history));
         self.take_any = 1;
         self.remaining = 0;
         rule!(self.early = 0, ResetKeepsEarly: ());
@@ -221,9 +234,16 @@ impl Stream {
             self.anchor = number;
             // A match record keeps its history zero, and n with it.
             let vector = self.rule == Stream::VECTOR;
-            self.history = u64::from(vector);
+            self.history = history::EMPTY;
+            if vector {
+                history::mark(&mut self.history, 0);
+            }
             if rule!(vector, MatchHasEarly: true) {
-                self.early = rule!(self.most_early(), EarlyIsL: u16::from(self.window));
+                self.early = rule!(
+                    self.most_early(),
+                    EarlyIsL: self.window,
+                    EarlyIsByte: self.most_early() % 256
+                );
             }
             Decision::HandedUp
         } else {
@@ -268,11 +288,15 @@ impl Stream {
             return Decision::Rogue;
         }
         if d <= 0 {
-            let bit = rule!(1u64 << -d, TakesMinusL: self.window_mask() & (1u128 << -d) as u64);
-            if self.history & bit != 0 {
+            let place = d.unsigned_abs() as usize;
+            // Behind the window there is nothing to test or to mark.
+            let inside = rule!(true, TakesMinusL: place < self.places());
+            if inside && history::is_marked(&self.history, place) {
                 return Decision::Duplicate;
             }
-            self.history |= rule!(bit, LateUnmarked: 0);
+            if inside && rule!(true, LateUnmarked: false) {
+                history::mark(&mut self.history, place);
+            }
             rule!(
                 (),
                 AnchorGoesBack: self.anchor = number,
@@ -284,14 +308,17 @@ impl Stream {
         if d != 1 || rule!(false, OneOutOfOrder: true) {
             rise(&mut self.out_of_order);
         }
-        let top = 1u64 << (self.window - 1);
-        let mask = self.window_mask();
         let (lost_before, early_before) = (self.lost, self.early);
-        let lost_bit = rule!(0, LostCountsMarked: top);
+        let last = self.places() - 1;
         // One place at a time, so that each zero that leaves is one loss. While
         // n is above 0, the place that leaves is older than the first number.
-        for _ in 0..rule!(d, HistoryStays: 0) {
-            let (zero, older) = (self.history & top == lost_bit, self.early > 0);
+        for _ in 0..rule!(d, HistoryStays: 0, MovesMod64: d % 64, MovesAtMost64: d.min(64)) {
+            let leaves = rule!(
+                history::is_marked(&self.history, last),
+                LossFromFirstWord: history::is_marked(&self.history, last % 64)
+            );
+            let zero = rule!(!leaves, LostCountsMarked: leaves);
+            let older = self.early > 0;
             let counts = rule!(
                 !older,
                 EarlyIsLost: true,
@@ -304,16 +331,26 @@ impl Stream {
             if rule!(older, EarlyStays: false, ZerosTakeEarly: older && zero) {
                 self.early -= 1;
             }
-            self.history = (self.history << 1) & mask;
+            self.move_up();
         }
         rule!(
             (),
             OneLossAMove: self.lost = self.lost.min(lost_before.wrapping_add(1)),
             OneEarlyAMove: self.early = early_before.saturating_sub(1)
         );
-        self.history |= 1;
+        history::mark(&mut self.history, 0);
         self.anchor = number;
         Decision::HandedUp
+    }
+
+    /// The history moves up one place, and what stood at L - 1 leaves. With
+    /// L = 512 it has left the words.
+    fn move_up(&mut self) {
+        history::move_up(&mut self.history);
+        if self.window < rule!(Stream::MAX_WINDOW, LeaverStays: 0) {
+            let outside = self.places();
+            history::clear(&mut self.history, outside);
+        }
     }
 
     fn decide_match(&mut self, d: i32, number: u16) -> Decision {

@@ -1,5 +1,5 @@
 //! The calls on a table of streams. Document 01: "Calls and the order of
-//! checks". Document 02: order 1.
+//! checks". Document 02: orders 1 and 5.
 //!
 //! Each call makes all its checks before it changes anything, so a refusal
 //! leaves every byte as it was.
@@ -52,8 +52,8 @@ pub struct Settings {
     pub vlan: u16,
     /// 1 vector, 2 match.
     pub rule: u8,
-    /// L, 2 to 64.
-    pub window: u8,
+    /// L, 2 to 512.
+    pub window: u16,
     /// R, 1 to 65535.
     pub reset_time: u16,
 }
@@ -152,7 +152,7 @@ pub fn open(table: &mut [Stream], settings: Settings) -> Result<usize, Refusal> 
         destination: settings.destination,
         vlan: settings.vlan,
         rule: settings.rule,
-        window: settings.window,
+        window: rule!(settings.window, WindowIsByte: settings.window % 256),
         reset_time: settings.reset_time,
         ..Stream::FREE
     };
@@ -168,7 +168,8 @@ pub fn open(table: &mut [Stream], settings: Settings) -> Result<usize, Refusal> 
     .ok_or(Refusal::NoFreeSlot);
 
     rule!(Ok(()), KeyBeforeSettings: key)?;
-    if !stream.settings_in_range() {
+    let in_range = stream.settings_in_range();
+    if !rule!(in_range, Opens513: in_range || stream.window == 513) {
         return Err(Refusal::BadSetting);
     }
     rule!(Ok(0), FullBeforeKey: free)?;

@@ -1,7 +1,7 @@
 //! Wrong variants of this program, each with one slip. A comparison with
 //! another program is only worth something if it finds them, so it is tried
 //! against each. Document 01 names some under "Errors that look right"; the
-//! others are slips that its text, or that of orders 1 to 4 of document 02, makes
+//! others are slips that its text, or that of orders 1 to 5 of document 02, makes
 //! easy.
 //!
 //! No variant is set at first. In the code a slip stands behind the right rule:
@@ -12,6 +12,7 @@ use std::cell::Cell;
 
 use crate::batch::LENGTH_BYTES;
 use crate::frame::{check_source, TAG_MARK, VLAN_MARK};
+use crate::history::History;
 use crate::{arrival, Arrival, Refusal, Stream, Verdict};
 
 /// Where the slip can be seen.
@@ -61,7 +62,7 @@ variants! {
     LateUnmarked, Files, "a number out of order is handed up and not marked";
     AnchorGoesBack, Files, "the anchor follows a number out of order";
     HistoryStays, Files, "the anchor moves and the history does not";
-    EmptyWindow64, Files, "a window of 64 has no bits, as a shift by 64 may give";
+    EmptyFullWord, Files, "a word that lies wholly in the window has no place in it, as a shift by 64 may give";
     MatchHasRogue, Files, "the match rule gives rogue outside the window";
     VlanUnmasked, Files, "the VLAN id is all 16 bits";
     VlanZeroApart, Files, "a VLAN tag with id 0 has another key than no tag";
@@ -149,6 +150,31 @@ variants! {
     EarlyWithoutBit, CallsOnly, "n above 0 is lawful with bit L - 1 - n clear";
     EarlyInMatch, CallsOnly, "any n is lawful in a match record";
     EarlyInFresh, CallsOnly, "any n is lawful with take-any";
+    Most64, Files, "L above 64 is outside the sizes";
+    Most511, Files, "L = 512 is outside the sizes";
+    Opens513, Files, "L = 513 can be opened";
+    WindowIsByte, Files, "open takes L modulo 256";
+    KindOneMost64, Files, "kind 1 with L above 64 is refused";
+    KindOneOf14, Files, "kind 1 with 14 bytes is taken as kind 6";
+    KindSixOf13, Files, "kind 6 with 13 bytes is taken as kind 1";
+    KindSixUnknown, Files, "kind 6 is bad";
+    KindSixLowFirst, Files, "L in kind 6 is read low byte first";
+    TestsFirstWord, Files, "the test of a bit looks into the first word, at the place modulo 64";
+    MarksFirstWord, Files, "a bit is set in the first word, at the place modulo 64";
+    CarryForgotten, Files, "a move loses the bit that leaves a word";
+    CarryAround, Files, "the bit that leaves a word comes in at the foot of the same word";
+    CarryFromMoved, Files, "the bit that comes into a word is read after the word below has moved";
+    MovesMod64, Files, "the history moves d modulo 64 places";
+    MovesAtMost64, Files, "the history moves at most 64 places";
+    LeaverStays, Files, "what leaves the window stays in the history";
+    ResetFirstWord, Files, "a reset clears the first word of the history alone";
+    EarlyInFirstWord, Files, "n above 0 asks for its bit in the first word, at the place modulo 64";
+    EarlyIsByte, Files, "n is L - 1 modulo 256 when take-any ends";
+    LossFromFirstWord, CallsOnly, "the bit that leaves is read in the first word, at the place modulo 64";
+    BitAtLLawful, CallsOnly, "a bit at exactly L is lawful";
+    LastWordUncut, CallsOnly, "bits at L or above are lawful in the word that has place L - 1";
+    HigherWordsUnseen, CallsOnly, "bits in the words above the window's are lawful";
+    EmptyByFirstWord, CallsOnly, "a history is zero if its first word is";
 }
 
 #[cfg(feature = "wrong")]
@@ -246,6 +272,24 @@ pub(crate) fn keep_counters(opened: Stream, old: Stream) -> Stream {
 /// the window, which are older than the first one handed up?
 pub(crate) fn is_older(stream: &Stream, d: i32) -> bool {
     i32::from(stream.early) - d >= i32::from(stream.window)
+}
+
+/// A body of one kind and of this length with another kind in its place.
+pub(crate) fn as_kind(other: u8, kind: u8, length: usize, body: &[u8]) -> Option<Vec<u8>> {
+    let mut changed = body.to_vec();
+    let first = changed.first_mut()?;
+    if body.len() != length || *first != kind {
+        return None;
+    }
+    *first = other;
+    Some(changed)
+}
+
+/// The history with its first word cleared.
+pub(crate) fn without_first_word(history: &History) -> History {
+    let mut left = *history;
+    left[0] = 0;
+    left
 }
 
 /// Frees the lowest slot in use.

@@ -41,7 +41,7 @@ fn refused() -> (Vec<Stream>, Vec<(u8, Vec<u8>)>) {
     let other = [2, 0, 0, 0, 0, 9];
     let damaged = Stream {
         destination: other,
-        ..fresh(Stream::VECTOR, 65, 3)
+        ..fresh(Stream::VECTOR, 513, 3)
     };
     let mut long = tagged(7);
     long.resize(2001, 0);

@@ -19,8 +19,9 @@ fn damaged() -> Vec<(&'static str, Stream, bool)> {
         ("L 0", Stream { window: 0, ..f }, true),
         ("L 1", Stream { window: 1, ..f }, true),
         ("L 1, match", Stream { window: 1, ..m }, true),
-        ("L 65", Stream { window: 65, ..v }, true),
-        ("L 255", Stream { window: 255, ..v }, true),
+        ("L 513", Stream { window: 513, ..v }, true),
+        ("L 65535", Stream { window: 65535, ..v }, true),
+        ("L 513, match", Stream { window: 513, ..m }, true),
         ("R 0", Stream { reset_time: 0, ..f }, true),
         ("R 0, running", Stream { reset_time: 0, ..v }, true),
         ("remaining above R", Stream { remaining: 4, ..v }, false),
@@ -46,11 +47,18 @@ fn damaged() -> Vec<(&'static str, Stream, bool)> {
             Stream { anchor: 65534, ..g },
             false,
         ),
-        ("take-any, history", Stream { history: 1, ..f }, false),
+        (
+            "take-any, history",
+            Stream {
+                history: low(1),
+                ..f
+            },
+            false,
+        ),
         (
             "take-any, high history",
             Stream {
-                history: 1 << 63,
+                history: low(1 << 63),
                 ..g
             },
             false,
@@ -58,16 +66,23 @@ fn damaged() -> Vec<(&'static str, Stream, bool)> {
         (
             "bit 0 clear",
             Stream {
-                history: 0b0100,
+                history: low(0b0100),
                 ..v
             },
             false,
         ),
-        ("history zero", Stream { history: 0, ..v }, false),
+        (
+            "history zero",
+            Stream {
+                history: low(0),
+                ..v
+            },
+            false,
+        ),
         (
             "bit at L",
             Stream {
-                history: 0b1_0001,
+                history: low(0b1_0001),
                 ..v
             },
             false,
@@ -75,16 +90,23 @@ fn damaged() -> Vec<(&'static str, Stream, bool)> {
         (
             "bit 63",
             Stream {
-                history: 1 | 1 << 63,
+                history: low(1 | 1 << 63),
                 ..v
             },
             false,
         ),
-        ("match with bit 0", Stream { history: 1, ..m }, false),
+        (
+            "match with bit 0",
+            Stream {
+                history: low(1),
+                ..m
+            },
+            false,
+        ),
         (
             "match with bit 63",
             Stream {
-                history: 1 << 63,
+                history: low(1 << 63),
                 ..m
             },
             false,
@@ -97,7 +119,7 @@ fn damaged() -> Vec<(&'static str, Stream, bool)> {
         (
             "n 1, bit 2 clear",
             Stream {
-                history: 0b1011,
+                history: low(0b1011),
                 early: 1,
                 ..v
             },
@@ -107,7 +129,7 @@ fn damaged() -> Vec<(&'static str, Stream, bool)> {
             "L 64, n 64",
             Stream {
                 window: 64,
-                history: u64::MAX,
+                history: low(u64::MAX),
                 early: 64,
                 ..v
             },
@@ -117,7 +139,7 @@ fn damaged() -> Vec<(&'static str, Stream, bool)> {
             "L 64, n 1, bit 62 clear",
             Stream {
                 window: 64,
-                history: u64::MAX ^ 1 << 62,
+                history: low(u64::MAX ^ 1 << 62),
                 early: 1,
                 ..v
             },
@@ -130,10 +152,83 @@ fn damaged() -> Vec<(&'static str, Stream, bool)> {
         ("take-any, n L - 1", Stream { early: 3, ..f }, false),
         ("take-any, match, n 3", Stream { early: 3, ..g }, false),
         (
+            "L 64, bit 64",
+            Stream {
+                window: 64,
+                ..with_places(v, [0, 64])
+            },
+            false,
+        ),
+        (
+            "L 65, bit 65",
+            Stream {
+                window: 65,
+                ..with_places(v, [0, 65])
+            },
+            false,
+        ),
+        (
+            "L 128, bit 128",
+            Stream {
+                window: 128,
+                ..with_places(v, [0, 128])
+            },
+            false,
+        ),
+        (
+            "L 511, bit 511",
+            Stream {
+                window: 511,
+                ..with_places(v, [0, 511])
+            },
+            false,
+        ),
+        ("L 4, bit 64", with_places(v, [0, 64]), false),
+        ("L 4, bit 511", with_places(v, [0, 511]), false),
+        (
+            "L 512, bit 0 clear",
+            Stream {
+                window: 512,
+                ..with_places(v, 1..512)
+            },
+            false,
+        ),
+        (
+            "L 512, n 512",
+            Stream {
+                window: 512,
+                early: 512,
+                ..with_places(v, 0..512)
+            },
+            false,
+        ),
+        (
+            "L 512, n 1, bit 510 clear",
+            Stream {
+                window: 512,
+                early: 1,
+                ..with_places(v, (0..510).chain([511]))
+            },
+            false,
+        ),
+        (
+            "L 512, n 447, bit 0 set and bit 64 clear",
+            Stream {
+                window: 512,
+                early: 447,
+                ..with_places(v, [0, 511])
+            },
+            false,
+        ),
+        ("match with bit 64", with_places(m, [64]), false),
+        ("match with bit 511", with_places(m, [511]), false),
+        ("take-any, bit 64", with_places(f, [64]), false),
+        ("take-any, bit 511", with_places(g, [511]), false),
+        (
             "L 63, bit 63",
             Stream {
                 window: 63,
-                history: 1 | 1 << 63,
+                history: low(1 | 1 << 63),
                 ..v
             },
             false,
@@ -256,6 +351,13 @@ fn lawful_records_at_the_edges() {
         with_early(running(Stream::VECTOR, 4, 1, 0, 0b1001), 3),
         with_early(running(Stream::VECTOR, 64, 1, 0, 1), 63),
         with_early(running(Stream::VECTOR, 64, 1, 0, 1 << 62 | 1), 1),
+        fresh(Stream::VECTOR, 512, 1),
+        running(Stream::VECTOR, 65, 1, 0, u64::MAX),
+        with_places(running(Stream::VECTOR, 65, 1, 0, 0), [0, 64]),
+        with_places(running(Stream::VECTOR, 512, 1, 0, 0), 0..512),
+        with_places(running(Stream::VECTOR, 512, 1, 0, 0), [0, 511]),
+        with_early(running(Stream::VECTOR, 512, 1, 0, 1), 511),
+        running(Stream::MATCH, 512, 1, 65535, 0),
         running(Stream::MATCH, 2, 1, 65535, 0),
         Stream {
             vlan: 4094,
@@ -301,6 +403,13 @@ fn every_flag_value_but_0_is_yes() {
 
 #[test]
 fn a_tick_over_a_mixed_table() {
+    // As many at a time as a table has room for.
+    for some in damaged().chunks(40) {
+        a_tick_over(some);
+    }
+}
+
+fn a_tick_over(damaged: &[(&'static str, Stream, bool)]) {
     let lawful = running(Stream::VECTOR, 4, 3, 10, 0b0101);
     let mut table = vec![
         Stream::FREE,
@@ -324,9 +433,9 @@ fn a_tick_over_a_mixed_table() {
             ..running(Stream::MATCH, 2, 1, 8, 0)
         },
     ];
-    table.extend(damaged().into_iter().map(|(_, record, _)| record));
+    table.extend(damaged.iter().map(|(_, record, _)| record));
     let before = table.clone();
-    let kinds = damaged().len();
+    let kinds = damaged.len();
     assert_eq!(
         tick(&mut table),
         Ok(Ticked {

@@ -1,6 +1,6 @@
 //! Order 4 of document 02: what is older than the first number handed up since
 //! the reset is no loss. One case for each place where a slip is likely; the
-//! damaged records are in damaged.rs.
+//! damaged records are in damaged.rs, windows above 64 in wide.rs.
 
 mod common;
 
@@ -8,7 +8,7 @@ use common::*;
 use second::{arrival, close, open, reset, tick, Stream, Ticked};
 
 /// A vector stream with R = 3 that has just taken its first number.
-fn started(window: u8, first: u16) -> [Stream; 1] {
+fn started(window: u16, first: u16) -> [Stream; 1] {
     let mut table = [fresh(Stream::VECTOR, window, 3)];
     assert_eq!(arrive(&mut table, first), "up");
     table
@@ -38,9 +38,9 @@ fn hands_up(table: &mut [Stream], steps: &[(u16, u16, u64)]) {
 
 #[test]
 fn the_first_number_leaves_l_minus_1_places() {
-    for window in 2..=64 {
+    for window in 2..=512 {
         let table = started(window, 7);
-        assert_eq!(early_and_lost(&table), (u16::from(window) - 1, 0));
+        assert_eq!(early_and_lost(&table), (window - 1, 0));
         assert!(table[0].is_lawful());
     }
     // A match record has no places.
@@ -53,11 +53,11 @@ fn the_first_number_leaves_l_minus_1_places() {
 
 #[test]
 fn a_start_shows_no_loss() {
-    for window in 2..=64 {
+    for window in (2..=66).chain([127, 128, 129, 255, 256, 257, 511, 512]) {
         let mut table = started(window, 65500);
-        for step in 1..200u16 {
+        for step in 1..600u16 {
             assert_eq!(arrive(&mut table, 65500u16.wrapping_add(step)), "up");
-            let left = (u16::from(window) - 1).saturating_sub(step);
+            let left = (window - 1).saturating_sub(step);
             assert_eq!(early_and_lost(&table), (left, 0));
             assert!(table[0].is_lawful());
         }
@@ -75,7 +75,7 @@ fn the_smallest_window() {
 }
 
 #[test]
-fn the_largest_window() {
+fn a_window_of_one_word() {
     // 63 places in one move, and in 63.
     hands_up(&mut started(64, 100), &[(163, 0, 0), (226, 0, 62)]);
     let mut table = started(64, 100);
@@ -115,7 +115,7 @@ fn a_late_number_older_than_the_first() {
     // loss, as its neighbours do.
     let mut table = started(4, 100);
     hands_up(&mut table, &[(98, 3, 0)]);
-    assert_eq!(table[0].history, 0b0101);
+    assert_eq!(table[0].history, low(0b0101));
     assert_eq!(arrive(&mut table, 98), "duplicate");
     assert_eq!(early_and_lost(&table), (3, 0));
     hands_up(

@@ -60,6 +60,15 @@ fn open_body(last: u8, vlan: u16, rule: u8, window: u8, reset_time: u16) -> Vec<
     body
 }
 
+/// Kind 6: the same, with L in two bytes.
+fn open_wide_body(last: u8, vlan: u16, rule: u8, window: u16, reset_time: u16) -> Vec<u8> {
+    let [w0, w1] = window.to_be_bytes();
+    let mut body = open_body(last, vlan, rule, w0, reset_time);
+    body[0] = 6;
+    body.insert(11, w1);
+    body
+}
+
 fn arrival_body(network: u8, frame: &[u8]) -> Vec<u8> {
     [&[4, network], frame].concat()
 }
@@ -118,7 +127,7 @@ fn version_bytes() {
 fn bad_records_use_up_a_number_and_reading_goes_on() {
     let mut bodies = vec![vec![]];
     // Every length but the right one, for the kinds with one right length.
-    for (kind, right) in [(1, 13), (2, 2), (3, 2), (5, 1)] {
+    for (kind, right) in [(1, 13), (2, 2), (3, 2), (5, 1), (6, 14)] {
         for length in (1..40).chain([right + 256, 65535]) {
             if length != right {
                 let mut body = vec![0; length];
@@ -130,8 +139,8 @@ fn bad_records_use_up_a_number_and_reading_goes_on() {
     // An arrival without its network.
     bodies.push(vec![4]);
     // Unknown kinds, with the lengths of known ones.
-    for kind in [0].into_iter().chain(6..=255) {
-        for length in [1, 2, 13, 22] {
+    for kind in [0].into_iter().chain(7..=255) {
+        for length in [1, 2, 13, 14, 22] {
             let mut body = vec![0; length];
             body[0] = kind;
             bodies.push(body);
@@ -151,6 +160,8 @@ fn cut_comes_before_bad() {
         "00",
         "0001",
         "0003 06 00",
+        "000E 06 020000000001 0000 01 0200 00",
+        "0003 07 00",
         "0002 05",
         "FFFF 01",
         "0003 0000",
@@ -171,7 +182,7 @@ fn refusals_of_open() {
     bodies.push(open_body(7, 0, 0, 4, 3));
     bodies.push(open_body(7, 0, 3, 4, 3));
     bodies.push(open_body(7, 0, 1, 1, 3));
-    bodies.push(open_body(7, 0, 1, 65, 3));
+    bodies.push(open_wide_body(7, 0, 1, 513, 3));
     bodies.push(open_body(7, 0, 1, 4, 0));
     bodies.push(open_body(7, 4095, 1, 4, 3));
     bodies.push(open_body(7, 4094, 2, 64, 65535));
@@ -181,6 +192,80 @@ fn refusals_of_open() {
     let expected = "1 O 0\n2 O 1\n3 O 2\n4 O 3\n5 O 4\n6 O 5\n7 O 6\n8 O 7\n\
         9 O no 11\n10 O no 10\n11 O no 9\n12 O no 9\n13 O no 9\n14 O no 9\n\
         15 O no 9\n16 O no 9\n17 O no 11\n18 C ok\n19 O 3\n20 O no 9\nend\n";
+    assert_eq!(lines_of(&file_of(&bodies)), expected);
+}
+
+#[test]
+fn opens_of_both_kinds() {
+    // An open and a close of each: what it prints.
+    let opens = [
+        (open_body(1, 0, 1, 0, 3), "no 9"),
+        (open_body(1, 0, 1, 1, 3), "no 9"),
+        (open_body(1, 0, 1, 2, 3), "0"),
+        (open_body(1, 0, 1, 64, 3), "0"),
+        (open_body(1, 0, 1, 65, 3), "0"),
+        (open_body(1, 0, 2, 127, 3), "0"),
+        (open_body(1, 0, 1, 128, 3), "0"),
+        (open_body(1, 0, 2, 255, 3), "0"),
+        (open_wide_body(1, 0, 1, 0, 3), "no 9"),
+        (open_wide_body(1, 0, 1, 1, 3), "no 9"),
+        (open_wide_body(1, 0, 2, 2, 3), "0"),
+        (open_wide_body(1, 0, 1, 64, 3), "0"),
+        (open_wide_body(1, 0, 1, 65, 3), "0"),
+        (open_wide_body(1, 0, 1, 255, 3), "0"),
+        (open_wide_body(1, 0, 1, 256, 3), "0"),
+        (open_wide_body(1, 4094, 2, 511, 65535), "0"),
+        (open_wide_body(1, 0, 1, 512, 1), "0"),
+        (open_wide_body(1, 0, 1, 513, 3), "no 9"),
+        (open_wide_body(1, 0, 2, 513, 3), "no 9"),
+        (open_wide_body(1, 0, 1, 768, 3), "no 9"),
+        (open_wide_body(1, 0, 1, 65535, 3), "no 9"),
+        (open_wide_body(1, 4095, 1, 4, 3), "no 9"),
+        (open_wide_body(1, 0, 0, 4, 3), "no 9"),
+        (open_wide_body(1, 0, 3, 4, 3), "no 9"),
+        (open_wide_body(1, 0, 1, 4, 0), "no 9"),
+    ];
+    let mut bodies = Vec::new();
+    let mut expected = String::new();
+    for (at, (body, answer)) in opens.iter().enumerate() {
+        bodies.extend([body.clone(), vec![2, 0]]);
+        let closed = if *answer == "0" { "ok" } else { "no 12" };
+        expected += &format!("{} O {answer}\n{} C {closed}\n", 2 * at + 1, 2 * at + 2);
+    }
+    assert_eq!(lines_of(&file_of(&bodies)), expected + "end\n");
+}
+
+#[test]
+fn kind_6_as_bytes() {
+    // L = 513, then 512, in front of R = 3; then 12, 13, 15 and 16 bytes, and
+    // kind 1 with the 14 bytes of kind 6.
+    let file = bytes(
+        "01 000E 06 020000000001 0000 01 0201 0003
+         000E 06 020000000001 0000 01 0200 0003
+         000C 06 020000000002 0000 01 02 00
+         000D 06 020000000002 0000 01 04 0003
+         000F 06 020000000002 0000 01 0004 0003 00
+         0010 06 020000000002 0000 01 0004 0003 0000
+         000E 01 020000000002 0000 01 0004 0003
+         000D 01 020000000002 0000 01 FF 0003
+         000E 06 020000000002 0000 01 0004 0003
+         000E 06 020000000003 0000 01 0003 0400
+         000E 06 020000000004 0000 01 0400 0003",
+    );
+    let expected = "1 O no 9\n2 O 0\n3 bad\n4 bad\n5 bad\n6 bad\n7 bad\n8 O 1\n9 O no 10\n\
+        10 O 2\n11 O no 9\nend\n";
+    assert_eq!(lines_of(&file), expected);
+}
+
+#[test]
+fn a_window_of_512_in_an_event_file() {
+    // d of 511, -511, 512 and -512, through the wrap.
+    let mut bodies = vec![open_wide_body(1, 0, 1, 512, 3)];
+    for number in [65500, 475, 65500, 65499, 988, 476, 986, 474, 65036] {
+        bodies.push(arrival_body(0, &tagged(number)));
+    }
+    let expected = "1 O 0\n2 A up 0 65500\n3 A up 0 475\n4 A dup 0 65500\n5 A rogue 0 65499\n\
+        6 A rogue 0 988\n7 A up 0 476\n8 A up 0 986\n9 A rogue 0 474\n10 A rogue 0 65036\nend\n";
     assert_eq!(lines_of(&file_of(&bodies)), expected);
 }
 

@@ -5,6 +5,7 @@ use std::collections::HashSet;
 use std::process::Command;
 
 use second::event_file::run;
+use second::generate::file;
 
 fn generate(seed: u64, count: u64) -> Vec<u8> {
     let done = Command::new(env!("CARGO_BIN_EXE_generate"))
@@ -67,6 +68,50 @@ fn every_kind_of_line_is_met() {
     let wanted: HashSet<String> = wanted.into_iter().collect();
     // Nothing is missing, and no line has a shape that cannot be.
     assert_eq!(met, wanted);
+}
+
+/// The bodies of a file's whole records.
+fn bodies_of(file: &[u8]) -> Vec<&[u8]> {
+    let mut bodies = Vec::new();
+    let mut rest = file.get(1..).unwrap_or_default();
+    while let [high, low, behind @ ..] = rest {
+        let length = usize::from(u16::from_be_bytes([*high, *low]));
+        if length > behind.len() {
+            break;
+        }
+        bodies.push(&behind[..length]);
+        rest = &behind[length..];
+    }
+    bodies
+}
+
+#[test]
+fn opens_of_both_kinds_are_met_at_every_edge() {
+    let mut met = HashSet::new();
+    for seed in 0..200 {
+        for body in bodies_of(&file(seed, 400)) {
+            match *body {
+                [1, .., window, _, _] if body.len() == 13 => met.insert((1, window.into())),
+                [6, .., w0, w1, _, _] if body.len() == 14 => {
+                    met.insert((6, u16::from_be_bytes([w0, w1])))
+                }
+                // Of a wrong length: the length in place of L, above all windows.
+                [kind @ (1 | 6), ..] => met.insert((kind, 1000 + body.len() as u16)),
+                _ => false,
+            };
+        }
+    }
+    for window in [0, 1, 2, 63, 64, 65, 127, 128, 129, 255] {
+        assert!(met.contains(&(1, window)), "kind 1, L {window}");
+        assert!(met.contains(&(6, window)), "kind 6, L {window}");
+    }
+    for window in [256, 257, 511, 512, 513, 514, 768, 65535] {
+        assert!(met.contains(&(6, window)), "kind 6, L {window}");
+    }
+    for (kind, length) in [(1, 12), (1, 14), (6, 13), (6, 15)] {
+        let bad = met.contains(&(kind, 1000 + length));
+        assert!(bad, "kind {kind} with {length} bytes");
+    }
 }
 
 #[test]

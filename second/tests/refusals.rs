@@ -59,7 +59,7 @@ fn slot_of(table: &[Stream], frame: &[u8]) -> Option<usize> {
 
 fn settings_bad(s: &Stream) -> bool {
     !(1..=2).contains(&s.rule)
-        || !(2..=64).contains(&s.window)
+        || !(2..=512).contains(&s.window)
         || !(1..=65535).contains(&s.reset_time)
         || !(0..=4094).contains(&s.vlan)
 }
@@ -69,7 +69,7 @@ fn is_damaged(s: &Stream) -> bool {
     if settings_bad(s) || s.remaining > s.reset_time {
         return true;
     }
-    let bits: Vec<usize> = (0..64).filter(|k| s.history >> k & 1 == 1).collect();
+    let bits = places(&s.history);
     // Where the first number stands as long as there are places before it.
     let (last, early) = (usize::from(s.window) - 1, usize::from(s.early));
     if early > last || (early > 0 && !bits.contains(&(last - early))) {
@@ -285,7 +285,7 @@ fn closes_and_resets() {
         if answer.is_ok() {
             let mended = Stream {
                 anchor: 65535,
-                history: 0,
+                history: [0; 8],
                 take_any: 1,
                 remaining: 0,
                 early: 0,
@@ -330,7 +330,7 @@ fn ticks() {
                 wanted.remaining -= 1;
                 if wanted.remaining == 0 {
                     wanted.anchor = 65535;
-                    wanted.history = 0;
+                    wanted.history = [0; 8];
                     wanted.take_any = 1;
                     wanted.early = 0;
                     wanted.resets = old.resets.wrapping_add(1);

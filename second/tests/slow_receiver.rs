@@ -8,7 +8,7 @@
 
 mod common;
 
-use std::collections::HashSet;
+use std::collections::{BTreeSet, HashSet};
 
 use common::*;
 use second::random::Random;
@@ -18,7 +18,7 @@ struct Slow {
     window: i64,
     first: i64,
     highest: i64,
-    seen: HashSet<i64>,
+    seen: BTreeSet<i64>,
     discarded: u64,
     rogue: u64,
     out_of_order: u64,
@@ -30,7 +30,7 @@ impl Slow {
             window,
             first,
             highest: first,
-            seen: HashSet::from([first]),
+            seen: BTreeSet::from([first]),
             discarded: 0,
             rogue: 0,
             out_of_order: 0,
@@ -57,8 +57,11 @@ impl Slow {
     /// were never handed up. Those before the first are no loss (order 4).
     fn lost(&self) -> u64 {
         let to = self.highest - self.window;
-        let after_first = self.first + 1..=to;
-        after_first.filter(|i| !self.seen.contains(i)).count() as u64
+        if to <= self.first {
+            return 0;
+        }
+        let handed_up = self.seen.range(self.first + 1..=to).count() as u64;
+        (to - self.first) as u64 - handed_up
     }
 
     /// Indices in the window that are older than the first one.
@@ -67,10 +70,10 @@ impl Slow {
         (from..self.first).count() as u16
     }
 
-    fn history(&self) -> u64 {
-        (0..self.window)
-            .filter(|k| self.seen.contains(&(self.highest - k)))
-            .fold(0, |bits, k| bits | 1 << k)
+    /// The places of the window, counted back from the highest index.
+    fn history(&self) -> Vec<usize> {
+        let window = self.seen.range(self.highest - self.window + 1..);
+        window.rev().map(|i| (self.highest - i) as usize).collect()
     }
 }
 
@@ -81,7 +84,7 @@ fn number(index: i64) -> u16 {
 fn compare(table: &[Stream], slow: &Slow) {
     let stream = table[0];
     assert_eq!(stream.anchor, number(slow.highest));
-    assert_eq!(stream.history, slow.history());
+    assert_eq!(places(&stream.history), slow.history());
     assert_eq!(stream.early, slow.early());
     assert_eq!(stream.passed, slow.seen.len() as u64);
     assert_eq!(stream.discarded, slow.discarded);
@@ -105,7 +108,7 @@ fn distance(random: &mut Random, window: i64) -> i64 {
         11 => random.between(1 - window, window - 1),
         12 => random.pick(&[window - 1, 1 - window, window, -window]),
         13 => random.pick(&[far, -far, far - 1, 1 - far]),
-        14 => random.pick(&[32767, -32767, 32768, -32768, 32769, -32769]),
+        14 => random.pick(&[32767, -32767, 32768, -32768, 32769, -32769, 64, -64]),
         _ => random.between(-far, far),
     }
 }
@@ -114,6 +117,8 @@ fn distance(random: &mut Random, window: i64) -> i64 {
 fn any_window(random: &mut Random, run: u32) -> i64 {
     match run % 4 {
         0 => random.pick(&[2, 3, 4, 63, 64]),
+        1 => random.pick(&[65, 127, 128, 129, 255, 256, 511, 512]),
+        2 => random.between(65, 512),
         _ => random.between(2, 64),
     }
 }
@@ -134,7 +139,7 @@ fn random_runs_agree() {
     let mut other = 0;
     for run in 0..300 {
         let window = any_window(&mut random, run);
-        let mut table = [fresh(Stream::VECTOR, window as u8, 3)];
+        let mut table = [fresh(Stream::VECTOR, window as u16, 3)];
         let first = any_first(&mut random);
         assert_eq!(arrive(&mut table, number(first)), "up");
         let mut slow = Slow::new(window, first);
@@ -172,7 +177,7 @@ fn lost_since_each_reset() {
     let (mut rises, mut wraps) = (0, 0);
     for run in 0..200 {
         let window = any_window(&mut random, run);
-        let mut table = [fresh(Stream::VECTOR, window as u8, 3)];
+        let mut table = [fresh(Stream::VECTOR, window as u16, 3)];
         table[0].lost = random.pick(&[0, 5, u64::MAX, u64::MAX - 20]);
         for _ in 0..4 {
             let before = table[0].lost;
@@ -203,8 +208,8 @@ fn two_networks_with_loss_delay_and_wraps() {
     // As in use: a sender's indices come over two networks that lose and delay
     // frames. The run is long enough to wrap several times.
     let mut random = Random::new(22);
-    for window in [2, 8, 64] {
-        let mut table = [fresh(Stream::VECTOR, window as u8, 3)];
+    for window in [2, 8, 64, 65, 512] {
+        let mut table = [fresh(Stream::VECTOR, window as u16, 3)];
         let mut output = [0; 100];
         let mut slow: Option<Slow> = None;
         let (mut up, mut wraps) = (0u64, 0);
@@ -253,8 +258,8 @@ fn no_index_is_handed_up_twice() {
     // The slow receiver's own promise, said without its rules: the list of
     // indices that the library handed up has no index twice.
     let mut random = Random::new(23);
-    for window in [2, 5, 64] {
-        let mut table = [fresh(Stream::VECTOR, window as u8, 3)];
+    for window in [2, 5, 64, 65, 512] {
+        let mut table = [fresh(Stream::VECTOR, window as u16, 3)];
         let mut handed_up = HashSet::new();
         let mut highest: Option<i64> = None;
         for _ in 0..100_000 {
@@ -272,12 +277,14 @@ fn no_index_is_handed_up_twice() {
 fn one_step_further_the_number_is_ambiguous() {
     // Why the premise is 65536 - L: one further on, the number falls into the
     // window from the other side, and no receiver could tell.
-    let window = 4i64;
     let highest = 100;
-    let index = highest + 65536 - (window - 1);
-    let mut table = [running(Stream::VECTOR, 4, 3, number(highest), 0b0001)];
-    assert_eq!(arrive(&mut table, number(index)), "up");
-    assert_eq!(table[0].anchor, number(highest));
-    let mut table = [running(Stream::VECTOR, 4, 3, number(highest), 0b0001)];
-    assert_eq!(arrive(&mut table, number(index - 1)), "rogue");
+    for window in [2, 4, 64, 65, 128, 512] {
+        let index = highest + 65536 - (window - 1);
+        let lent = running(Stream::VECTOR, window as u16, 3, number(highest), 1);
+        let mut table = [lent];
+        assert_eq!(arrive(&mut table, number(index)), "up");
+        assert_eq!(table[0].anchor, number(highest));
+        let mut table = [lent];
+        assert_eq!(arrive(&mut table, number(index - 1)), "rogue");
+    }
 }

@@ -86,7 +86,21 @@ fn settings_at_their_edges() {
         answer
     };
     for rule in [1, 2] {
-        for (window, answer) in [(0, 9), (1, 9), (2, 0), (64, 0), (65, 9), (255, 9)] {
+        for (window, answer) in [
+            (0, 9),
+            (1, 9),
+            (2, 0),
+            (64, 0),
+            (65, 0),
+            (255, 0),
+            (256, 0),
+            (511, 0),
+            (512, 0),
+            (513, 9),
+            (514, 9),
+            (768, 9),
+            (65535, 9),
+        ] {
             assert_eq!(try_open(settings(rule, window, 3)), answer);
         }
         for (reset_time, answer) in [(0, 9), (1, 0), (65535, 0)] {
@@ -107,9 +121,10 @@ fn settings_at_their_edges() {
 
 #[test]
 fn the_smallest_and_the_largest_window() {
-    for window in [2u8, 3, 63, 64] {
-        let l = u16::from(window);
-        let all = u64::MAX >> (64 - window);
+    for window in [2u16, 3, 63, 64, 65, 127, 128, 129, 511, 512] {
+        let l = window;
+        let all = marked(0..usize::from(l));
+        let ends = marked([0, usize::from(l) - 1]);
         // Every place of the window is clear but the anchor's.
         let one = running(Stream::VECTOR, window, 3, 5, 1);
         for (d, verdict) in [(l - 1, "up"), (l, "rogue"), (l + 1, "rogue")] {
@@ -118,17 +133,17 @@ fn the_smallest_and_the_largest_window() {
             if verdict == "up" {
                 // L - 1 zeros stood above bit 0 and all of them left.
                 assert_eq!(table[0].lost, u64::from(l) - 1);
-                assert_eq!(table[0].history, 1 | 1 << (l - 1));
+                assert_eq!(table[0].history, ends);
             }
             let mut table = [one];
             assert_eq!(arrive(&mut table, 5u16.wrapping_sub(d)), verdict);
             if verdict == "up" {
                 assert_eq!((table[0].lost, table[0].anchor), (0, 5));
-                assert_eq!(table[0].history, 1 | 1 << (l - 1));
+                assert_eq!(table[0].history, ends);
             }
         }
         // Every place is set: nothing is lost, and old numbers are duplicates.
-        let full = running(Stream::VECTOR, window, 3, 5, all);
+        let full = with_places(one, 0..usize::from(l));
         let mut table = [full];
         assert_eq!(arrive(&mut table, 5u16.wrapping_sub(l - 1)), "duplicate");
         assert_eq!(arrive(&mut table, 5u16.wrapping_sub(l)), "rogue");
@@ -178,7 +193,7 @@ fn match_rule() {
     assert_eq!(arrive(&mut table, 65535), "up");
     assert_eq!(
         (table[0].anchor, table[0].history, table[0].take_any),
-        (65535, 0, 0)
+        (65535, [0; 8], 0)
     );
     assert_eq!(arrive(&mut table, 65535), "duplicate");
     assert_eq!(arrive(&mut table, 0), "up");
@@ -186,7 +201,10 @@ fn match_rule() {
     assert_eq!(arrive(&mut table, 32768), "up");
     assert_eq!(arrive(&mut table, 0), "up");
     assert_eq!(table[0].out_of_order, 2);
-    assert_eq!((table[0].rogue, table[0].lost, table[0].history), (0, 0, 0));
+    assert_eq!(
+        (table[0].rogue, table[0].lost, table[0].history),
+        (0, 0, [0; 8])
+    );
     assert_eq!((table[0].passed, table[0].discarded), (4, 1));
     assert_eq!(table[0].remaining, 3);
 }
@@ -254,8 +272,8 @@ fn same_destination_with_another_vlan_is_another_key() {
 fn open_checks_in_order() {
     let mut table = [fresh(Stream::VECTOR, 4, 3)];
     // Bad setting, key in use and no free slot at once.
-    assert_eq!(number_of(open(&mut table, settings(1, 65, 3))), 9);
-    assert_eq!(number_of(open(&mut table, settings(1, 64, 3))), 10);
+    assert_eq!(number_of(open(&mut table, settings(1, 513, 3))), 9);
+    assert_eq!(number_of(open(&mut table, settings(1, 512, 3))), 10);
     assert_eq!(number_of(open(&mut table, with_key(77))), 11);
 }
 
@@ -351,7 +369,7 @@ fn counters_wrap() {
         out_of_order: 0,
         lost: 2,
         anchor: 13,
-        history: 0b1001,
+        history: low(0b1001),
         ..start
     };
     assert_eq!(table[0], expected);
@@ -395,7 +413,7 @@ fn reset_keeps_key_settings_and_counters() {
     assert_eq!(reset(&mut table, 0), Ok(()));
     let expected = Stream {
         anchor: 65535,
-        history: 0,
+        history: [0; 8],
         take_any: 1,
         remaining: 0,
         early: 0,

@@ -2,7 +2,7 @@
 //! only some.
 
 use second::event_file::{kind, MAX_BODY, SLOTS, VERSION};
-use second::generate::{open_body, push_record, tagged, Key};
+use second::generate::{open_body, open_wide_body, push_record, tagged, Key};
 use second::Stream;
 
 const KEY: Key = ([2, 0, 0, 0, 0, 1], 0);
@@ -12,7 +12,8 @@ const SOURCE: [u8; 6] = [2, 0, 0, 0, 0, 2];
 pub fn files() -> Vec<(&'static str, Vec<u8>)> {
     vec![
         ("every length of a frame", lengths()),
-        ("every window, at its edges", windows()),
+        ("every window, at its edges and by whole words", windows()),
+        ("every L in two bytes, opened", two_byte_windows()),
         ("every reset time, opened", reset_times()),
         ("reset times up to 300, run out", short_reset_times()),
         ("eight reset times up to 65535, run out", long_reset_times()),
@@ -25,6 +26,7 @@ pub fn files() -> Vec<(&'static str, Vec<u8>)> {
         ("every network", networks()),
         ("every first byte of a source", sources()),
         ("every number on two networks", numbers()),
+        ("every number on two networks, 511 apart", far_numbers()),
     ]
 }
 
@@ -36,8 +38,9 @@ pub fn small() -> Vec<u8> {
         &[],
         &tagged(1, KEY, 258),
         &[kind::TICK],
-        &[6, 0],
+        &[7, 0],
         &[kind::RESET, 0],
+        &open_wide_body((KEY.0, 1), Stream::VECTOR, 258, 3),
         &tagged(0, (KEY.0, 5), 1),
         &[kind::CLOSE, 0],
     ] {
@@ -59,6 +62,10 @@ impl File {
 
     fn open(&mut self, key: Key, rule: u8, window: u8, reset_time: u16) {
         self.body(&open_body(key, rule, window, reset_time));
+    }
+
+    fn open_wide(&mut self, key: Key, rule: u8, window: u16, reset_time: u16) {
+        self.body(&open_wide_body(key, rule, window, reset_time));
     }
 
     fn number(&mut self, network: u8, number: u16) {
@@ -116,34 +123,43 @@ fn windows() -> Vec<u8> {
     for rule in 0..=3 {
         for window in 0..=255 {
             file.open(KEY, rule, window, 9);
-            let both_lawful = (1..=2).contains(&rule) && (2..=64).contains(&window);
-            for anchor in [0, 4, 32768, 65535] {
-                if !both_lawful {
-                    break;
-                }
-                let l = i32::from(window);
-                for d in [
-                    -32768,
-                    -l - 1,
-                    -l,
-                    1 - l,
-                    -1,
-                    0,
-                    1,
-                    2,
-                    l - 1,
-                    l,
-                    l + 1,
-                    32767,
-                ] {
+            file.body(&[kind::CLOSE, 0]);
+        }
+    }
+    for rule in [Stream::VECTOR, Stream::MATCH] {
+        for window in Stream::MIN_WINDOW..=Stream::MAX_WINDOW {
+            let l = i32::from(window);
+            let edges = [-32768, -l - 1, -l, 1 - l, 2 - l, -1, 0, 1, 2];
+            let others = [l - 2, l - 1, l, l + 1, 32767];
+            // The ends of the history's words.
+            let words = [-129, -128, -65, -64, -63, 63, 64, 65, 127, 128];
+            let lasts = [l / 64 * 64, -(l / 64 * 64)];
+            let differences = edges.into_iter().chain(others).chain(words).chain(lasts);
+            for (at, d) in differences.enumerate() {
+                for anchor in [0, 65535] {
+                    // Of both kinds, where L has room in one byte.
+                    match u8::try_from(window) {
+                        Ok(window) if at % 2 == 0 => file.open(KEY, rule, window, 9),
+                        _ => file.open_wide(KEY, rule, window, 9),
+                    }
                     let number = (anchor + d).rem_euclid(65536) as u16;
                     // Anchor, the number twice, then what it did to the anchor.
                     for number in [anchor as u16, number, number, anchor as u16] {
                         file.number(0, number);
                     }
-                    file.body(&[kind::RESET, 0]);
+                    file.body(&[kind::CLOSE, 0]);
                 }
             }
+        }
+    }
+    file.0
+}
+
+fn two_byte_windows() -> Vec<u8> {
+    let mut file = File::new();
+    for window in 0..=65535 {
+        file.open_wide(KEY, Stream::VECTOR, window, 9);
+        if (Stream::MIN_WINDOW..=Stream::MAX_WINDOW).contains(&window) {
             file.body(&[kind::CLOSE, 0]);
         }
     }
@@ -314,6 +330,16 @@ fn numbers() -> Vec<u8> {
     for number in (0..=65535).chain(0..=2) {
         file.number(0, number);
         file.number(1, number);
+    }
+    file.0
+}
+
+fn far_numbers() -> Vec<u8> {
+    let mut file = File::new();
+    file.open_wide(KEY, Stream::VECTOR, 512, 9);
+    for number in (0..=65535).chain(0..=600) {
+        file.number(0, number);
+        file.number(1, number.wrapping_sub(511));
     }
     file.0
 }

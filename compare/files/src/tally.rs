@@ -50,11 +50,12 @@ fn expected() -> Vec<String> {
     all.extend(["T 0 0", "T 1 0", "T 2.. 0", "bad"].map(String::from));
     all.extend(["version", "cut", "end"].map(String::from));
     all.extend(INPUTS.map(|input| format!("input: {input}")));
-    all.extend((2..=64).map(|window| format!("input: L = {window}")));
+    let windows = Stream::MIN_WINDOW..=Stream::MAX_WINDOW;
+    all.extend(windows.map(|window| format!("input: L = {window}")));
     all
 }
 
-const INPUTS: [&str; 15] = [
+const INPUTS: [&str; 20] = [
     "a body of length 0",
     "a body of 32768 bytes or more",
     "a frame of 2000 bytes",
@@ -70,6 +71,11 @@ const INPUTS: [&str; 15] = [
     "8100 behind F1C1",
     "an open with VLAN 4095",
     "R of 32768 or more",
+    "L above 64 in an open of kind 1",
+    "L up to 255 in an open of kind 6",
+    "L above 512 in an open of kind 6",
+    "kind 1 with 14 bytes",
+    "kind 6 with 13 bytes",
 ];
 
 impl Default for Tally {
@@ -110,7 +116,8 @@ impl Tally {
                 ["O", slot] => {
                     let rule = body[9];
                     self.count(&format!("O, rule {}", name(rule)), line);
-                    self.count(&format!("input: L = {}", body[10]), line);
+                    let window = window(body).unwrap_or(0);
+                    self.count(&format!("input: L = {window}"), line);
                     slots[slot.parse::<usize>().unwrap_or(0) % SLOTS] = (rule, 0);
                     format!("O {slot}")
                 }
@@ -119,7 +126,7 @@ impl Tally {
                     let (rule, number) = (name(*rule), number.parse::<i32>().unwrap_or(0));
                     if verdict == "up" {
                         let d = number - std::mem::replace(last, number);
-                        let through_the_wrap = d.abs() > 65536 - 64;
+                        let through_the_wrap = d.abs() > 65536 - 512;
                         if through_the_wrap {
                             self.count(&format!("A up {rule}, through the wrap"), line);
                         }
@@ -143,10 +150,25 @@ impl Tally {
         };
         has(body.is_empty(), "a body of length 0");
         has(body.len() >= 32768, "a body of 32768 bytes or more");
-        if let [kind::OPEN, _, _, _, _, _, _, v0, v1, _, _, r0, _] = *body {
-            has([v0, v1] == [0x0F, 0xFF], "an open with VLAN 4095");
-            has(r0 >= 128, "R of 32768 or more");
+        if let Some(window) = window(body) {
+            has(body[7..9] == [0x0F, 0xFF], "an open with VLAN 4095");
+            has(body[body.len() - 2] >= 128, "R of 32768 or more");
+            if body[0] == kind::OPEN {
+                has(window > 64, "L above 64 in an open of kind 1");
+            } else {
+                has(window <= 255, "L up to 255 in an open of kind 6");
+                has(window > 512, "L above 512 in an open of kind 6");
+            }
         }
+        let first = body.first().copied().unwrap_or(0);
+        has(
+            first == kind::OPEN && body.len() == 14,
+            "kind 1 with 14 bytes",
+        );
+        has(
+            first == kind::OPEN_WIDE && body.len() == 13,
+            "kind 6 with 13 bytes",
+        );
         let frame = match body {
             [kind::ARRIVAL, _, frame @ ..] => frame,
             _ => return,
@@ -197,6 +219,17 @@ impl Tally {
                 println!("{count:9} {shape}");
             }
         }
+    }
+}
+
+/// The L of a body that is an open of the right length.
+fn window(body: &[u8]) -> Option<u16> {
+    match *body {
+        [kind::OPEN, _, _, _, _, _, _, _, _, _, window, _, _] => Some(window.into()),
+        [kind::OPEN_WIDE, _, _, _, _, _, _, _, _, _, high, low, _, _] => {
+            Some(u16::from_be_bytes([high, low]))
+        }
+        _ => None,
     }
 }
 

@@ -19,6 +19,7 @@ use second::random::Random;
 use second::wrong::{self, Seen as Shows, VARIANTS};
 use std::collections::BTreeMap;
 use std::io::Write;
+use std::ops::Range;
 use std::process::ExitCode;
 
 const SEED: u64 = 1;
@@ -30,8 +31,14 @@ const LEAST: u64 = 100;
 /// A wrong variant must be found within so many calls.
 const PATIENCE: u64 = 200_000;
 
-/// The windows for which every difference is counted.
+/// The windows for which every difference and every n is counted.
 const WINDOWS: [u16; 3] = [2, 4, 64];
+/// The windows of more than one word for which those at the ends of the words are.
+const WIDE: [u16; 5] = [65, 127, 128, 511, 512];
+/// Words in a history.
+const WORDS: usize = 8;
+/// The first place behind all of them.
+const PLACES: u16 = Stream::WINDOW_MOST;
 
 /// Batches have up to so many frames, more than are taken.
 const FRAMES_TRIED: u64 = 40;
@@ -78,11 +85,16 @@ fn counts(random: &mut Random) -> Counts {
 }
 
 fn window(random: &mut Random) -> u16 {
-    match random.below(8) {
-        0 | 1 => 2,
-        2 | 3 => 4,
-        4 | 5 => 64,
-        _ => 2 + random.below(63) as u16,
+    match random.below(16) {
+        0 => 2,
+        1 => 4,
+        2..=4 => 64,
+        5 | 6 => random.pick(&[65, 127, 128]),
+        7..=9 => 511,
+        10..=12 => 512,
+        13 => random.pick(&[63, 129, 192, 193, 255, 256, 257, 448, 449]),
+        14 => 2 + random.below(63) as u16,
+        _ => 65 + random.below(448) as u16,
     }
 }
 
@@ -101,8 +113,63 @@ fn early(random: &mut Random, window: u16) -> u16 {
         0..=2 => 0,
         3 => 1,
         4 => window - 1,
+        // The first number at an end of a word.
+        5 if window > 64 => {
+            let words = 64 * (1 + random.below(u64::from(window - 1) / 64)) as u16;
+            window - 1 - random.pick(&[words - 1, words])
+        }
         _ => random.below(window.into()) as u16,
     }
+}
+
+fn is_marked(history: &[u64; WORDS], place: u16) -> bool {
+    history[usize::from(place / 64)] >> (place % 64) & 1 == 1
+}
+
+fn mark(history: &mut [u64; WORDS], place: u16) {
+    history[usize::from(place / 64)] |= 1 << (place % 64);
+}
+
+fn clear(history: &mut [u64; WORDS], place: u16) {
+    history[usize::from(place / 64)] &= !(1 << (place % 64));
+}
+
+/// How many of these places are marked.
+fn marks(history: &[u64; WORDS], places: Range<u16>) -> u32 {
+    places
+        .map(|place| u32::from(is_marked(history, place)))
+        .sum()
+}
+
+/// Marks in places of the window: every second one, fewer, or hardly any.
+fn history(random: &mut Random, window: u16) -> [u64; WORDS] {
+    let mut history = [0; WORDS];
+    let kind = random.below(4);
+    for (at, word) in (0..window.min(PLACES)).step_by(64).zip(&mut history) {
+        let bits = match kind {
+            0 | 1 => random.bits(),
+            2 => random.bits() & random.bits(),
+            _ => 0,
+        };
+        *word = bits >> (64 - (window - at).min(64));
+    }
+    for _ in 0..random.below(4) {
+        mark(
+            &mut history,
+            random.below(window.clamp(1, PLACES).into()) as u16,
+        );
+    }
+    history
+}
+
+/// Marks anywhere, in one word or in all of them.
+fn any_history(random: &mut Random) -> [u64; WORDS] {
+    let mut history = history(random, PLACES);
+    if random.chance(1, 2) {
+        history = [0; WORDS];
+        history[random.below(WORDS as u64) as usize] = random.bits();
+    }
+    history
 }
 
 /// A lawful record in use.
@@ -112,26 +179,24 @@ fn lawful(random: &mut Random) -> Stream {
     let (window, time) = (window(random), time(random));
     let state = if random.chance(1, 6) {
         State {
-            history: 0,
+            history: [0; WORDS],
             anchor: 65535,
             remaining: 0,
             early: 0,
             any: random.pick(&[1, 1, 255, 256, 65535]),
         }
     } else {
-        let bits = random.bits()
-            & if random.chance(1, 2) {
-                random.bits()
-            } else {
-                u64::MAX
-            };
         let (history, early) = if rule == Stream::VECTOR_RULE {
+            let mut history = history(random, window);
             let early = early(random, window);
+            mark(&mut history, 0);
             // The first number stands in the window as long as there are places for older ones.
-            let first = u64::from(early > 0) << (window - 1 - early);
-            (bits >> (64 - window) | 1 | first, early)
+            if early > 0 {
+                mark(&mut history, window - 1 - early);
+            }
+            (history, early)
         } else {
-            (0, 0)
+            ([0; WORDS], 0)
         };
         State {
             history,
@@ -168,9 +233,9 @@ fn lawful(random: &mut Random) -> Stream {
 /// A record with one fault, or with anything in it.
 fn damaged(random: &mut Random) -> Stream {
     let mut s = lawful(random);
-    match random.below(18) {
+    match random.below(26) {
         0 => s.rule = random.pick(&[0, 3, 255]),
-        1 => s.window = random.pick(&[0, 1, 65, 255, 256, 260, 65535]),
+        1 => s.window = random.pick(&[0, 1, 513, 514, 576, 768, 1028, 65535]),
         2 => s.time = 0,
         3 => s.vlan = random.pick(&[4095, 4096, 65535]),
         4 => s.state.remaining = s.time.wrapping_add(1),
@@ -178,7 +243,7 @@ fn damaged(random: &mut Random) -> Stream {
         6 => s.state.any = 1 - s.state.any.min(1),
         7 => {
             s.state = State {
-                history: 0,
+                history: [0; WORDS],
                 anchor: random.word(),
                 remaining: 0,
                 early: 0,
@@ -187,16 +252,32 @@ fn damaged(random: &mut Random) -> Stream {
         }
         8 => {
             s.state = State {
-                history: random.bits(),
+                history: any_history(random),
                 anchor: 65535,
                 remaining: 0,
                 early: 0,
                 any: 1,
             }
         }
-        9 => s.state.history &= !1,
-        10 => s.state.history |= 1u64.checked_shl(s.window.into()).unwrap_or(0),
-        11 => s.state.history = random.bits(),
+        9 => clear(&mut s.state.history, 0),
+        // At L, behind it, and in a higher word. With L = 512 there is no such place, and nothing is damaged.
+        10 | 21 if s.window < PLACES => mark(&mut s.state.history, s.window),
+        18 | 22..=24 if (1..63).contains(&(s.window % 64)) => {
+            let behind = u64::from(63 - s.window % 64);
+            let place = s.window + 1 + random.below(behind) as u16;
+            mark(&mut s.state.history, place);
+        }
+        19 if s.window < PLACES => {
+            let behind = u64::from(PLACES - s.window);
+            mark(&mut s.state.history, s.window + random.below(behind) as u16);
+        }
+        20 | 25 if s.window <= PLACES - 64 => {
+            let word = usize::from((s.window - 1) / 64) + 1;
+            let word = word + random.below((WORDS - word) as u64) as usize;
+            s.state.history[word] |= random.bits() & random.bits();
+        }
+        10 | 18..=25 => {}
+        11 => s.state.history = any_history(random),
         12 => s.dest |= random.bits() << 48,
         13 => s.state.early = s.window,
         14 => s.state.early = s.window + 1 + random.below(8) as u16,
@@ -205,11 +286,13 @@ fn damaged(random: &mut Random) -> Stream {
             // No number is at the place of the first, but where that is the anchor's.
             let place = random.below(u64::from(s.window) - 1) as u16;
             s.state.early = s.window - 1 - place;
-            s.state.history &= !(1 << place) | 1;
+            if place > 0 {
+                clear(&mut s.state.history, place);
+            }
         }
         _ => {
             s.state = State {
-                history: random.bits(),
+                history: any_history(random),
                 anchor: random.word(),
                 remaining: random.word(),
                 early: random.word(),
@@ -253,13 +336,19 @@ struct Frames {
 
 /// A difference, most often one near the window's ends, which are counted.
 fn difference(random: &mut Random, window: u16) -> i64 {
-    let window = i64::from(window.min(64));
+    let window = i64::from(window.min(PLACES));
     match random.below(16) {
         0 => random.between(-32768, 32767),
         1 => -32768,
         2 | 3 => 1,
         4 => 0,
         5 => random.between(-3, 3),
+        // At the ends of the history's words, and of a window of several.
+        6..=12 if window > 64 => {
+            let words = random.below(window as u64 / 64 + 1) as i64 * 64;
+            let d = random.pick(&[words, words, window]) + random.between(-1, 1);
+            random.pick(&[d, -d])
+        }
         _ => random.between(-window - 1, window + 1),
     }
 }
@@ -322,7 +411,7 @@ fn settings(random: &mut Random) -> Settings {
     match random.below(16) {
         0 => s.vlan = random.pick(&[4095, 4096, 65535]),
         1 => s.rule = random.pick(&[0, 3, 255]),
-        2 => s.window = random.pick(&[0, 1, 65, 255, 256, 260, 65535]),
+        2 => s.window = random.pick(&[0, 1, 513, 514, 576, 768, 1028, 65535]),
         3 => s.time = 0,
         _ => {}
     }
@@ -561,14 +650,187 @@ struct Early {
     opened_over: u64,
 }
 
+/// The ways in which the history alone makes a record damaged.
+const HISTORY_FAULTS: [&str; 6] = [
+    "bit 0 clear",
+    "a bit at L",
+    "a bit above L in its word",
+    "a bit in a higher word alone",
+    "a match record with a bit above the first word",
+    "take-any with a bit above the first word",
+];
+
+/// What must come up with the words of a history.
+#[derive(Default)]
+struct Histories {
+    /// By [`HISTORY_FAULTS`], then [`EARLY_MET`].
+    faults: [[u64; 4]; 6],
+    /// By the word of the place, in vector streams.
+    late: [u64; WORDS],
+    duplicate: [u64; WORDS],
+    /// By the word that a mark has left for a higher one.
+    crossed: [u64; WORDS],
+    /// By the word of place L - 1, where marks and zeros left.
+    left: [u64; WORDS],
+    lost: [u64; WORDS],
+    /// The wrap inside a window of more than 64, by the same verdicts.
+    wrap_late: u64,
+    wrap_duplicate: u64,
+    wrap_moved: u64,
+    /// With bits above the first word.
+    reset_by_tick: u64,
+    reset_by_call: u64,
+    opened_over: u64,
+    /// By the L of an open, and those that were refused.
+    opened: BTreeMap<u16, u64>,
+    refused_513: u64,
+}
+
+/// The windows that opens must have.
+const OPENED: [u16; 11] = [2, 63, 64, 65, 127, 128, 255, 256, 257, 511, 512];
+
+/// Which of [`HISTORY_FAULTS`] a record has that is damaged by its history alone.
+fn history_fault(s: &Stream) -> Option<usize> {
+    let (history, vector) = (&s.state.history, s.rule == Stream::VECTOR_RULE);
+    let high = history[1..].iter().any(|&word| word != 0);
+    let fault = if s.state.any != 0 {
+        (history[0] == 0 && high).then_some(5)
+    } else if !vector {
+        (history[0] == 0 && high).then_some(4)
+    } else if !is_marked(history, 0) {
+        Some(0)
+    } else {
+        let behind = (s.window.min(PLACES)..PLACES).find(|&place| is_marked(history, place));
+        behind.map(|place| match place {
+            _ if place == s.window => 1,
+            _ if place / 64 == (s.window.max(1) - 1) / 64 => 2,
+            _ => 3,
+        })
+    };
+    let mut other = *s;
+    other.state.history = [u64::from(vector && s.state.any == 0), 0, 0, 0, 0, 0, 0, 0];
+    fault.filter(|_| s.state.early == 0 && is_damaged(*s) && !is_damaged(other))
+}
+
+impl Histories {
+    /// A call on a table that gave an answer other than a refusal.
+    fn note(&mut self, call: &Call, answer: &Answer, before: &[Stream], after: &[Stream]) {
+        let high = |s: &Stream| s.is_used() && s.state.history[1..] != [0; WORDS - 1];
+        match (call, answer) {
+            (_, &Answer::HandedUp { slot, number, .. }) => {
+                self.handed_up(number, &before[slot], &after[slot])
+            }
+            (_, &Answer::Duplicate { slot, number }) => {
+                let s = &before[slot];
+                if s.rule == Stream::VECTOR_RULE {
+                    let place = s.state.anchor.wrapping_sub(number);
+                    self.duplicate[usize::from(place / 64)] += 1;
+                    self.wrap_duplicate += u64::from(place >= 64 && number > s.state.anchor);
+                }
+            }
+            (Call::Tick, Answer::Ticked { .. }) => {
+                for (b, a) in before.iter().zip(after).filter(|(b, _)| b.is_used()) {
+                    self.met(1, b);
+                    self.reset_by_tick += u64::from(high(b) && a.counts != b.counts);
+                }
+            }
+            (&Call::Reset(slot), Answer::Done) => {
+                self.met(2, &before[slot]);
+                self.reset_by_call += u64::from(high(&before[slot]));
+            }
+            (&Call::Close(slot), Answer::Done) => self.met(3, &before[slot]),
+            (Call::Open(s), &Answer::Opened(slot)) => {
+                *self.opened.entry(s.window).or_default() += 1;
+                let over = before[slot].state.history[1..] != [0; WORDS - 1];
+                self.opened_over += u64::from(over);
+            }
+            (Call::Open(s), Answer::Refused(9)) => self.refused_513 += u64::from(s.window == 513),
+            _ => {}
+        }
+    }
+
+    /// A record that one of [`EARLY_MET`] has met.
+    fn met(&mut self, by: usize, s: &Stream) {
+        if let Some(fault) = history_fault(s) {
+            self.faults[fault][by] += 1;
+        }
+    }
+
+    fn handed_up(&mut self, number: u16, b: &Stream, a: &Stream) {
+        if b.state.any != 0 || b.rule != Stream::VECTOR_RULE {
+            return;
+        }
+        let (history, window) = (&b.state.history, b.window);
+        let d = a.state.anchor.wrapping_sub(b.state.anchor);
+        if d == 0 {
+            let place = b.state.anchor.wrapping_sub(number);
+            self.late[usize::from(place / 64)] += 1;
+            self.wrap_late += u64::from(place >= 64 && number > b.state.anchor);
+            return;
+        }
+        self.wrap_moved += u64::from(d >= 64 && number < b.state.anchor);
+        for end in (64..window).step_by(64) {
+            // A mark below the end that has come to it or above it, and is still inside.
+            let crossed = marks(history, end.saturating_sub(d)..end.min(window - d)) > 0;
+            self.crossed[usize::from(end / 64) - 1] += u64::from(crossed);
+        }
+        let left = marks(history, window - d..window);
+        let word = usize::from((window - 1) / 64);
+        self.left[word] += u64::from(left > 0);
+        self.lost[word] += u64::from(a.counts.lost != b.counts.lost);
+    }
+
+    fn list(&self, list: &mut Vec<(String, u64)>) {
+        for (fault, met) in HISTORY_FAULTS.iter().zip(self.faults) {
+            for (call, n) in EARLY_MET.iter().zip(met) {
+                list.push((format!("{} meets {}", call, fault), n));
+            }
+        }
+        for word in 0..WORDS {
+            for (what, n) in [
+                ("a late number in", self.late[word]),
+                ("a duplicate in", self.duplicate[word]),
+                ("a mark leaves the window from", self.left[word]),
+                ("a loss from", self.lost[word]),
+            ] {
+                list.push((format!("{} word {}", what, word), n));
+            }
+            if word + 1 < WORDS {
+                let what = format!("a mark moves from word {} to a higher one", word);
+                list.push((what, self.crossed[word]));
+            }
+        }
+        for (what, n) in [
+            ("a late number across the wrap", self.wrap_late),
+            ("a duplicate across the wrap", self.wrap_duplicate),
+            ("a move across the wrap", self.wrap_moved),
+        ] {
+            list.push((format!("{}, 64 or more places away", what), n));
+        }
+        for (what, n) in [
+            ("a tick resets", self.reset_by_tick),
+            ("a reset", self.reset_by_call),
+            ("an open over a free record", self.opened_over),
+        ] {
+            list.push((format!("with bits above the first word: {}", what), n));
+        }
+        for window in OPENED {
+            let n = self.opened.get(&window).copied().unwrap_or(0);
+            list.push((format!("an open with L = {}", window), n));
+        }
+        let refused = self.refused_513;
+        list.push((String::from("an open refused with L = 513"), refused));
+    }
+}
+
 /// How often each thing came up.
 struct Seen {
     calls: [u64; 8],
     refused: [[u64; 16]; 8],
     /// By rule, then handed up, duplicate, rogue.
     verdicts: [[u64; 3]; 2],
-    /// By window, then d + 65, in vector streams without take-any.
-    differences: [[u64; 131]; 3],
+    /// By window and difference, in vector streams without take-any.
+    differences: BTreeMap<(u16, i32), u64>,
     take_any: u64,
     reserved: u64,
     wrapped: [u64; 8],
@@ -581,6 +843,7 @@ struct Seen {
     slots: [u64; 66],
     batches: Batches,
     early: Early,
+    histories: Histories,
 }
 
 /// The frames of a batch, as far as they stand whole in its input, and what stands behind them.
@@ -824,14 +1087,23 @@ impl Early {
         self.loss_behind_the_first += u64::from(a.counts.lost != b.counts.lost);
         // Of the places that leave, those older than the first.
         let leave = early.min(moved);
-        let left = b.state.history >> (b.window - leave);
+        let left = marks(&b.state.history, b.window - leave..b.window);
         self.older_number_leaves += u64::from(left != 0);
-        self.older_zero_leaves += u64::from(left.count_ones() < leave.into());
+        self.older_zero_leaves += u64::from(left < leave.into());
     }
 
     fn list(&self, list: &mut Vec<(String, u64)>) {
         for window in WINDOWS {
             for n in 0..window {
+                let seen = self.verdicts.get(&(window, n)).copied().unwrap_or(0);
+                list.push((format!("a verdict with n = {} at L = {}", n, window), seen));
+            }
+        }
+        // With the first number at an end of a word, and with all places left.
+        for window in WIDE {
+            let ends = (64..window).step_by(64).flat_map(|end| [end - 1, end]);
+            for first in ends.chain([0]) {
+                let n = window - 1 - first;
                 let seen = self.verdicts.get(&(window, n)).copied().unwrap_or(0);
                 list.push((format!("a verdict with n = {} at L = {}", n, window), seen));
             }
@@ -877,7 +1149,7 @@ impl Seen {
             calls: [0; 8],
             refused: [[0; 16]; 8],
             verdicts: [[0; 3]; 2],
-            differences: [[0; 131]; 3],
+            differences: BTreeMap::new(),
             take_any: 0,
             reserved: 0,
             wrapped: [0; 8],
@@ -890,6 +1162,7 @@ impl Seen {
             slots: [0; 66],
             batches: Batches::default(),
             early: Early::default(),
+            histories: Histories::default(),
         }
     }
 
@@ -904,6 +1177,7 @@ impl Seen {
     ) {
         let kind = place(call);
         self.early.note(call, answer, before, after);
+        self.histories.note(call, answer, before, after);
         self.calls[kind] += 1;
         self.slots[before.len()] += 1;
         if let Call::Batch {
@@ -934,6 +1208,7 @@ impl Seen {
                     self.groups[3] += u64::from(n == 14 && slots.clone().next().is_none());
                     if let (7, Some(damaged)) = (n, slots.next()) {
                         self.early.met(0, damaged);
+                        self.histories.met(0, damaged);
                         self.shared_key_damaged += u64::from(slots.next().is_some());
                     }
                 }
@@ -990,10 +1265,8 @@ impl Seen {
             self.take_any += 1;
         } else if s.rule == Stream::VECTOR_RULE {
             let d = i32::from(number.wrapping_sub(s.state.anchor) as i16);
-            if let Some(w) = WINDOWS.iter().position(|&w| w == s.window) {
-                if let Some(n) = self.differences[w].get_mut((d + 65) as usize) {
-                    *n += 1;
-                }
+            if counted(s.window, d) {
+                *self.differences.entry((s.window, d)).or_default() += 1;
             }
         }
     }
@@ -1021,13 +1294,11 @@ impl Seen {
                 }
             }
         }
-        for (w, &window) in WINDOWS.iter().enumerate() {
+        for window in WINDOWS.into_iter().chain(WIDE) {
             let ends = i32::from(window) + 1;
-            for d in -ends..=ends {
-                list.push((
-                    format!("d = {} at L = {}", d, window),
-                    self.differences[w][(d + 65) as usize],
-                ));
+            for d in (-ends..=ends).filter(|&d| counted(window, d)) {
+                let n = self.differences.get(&(window, d)).copied().unwrap_or(0);
+                list.push((format!("d = {} at L = {}", d, window), n));
             }
         }
         for (n, name) in COUNTERS.iter().enumerate() {
@@ -1038,6 +1309,7 @@ impl Seen {
         }
         self.batches.list(&mut list);
         self.early.list(&mut list);
+        self.histories.list(&mut list);
         for slots in [0, 1, 63, 64, 65] {
             list.push((format!("calls on {} slots", slots), self.slots[slots]));
         }
@@ -1062,6 +1334,14 @@ impl Seen {
         list.push((String::from("a reset that mends"), self.mended));
         list
     }
+}
+
+/// Is this difference one of those that must come up?
+fn counted(window: u16, d: i32) -> bool {
+    let (ends, far) = (i32::from(window) + 1, d.abs());
+    far <= ends
+        && (WINDOWS.contains(&window)
+            || WIDE.contains(&window) && (far <= 1 || far >= ends - 2 || (far + 1) % 64 <= 2))
 }
 
 /// Slots in use with this key.

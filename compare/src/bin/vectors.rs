@@ -1,5 +1,5 @@
 //! A fixed list of calls that are run and not proved, with what each answers and changes: document 01, "Run but not proved",
-//! and the places where a slip is likely, orders 1, 3 and 4 of document 02 among them.
+//! and the places where a slip is likely, orders 1, 3, 4 and 5 of document 02 among them.
 //!
 //!     vectors product    the list on the compiled product
 //!     vectors second     the list on the second program
@@ -94,6 +94,20 @@ fn filled(mut head: Vec<u8>, length: usize) -> Vec<u8> {
 
 // ---- records
 
+/// A history with these bits in its first word.
+fn low(bits: u64) -> [u64; 8] {
+    [bits, 0, 0, 0, 0, 0, 0, 0]
+}
+
+/// A history with these places marked.
+fn marked(places: impl IntoIterator<Item = u16>) -> [u64; 8] {
+    let mut history = [0; 8];
+    for place in places {
+        history[usize::from(place / 64)] |= 1 << (place % 64);
+    }
+    history
+}
+
 /// A fresh vector stream with L = 4 and R = 3.
 fn fresh() -> Stream {
     Stream {
@@ -103,7 +117,7 @@ fn fresh() -> Stream {
         rule: Stream::VECTOR_RULE,
         used: 1,
         state: State {
-            history: 0,
+            history: low(0),
             anchor: 65535,
             remaining: 0,
             early: 0,
@@ -117,13 +131,25 @@ fn fresh() -> Stream {
 fn running() -> Stream {
     Stream {
         state: State {
-            history: 0b101,
+            history: low(0b101),
             anchor: 100,
             remaining: 2,
             early: 0,
             any: 0,
         },
         ..fresh()
+    }
+}
+
+/// The running stream with this window and these places marked.
+fn wide(window: u16, places: impl IntoIterator<Item = u16>) -> Stream {
+    Stream {
+        window,
+        state: State {
+            history: marked(places),
+            ..running().state
+        },
+        ..running()
     }
 }
 
@@ -143,17 +169,16 @@ fn settings(rule: u8, window: u16, time: u16) -> Settings {
     }
 }
 
-fn fields(s: &Stream) -> [(&'static str, u64); 19] {
+/// A record's fields, each as it is shown. Two that differ are shown differently.
+fn fields(s: &Stream) -> Vec<(&'static str, String)> {
     let (state, counts) = (&s.state, &s.counts);
-    [
+    let numbers = [
         ("in use", s.used.into()),
-        ("destination", s.dest),
         ("VLAN", s.vlan.into()),
         ("rule", s.rule.into()),
         ("L", s.window.into()),
         ("R", s.time.into()),
         ("anchor", state.anchor.into()),
-        ("history", state.history),
         ("take-any", state.any.into()),
         ("remaining", state.remaining.into()),
         ("n", state.early.into()),
@@ -165,17 +190,27 @@ fn fields(s: &Stream) -> [(&'static str, u64); 19] {
         ("out of order", counts.disorder),
         ("lost", counts.lost),
         ("resets", counts.resets),
-    ]
+    ];
+    let mut shown: Vec<_> = numbers
+        .into_iter()
+        .map(|(name, value)| (name, value.to_string()))
+        .collect();
+    shown.insert(1, ("destination", format!("{:012x}", s.dest)));
+    shown.insert(7, ("history", shown_history(&state.history)));
+    shown
 }
 
 // ---- lines
 
-fn shown(name: &str, value: u64) -> String {
-    match name {
-        "destination" => format!("{:012x}", value),
-        "history" if value < 16 => format!("{:04b}", value),
-        "history" => format!("{:#x}", value),
-        _ => value.to_string(),
+/// The first word, and those above it up to the last that is not 0, the highest in front.
+fn shown_history(history: &[u64; 8]) -> String {
+    let words = history.iter().rposition(|&word| word != 0).unwrap_or(0) + 1;
+    match history[..words] {
+        [value] if value < 16 => format!("{:04b}", value),
+        ref words => {
+            let words: Vec<String> = words.iter().rev().map(|w| format!("{:x}", w)).collect();
+            format!("0x{}", words.join("_"))
+        }
     }
 }
 
@@ -278,9 +313,7 @@ impl<S: Side> List<S> {
                 .iter()
                 .zip(fields(a))
                 .filter(|((_, b), (_, a))| b != a)
-                .map(|((name, b), (_, a))| {
-                    format!("{} {}>{}", name, shown(name, *b), shown(name, a))
-                })
+                .map(|((name, b), (_, a))| format!("{} {}>{}", name, b, a))
                 .collect();
             if !changed.is_empty() {
                 changes.push(format!("slot {}: {}", slot, changed.join(", ")));
@@ -323,7 +356,7 @@ impl<S: Side> List<S> {
     fn batch(&mut self, what: &str, network: u8, count: usize, frames: &[u8], room: usize) {
         let damaged = Stream {
             vlan: 5,
-            window: 65,
+            window: 513,
             ..running()
         };
         self.table(&[running(), damaged]);
@@ -508,14 +541,14 @@ impl<S: Side> List<S> {
     }
 
     fn windows(&mut self) {
-        for window in [1, 2, 64, 65] {
+        for window in [1, 2, 64, 65, 127, 128, 511, 512, 513] {
             self.section(&format!("L = {}", window));
             self.table(&[Stream::default()]);
             self.call("open", Call::Open(settings(1, window, 3)), 0);
             let lent = Stream {
                 window,
                 state: State {
-                    history: 1,
+                    history: low(1),
                     ..running().state
                 },
                 ..running()
@@ -547,7 +580,7 @@ impl<S: Side> List<S> {
         self.one(Stream {
             window: 64,
             state: State {
-                history: u64::MAX,
+                history: low(u64::MAX),
                 ..running().state
             },
             ..running()
@@ -556,6 +589,103 @@ impl<S: Side> List<S> {
         self.number("d = 1", 0, 164);
         self.number("d = -63, the oldest", 1, 101);
         self.number("the same again", 0, 101);
+    }
+
+    fn wide_windows(&mut self) {
+        self.section("L = 128 and 512: the test of one place, at the ends of the words");
+        let places = [0, 1, 62, 63, 64, 65, 127, 128, 447, 448, 510, 511];
+        for window in [128, 512] {
+            for place in places.into_iter().filter(|p| (1..window).contains(p)) {
+                let number = 100_u16.wrapping_sub(place);
+                self.one(wide(window, 0..window));
+                let what = format!("L = {}, d = -{}, all came", window, place);
+                self.number(&what, 0, number);
+                self.one(wide(window, (0..window).filter(|&p| p != place)));
+                let what = format!("L = {}, d = -{}, all others came", window, place);
+                self.number(&what, 0, number);
+            }
+        }
+
+        self.section("Moves across the words of a history");
+        let moves = [1, 2, 62, 63, 64, 65, 127, 128, 192, 447, 448, 449, 510, 511];
+        for window in [65, 128, 511, 512] {
+            let set = places.into_iter().filter(|&place| place < window);
+            for d in moves.into_iter().filter(|&d| d < window) {
+                self.one(wide(window, set.clone()));
+                self.number(&format!("L = {}, d = {}", window, d), 1, 100 + d);
+            }
+        }
+        for window in [65, 128, 512] {
+            self.one(wide(window, 0..window));
+            let what = format!("L = {}, all came, d = L - 1", window);
+            self.number(&what, 0, 100 + window - 1);
+            self.number("d = 1", 0, 100 + window);
+            self.number("d = -(L - 1), not come", 1, 101);
+            self.number("the same again", 0, 101);
+            self.number("d = -L", 0, 100);
+        }
+
+        self.section("L = 512: the wrap inside the window");
+        self.table(&[Stream::default()]);
+        self.call("open", Call::Open(settings(1, 512, 3)), 0);
+        for (what, number) in [
+            ("the first", 65500),
+            ("d = 511", 475),
+            ("its twin", 475),
+            ("d = -511", 65500),
+            ("d = -512", 65499),
+            ("d = 512", 987),
+            ("d = -475", 0),
+            ("d = -476", 65535),
+            ("d = 64", 539),
+            ("d = -511", 28),
+            ("d = -540, the number 65535 again", 65535),
+            ("d = 511", 1050),
+            ("d = -511, the last anchor", 539),
+        ] {
+            self.number(what, 0, number);
+        }
+
+        self.section("L = 512: n up to 511");
+        for (n, d) in [
+            (511, 1),
+            (511, 511),
+            (448, 447),
+            (448, 448),
+            (447, 64),
+            (1, 511),
+        ] {
+            self.one(with_early(wide(512, [0, 511 - n]), n));
+            self.number(&format!("n = {}, d = {}", n, d), 0, 100 + d);
+        }
+        self.one(Stream {
+            counts: full_counts(),
+            ..with_early(wide(512, [0, 64]), 447)
+        });
+        self.number("n = 447, d = 511, lost is 2^64 - 1", 0, 611);
+
+        self.section("L = 512: resets, a close, an open, and a batch");
+        for (what, reset) in [
+            ("reset", Call::Reset(0)),
+            ("tick where 1 remains", Call::Tick),
+        ] {
+            let mut last = with_early(wide(512, 0..512), 447);
+            last.state.remaining = 1;
+            self.one(last);
+            self.call(what, reset, 0);
+            self.number("the next first", 0, 5000);
+        }
+        self.one(wide(512, 0..512));
+        self.call("close", Call::Close(0), 0);
+        self.call("open", Call::Open(settings(1, 64, 3)), 0);
+        self.number("the first", 0, 100);
+        self.one(Stream {
+            window: 512,
+            ..fresh()
+        });
+        let frames = packed(&numbered(&[100, 611, 100, 99, 99, 1123, 674]));
+        let what = "the first, d = 511, a duplicate, two rogues, a rogue, d = 63";
+        self.batch_here(what, 0, 7, &frames, 64);
     }
 
     fn times(&mut self) {
@@ -597,6 +727,12 @@ impl<S: Side> List<S> {
             ("L = 0", settings(1, 0, 3)),
             ("L = 260", settings(1, 260, 3)),
             ("match, L = 65", settings(2, 65, 3)),
+            ("match, L = 512", settings(2, 512, 3)),
+            ("match, L = 513", settings(2, 513, 3)),
+            ("L = 255", settings(1, 255, 3)),
+            ("L = 256", settings(1, 256, 3)),
+            ("L = 768", settings(1, 768, 3)),
+            ("L = 65535", settings(1, 65535, 3)),
             ("R = 65535", settings(1, 4, 65535)),
             ("VLAN 4094", with_vlan(4094)),
             ("VLAN 4095", with_vlan(4095)),
@@ -608,13 +744,13 @@ impl<S: Side> List<S> {
         }
         self.one(running());
         self.call(
-            "open, L = 65, key in use, table full",
-            Call::Open(settings(1, 65, 3)),
+            "open, L = 513, key in use, table full",
+            Call::Open(settings(1, 513, 3)),
             0,
         );
         self.call(
             "open, key in use, table full",
-            Call::Open(settings(1, 64, 3)),
+            Call::Open(settings(1, 512, 3)),
             0,
         );
         self.call("open, another key, table full", Call::Open(with_vlan(5)), 0);
@@ -683,7 +819,7 @@ impl<S: Side> List<S> {
         let s = Stream {
             rule: Stream::MATCH_RULE,
             state: State {
-                history: 0,
+                history: low(0),
                 ..running().state
             },
             ..running()
@@ -702,7 +838,7 @@ impl<S: Side> List<S> {
             last(1),
             running(),
             Stream {
-                window: 65,
+                window: 513,
                 ..last(2)
             },
             last(3),
@@ -908,7 +1044,7 @@ impl<S: Side> List<S> {
         };
         let matching = Stream {
             rule: Stream::MATCH_RULE,
-            ..state(|s| s.history = 0)
+            ..state(|s| s.history = low(0))
         };
         let cases = [
             (
@@ -940,16 +1076,16 @@ impl<S: Side> List<S> {
                 },
             ),
             (
-                "L = 65",
+                "L = 513",
                 Stream {
-                    window: 65,
+                    window: 513,
                     ..running()
                 },
             ),
             (
-                "L = 260",
+                "L = 65535",
                 Stream {
-                    window: 260,
+                    window: 65535,
                     ..running()
                 },
             ),
@@ -974,10 +1110,16 @@ impl<S: Side> List<S> {
                 "take-any with another anchor",
                 fresh_state(|s| s.anchor = 65534),
             ),
-            ("take-any with a history", fresh_state(|s| s.history = 1)),
-            ("vector without bit 0", state(|s| s.history = 0b100)),
-            ("vector with bit L", state(|s| s.history = 0b10101)),
-            ("vector with bit 63", state(|s| s.history = 1 << 63 | 1)),
+            (
+                "take-any with a history",
+                fresh_state(|s| s.history = low(1)),
+            ),
+            ("vector without bit 0", state(|s| s.history = low(0b100))),
+            ("vector with bit L", state(|s| s.history = low(0b10101))),
+            (
+                "vector with bit 63",
+                state(|s| s.history = low(1 << 63 | 1)),
+            ),
             (
                 "match with a history",
                 Stream {
@@ -994,10 +1136,38 @@ impl<S: Side> List<S> {
                 Stream {
                     window: 64,
                     ..state(|s| {
-                        s.history = u64::MAX;
+                        s.history = low(u64::MAX);
                         s.early = 64;
                     })
                 },
+            ),
+            ("L = 64, bit 64", wide(64, [0, 64])),
+            ("L = 65, bit 65", wide(65, [0, 65])),
+            ("L = 128, bit 128", wide(128, [0, 128])),
+            ("L = 128, bit 511", wide(128, [0, 511])),
+            ("L = 511, bit 511", wide(511, [0, 511])),
+            ("vector with bit 64", wide(4, [0, 64])),
+            ("vector with bit 511", wide(4, [0, 511])),
+            ("L = 512 without bit 0", wide(512, 1..512)),
+            ("n = L = 512", with_early(wide(512, 0..512), 512)),
+            (
+                "L = 512, n = 1, bit 510 clear",
+                with_early(wide(512, (0..510).chain([511])), 1),
+            ),
+            (
+                "L = 512, n = 447, bit 64 clear",
+                with_early(wide(512, [0, 511]), 447),
+            ),
+            (
+                "match with bit 511",
+                Stream {
+                    rule: Stream::MATCH_RULE,
+                    ..wide(512, [511])
+                },
+            ),
+            (
+                "take-any with bit 64",
+                fresh_state(|s| s.history = marked([64])),
             ),
             ("match with n = 1", with_early(matching, 1)),
             ("match with n = L - 1", with_early(matching, 3)),
@@ -1007,6 +1177,14 @@ impl<S: Side> List<S> {
             ("lawful: vector", running()),
             ("lawful: n = 1, bit 2 set", state(|s| s.early = 1)),
             ("lawful: n = 3, bit 0 set", state(|s| s.early = 3)),
+            ("lawful: L = 65, bit 64", wide(65, [0, 64])),
+            ("lawful: L = 512, bit 511", wide(512, [0, 511])),
+            ("lawful: L = 512, all bits", wide(512, 0..512)),
+            ("lawful: L = 512, n = 511", with_early(wide(512, [0]), 511)),
+            (
+                "lawful: L = 512, n = 447, bit 64 set",
+                with_early(wide(512, [0, 64]), 447),
+            ),
             ("lawful: match", matching),
             ("lawful: fresh", fresh()),
             (
@@ -1029,6 +1207,13 @@ impl<S: Side> List<S> {
                     used: 0,
                     rule: 3,
                     ..running()
+                },
+            ),
+            (
+                "free: bit 511",
+                Stream {
+                    used: 0,
+                    ..wide(4, [0, 511])
                 },
             ),
             (
@@ -1116,7 +1301,7 @@ impl<S: Side> List<S> {
         self.call("close the lower", Call::Close(1), 0);
         self.number("the higher has it", 0, 101);
         let mut hurt = both;
-        hurt[1].window = 65;
+        hurt[1].window = 513;
         self.table(&hurt);
         self.number("the lower is damaged", 0, 101);
         self.call("tick", Call::Tick, 0);
@@ -1145,12 +1330,12 @@ impl<S: Side> List<S> {
         self.section("j, k, l");
         let mut s = running();
         s.state.anchor = 0;
-        s.state.history = 1;
+        s.state.history = low(1);
         self.one(s);
         self.number("j", 0, 32768);
         s.rule = Stream::MATCH_RULE;
         s.state.anchor = 9;
-        s.state.history = 0;
+        s.state.history = low(0);
         self.one(s);
         self.number("k", 0, 9);
         self.number("k", 0, 8);
@@ -1163,7 +1348,7 @@ impl<S: Side> List<S> {
         self.section(
             "Numbers older than the first: n places are left for them, which are no loss when they leave",
         );
-        for window in [2, 64] {
+        for window in [2, 64, 65, 512] {
             self.table(&[Stream::default()]);
             let what = format!("open, L = {}", window);
             self.call(&what, Call::Open(settings(1, window, 3)), 0);
@@ -1175,7 +1360,7 @@ impl<S: Side> List<S> {
         }
         let mut whole = with_early(running(), 63);
         whole.window = 64;
-        whole.state.history = u64::MAX;
+        whole.state.history = low(u64::MAX);
         self.one(whole);
         self.number("L = 64, n = 63, all came, d = 62", 0, 162);
         self.number("d = 1", 0, 163);
@@ -1249,13 +1434,14 @@ fn run<S: Side>() -> List<S> {
         side: S::new(&[]),
         slots: 0,
         cases: Vec::new(),
-        lines: String::from("# A call, its answer, and all that it changed; A>B: the field was A and is B. A stream has L = 4 and R = 3 where nothing else is said.\n"),
+        lines: String::from("# A call, its answer, and all that it changed; A>B: the field was A and is B. A stream has L = 4 and R = 3 where nothing else is said. A history is shown by the words that it needs, the highest in front.\n"),
     };
     list.frames();
     list.other_frames();
     list.sources();
     list.tables();
     list.windows();
+    list.wide_windows();
     list.times();
     list.settings();
     list.order();

@@ -4,6 +4,7 @@
 
 use std::collections::HashMap;
 
+use second::history::History;
 use second::random::Random;
 use second::{arrival, Arrival, Refusal, Settings, Stream, Verdict};
 
@@ -19,7 +20,7 @@ pub const DESTINATIONS: [[u8; 6]; 3] = [DESTINATION, [2, 0, 0, 0, 0, 2], [1, 2, 
 pub const VLANS: [u16; 5] = [0, 0, 5, 4094, 4095];
 
 /// Lawful settings with this rule, L and R.
-pub fn settings(rule: u8, window: u8, reset_time: u16) -> Settings {
+pub fn settings(rule: u8, window: u16, reset_time: u16) -> Settings {
     Settings {
         destination: DESTINATION,
         vlan: 0,
@@ -30,7 +31,7 @@ pub fn settings(rule: u8, window: u8, reset_time: u16) -> Settings {
 }
 
 /// A fresh record in use.
-pub fn fresh(rule: u8, window: u8, reset_time: u16) -> Stream {
+pub fn fresh(rule: u8, window: u16, reset_time: u16) -> Stream {
     Stream {
         in_use: 1,
         destination: DESTINATION,
@@ -42,14 +43,44 @@ pub fn fresh(rule: u8, window: u8, reset_time: u16) -> Stream {
     }
 }
 
-/// A record that has seen numbers.
-pub fn running(rule: u8, window: u8, reset_time: u16, anchor: u16, history: u64) -> Stream {
+/// A record that has seen numbers. The history has these bits in its first
+/// word.
+pub fn running(rule: u8, window: u16, reset_time: u16, anchor: u16, bits: u64) -> Stream {
     Stream {
         take_any: 0,
         anchor,
-        history,
+        history: low(bits),
         remaining: reset_time,
         ..fresh(rule, window, reset_time)
+    }
+}
+
+/// A history with these bits in its first word.
+pub fn low(bits: u64) -> History {
+    [bits, 0, 0, 0, 0, 0, 0, 0]
+}
+
+/// A history with these places marked: bit k mod 64 of word k / 64.
+pub fn marked(places: impl IntoIterator<Item = usize>) -> History {
+    let mut history = [0; 8];
+    for place in places {
+        history[place / 64] |= 1 << (place % 64);
+    }
+    history
+}
+
+/// The places that are marked, each looked at alone.
+pub fn places(history: &History) -> Vec<usize> {
+    (0..512)
+        .filter(|place| history[place / 64] >> (place % 64) & 1 == 1)
+        .collect()
+}
+
+/// The record with these places marked.
+pub fn with_places(stream: Stream, places: impl IntoIterator<Item = usize>) -> Stream {
+    Stream {
+        history: marked(places),
+        ..stream
     }
 }
 
@@ -125,7 +156,9 @@ pub fn number_of<T>(answer: Result<T, Refusal>) -> u8 {
 /// A record with anything in it, often nearly lawful.
 pub fn any_stream(random: &mut Random, destinations: &[[u8; 6]], vlans: &[u16]) -> Stream {
     let rule = random.pick(&[1, 1, 1, 2, 2, 0, 3]);
-    let window = random.pick(&[2, 3, 4, 8, 63, 64, 64, 1, 65, 0, 255]);
+    let window = random.pick(&[
+        2, 3, 4, 8, 63, 64, 64, 65, 127, 128, 255, 256, 257, 300, 511, 512, 512, 1, 0, 513, 65535,
+    ]);
     let reset_time = random.pick(&[1, 2, 3, 100, 65535, 0]);
     let mut stream = Stream {
         in_use: random.pick(&[0, 1, 1, 1, 2, 255]),
@@ -146,12 +179,14 @@ pub fn any_stream(random: &mut Random, destinations: &[[u8; 6]], vlans: &[u16]) 
         stream.anchor = random.pick(&[0, 1, 2, 65534, 65535, 32767, 32768, 7]);
         stream.remaining = reset_time.min(random.pick(&[1, 1, 2, 65535]));
         if rule == 1 {
-            let low = match window {
-                0 => 0,
-                1..=63 => (1u64 << window) - 1,
-                _ => u64::MAX,
-            };
-            stream.history = (random.bits() & low) | 1;
+            for (at, word) in stream.history.iter_mut().enumerate() {
+                *word = match usize::from(window).saturating_sub(64 * at) {
+                    0 => 0,
+                    inside @ 1..=63 => random.bits() & ((1 << inside) - 1),
+                    _ => random.bits(),
+                };
+            }
+            stream.history[0] |= 1;
             stream.early = any_early(random, &stream);
         }
     }
@@ -159,10 +194,15 @@ pub fn any_stream(random: &mut Random, destinations: &[[u8; 6]], vlans: &[u16]) 
         // One blow of damage, at times a harmless one.
         match random.below(6) {
             0 => stream.anchor = random.word(),
-            1 => stream.history ^= 1 << random.below(64),
+            1 => {
+                // Anywhere, or at the end of the window.
+                let any = random.below(512);
+                let place = random.pick(&[any, u64::from(window % 512)]);
+                stream.history[place as usize / 64] ^= 1 << (place % 64);
+            }
             2 => stream.take_any = random.pick(&[0, 1, 9, 256]),
             3 => stream.remaining = random.pick(&[0, 1, 2, 3, 4, 65535]),
-            4 => stream.early = random.pick(&[1, 2, window.into(), 63, 64, 65535]),
+            4 => stream.early = random.pick(&[1, 2, window, 63, 64, 511, 65535]),
             _ => stream.vlan = random.pick(&[4094, 4095, 4096, 65535]),
         }
     }
@@ -171,10 +211,10 @@ pub fn any_stream(random: &mut Random, destinations: &[[u8; 6]], vlans: &[u16]) 
 
 /// An n that fits to a vector record's history, often 0.
 fn any_early(random: &mut Random, stream: &Stream) -> u16 {
-    let first = random.below(64);
-    let early = u64::from(stream.window).saturating_sub(1 + first);
-    if random.chance(1, 2) && stream.history >> first & 1 == 1 {
-        early as u16
+    let first = random.below(u64::from(stream.window.clamp(1, 512))) as u16;
+    let early = stream.window.saturating_sub(1 + first);
+    if random.chance(1, 2) && places(&stream.history).contains(&first.into()) {
+        early
     } else {
         0
     }
@@ -217,7 +257,10 @@ pub fn any_frame(random: &mut Random) -> Vec<u8> {
         frame.extend([0xF1, 0xC1, random.byte(), 0]);
         frame.extend(
             random
-                .pick(&[0u16, 1, 2, 3, 7, 8, 65533, 65534, 65535])
+                .pick(&[
+                    0u16, 1, 2, 3, 7, 8, 64, 65, 71, 130, 300, 511, 512, 65025, 65300, 65472,
+                    65533, 65534, 65535,
+                ])
                 .to_be_bytes(),
         );
     }
