@@ -53,16 +53,16 @@ within-behind-4 : JustWithin 4 65632 100
 unfolding computing
 within-behind-4 = record { within = refl; premises = record { vector = refl; silent = record { lawful = refl; long = lit≤ tt; calm = refl }; lasts = refl; numbered = refl; near = refl }; given = refl; wanted = refl }
 
-within-ahead-64 : JustWithin 64 100 65572
+within-ahead-512 : JustWithin 512 100 65124
 unfolding computing
-within-ahead-64 = record { within = refl; premises = record { vector = refl; silent = record { lawful = refl; long = lit≤ tt; calm = refl }; lasts = refl; numbered = refl; near = refl }; given = refl; wanted = refl }
+within-ahead-512 = record { within = refl; premises = record { vector = refl; silent = record { lawful = refl; long = lit≤ tt; calm = refl }; lasts = refl; numbered = refl; near = refl }; given = refl; wanted = refl }
 
-within-behind-64 : JustWithin 64 65572 100
+within-behind-512 : JustWithin 512 65124 100
 unfolding computing
-within-behind-64 = record { within = refl; premises = record { vector = refl; silent = record { lawful = refl; long = lit≤ tt; calm = refl }; lasts = refl; numbered = refl; near = refl }; given = refl; wanted = refl }
+within-behind-512 = record { within = refl; premises = record { vector = refl; silent = record { lawful = refl; long = lit≤ tt; calm = refl }; lasts = refl; numbered = refl; near = refl }; given = refl; wanted = refl }
 
 pub bound-reached : BoundReached
-bound-reached = (within-ahead-2, within-behind-2, within-ahead-4, within-behind-4, within-ahead-64, within-behind-64)
+bound-reached = (within-ahead-2, within-behind-2, within-ahead-4, within-behind-4, within-ahead-512, within-behind-512)
 
 -- and one further.
 ahead-2 : OneFurther 2 100 65635
@@ -81,16 +81,16 @@ behind-4 : OneFurther 4 65633 100
 unfolding computing
 behind-4 = record { further = refl; near = record { broken = (refl, (refl, (lit≤ tt, (refl, (refl, (refl, (false≢true, tt))))))); given = refl; wanted = refl } }
 
-ahead-64 : OneFurther 64 100 65573
+ahead-512 : OneFurther 512 100 65125
 unfolding computing
-ahead-64 = record { further = refl; near = record { broken = (refl, (refl, (lit≤ tt, (refl, (refl, (refl, (false≢true, tt))))))); given = refl; wanted = refl } }
+ahead-512 = record { further = refl; near = record { broken = (refl, (refl, (lit≤ tt, (refl, (refl, (refl, (false≢true, tt))))))); given = refl; wanted = refl } }
 
-behind-64 : OneFurther 64 65573 100
+behind-512 : OneFurther 512 65125 100
 unfolding computing
-behind-64 = record { further = refl; near = record { broken = (refl, (refl, (lit≤ tt, (refl, (refl, (refl, (false≢true, tt))))))); given = refl; wanted = refl } }
+behind-512 = record { further = refl; near = record { broken = (refl, (refl, (lit≤ tt, (refl, (refl, (refl, (false≢true, tt))))))); given = refl; wanted = refl } }
 
 pub bound-sharp : BoundSharp
-bound-sharp = (ahead-2, behind-2, ahead-4, behind-4, ahead-64, behind-64)
+bound-sharp = (ahead-2, behind-2, ahead-4, behind-4, ahead-512, behind-512)
 
 -- The number 7 for the index 8.
 no-number : _≡_ {A = List ℕ} (7 ∷ 7 ∷ []) (7 ∷ 8 ∷ []) → ⊥

@@ -30,7 +30,7 @@ abbrev pub BoundReached : Type 0
 BoundReached =
     JustWithin 2 100 65634 × JustWithin 2 65634 100
     × JustWithin 4 100 65632 × JustWithin 4 65632 100
-    × JustWithin 64 100 65572 × JustWithin 64 65572 100
+    × JustWithin 512 100 65124 × JustWithin 512 65124 100
 
 -- ---- the premises one by one
 
@@ -77,7 +77,7 @@ abbrev pub BoundSharp : Type 0
 BoundSharp =
     OneFurther 2 100 65635 × OneFurther 2 65635 100
     × OneFurther 4 100 65633 × OneFurther 4 65633 100
-    × OneFurther 64 100 65573 × OneFurther 64 65573 100
+    × OneFurther 512 100 65125 × OneFurther 512 65125 100
 
 -- The other premises: runs of a stream with L = 4 and R = 3.
 pub record PremisesNeeded : Type 0 where
