@@ -13,6 +13,7 @@ pub mod Leaves
 mod Bits
 mod Digits
 mod Words
+mod Eight
 mod Shifts
 mod Moves
 mod Early

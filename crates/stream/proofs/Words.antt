@@ -1,21 +1,21 @@
 -- Words and their number, over any number of words. Assumes nothing.
 use mathlib.Core.Path.{_≡_, refl, ap, ap₂, _∙_, sym, subst}
+use mathlib.Core.Bool.{Bool, true, false}
 use mathlib.Core.List.{List, [], _∷_}
 use Prim.Native.Nat.{ℕ, zero, suc, _+_, _-_, _*_, _/_, _%_, _^_, _<_, _≤_}
 use native.Mathlib.Nat.{div-eq-of-lt, mod-eq-of-lt, mod-one, zero-div, add-comm, mul-assoc, mul-comm, lt-of-lt-of-le}
 use native.Mathlib.Omega.{arith}
+use native.Mathlib.Decide.{ℕ-discrete, decLt}
+use lib.Bits.{bitOr, bitAnd, or-add-and, or-zero-l, and-le-l, and-le-r}
 use lib.Dec.{eqb, ltb}
 use lib.ListN.{length, getD, set, length-set, replicate}
 use lib.Pow.{pow-pos, pow-mono, pow-add, shr-shr, shr-lt, field, mod-mod-pow, mod-pow-add}
-use mathlib.Core.Bool.{Bool, true, false}
 use lib.Seq.{getD-set-same, getD-set-other, set-getD}
-use native.Mathlib.Decide.{ℕ-discrete, decLt}
 use borrow.Author.Tests.{lt-ltb, ltb-true, eqb-true, eq-eqb}
 use Rattle.record.specs.Words.{if_then_else_}
 use Rattle.stream.specs.History.{value, wordsOf, bitOf}
 use Rattle.stream.proofs.Bits.{added-lt}
 use Rattle.stream.proofs.Digits.{or-bit, one-shl}
-use lib.Bits.{bitOr, bitAnd, or-add-and, or-zero-l, and-le-l, and-le-r}
 
 -- each word is one of 64 bits
 abbrev pub Small : List ℕ → Type 0
@@ -181,7 +181,7 @@ module _ (h : List ℕ) (s : Small h) (n k : ℕ) (long : length h ≡ n) (insid
           ∙ ap₂ wordsOf (length-set h (k / 64) (w + 2 ^ (k % 64)) ∙ long) sum)
 
 -- a list by its places
-unfoldable tab : ℕ → (ℕ → ℕ) → List ℕ
+unfoldable pub tab : ℕ → (ℕ → ℕ) → List ℕ
 tab zero f = []
 tab (suc n) f = f 0 ∷ tab n (λ i. f (suc i))
 
@@ -190,36 +190,13 @@ unfolding tab
 tab-is [] = refl
 tab-is (w ∷ ws) = ap (λ (l : List ℕ). w ∷ l) (tab-is ws)
 
-tab-of : (n : ℕ) (ws : List ℕ) → length ws ≡ n → tab n (λ i. getD ws i 0) ≡ ws
+pub tab-of : (n : ℕ) (ws : List ℕ) → length ws ≡ n → tab n (λ i. getD ws i 0) ≡ ws
 tab-of n ws e = ap (λ (m : ℕ). tab m (λ i. getD ws i 0)) (sym e) ∙ tab-is ws
 
-tab-same : (n : ℕ) (f g : ℕ → ℕ) → ((i : ℕ) → i < n → f i ≡ g i) → tab n f ≡ tab n g
+pub tab-same : (n : ℕ) (f g : ℕ → ℕ) → ((i : ℕ) → i < n → f i ≡ g i) → tab n f ≡ tab n g
 unfolding tab
 tab-same zero f g e = refl
 tab-same (suc n) f g e = ap₂ _∷_ (e 0 (omega arith)) (tab-same n (λ i. f (suc i)) (λ i. g (suc i)) (λ i p. e (suc i) (omega arith)))
-
-eight : (f : ℕ → ℕ) → f 0 ∷ f 1 ∷ f 2 ∷ f 3 ∷ f 4 ∷ f 5 ∷ f 6 ∷ f 7 ∷ [] ≡ tab 8 f
-unfolding tab
-eight f = refl
-
--- eight words, each as a number has it
-pub eight-words : (x : ℕ) (f : ℕ → ℕ) → ((i : ℕ) → f i ≡ wordAt x i)
-    → f 0 ∷ f 1 ∷ f 2 ∷ f 3 ∷ f 4 ∷ f 5 ∷ f 6 ∷ f 7 ∷ [] ≡ wordsOf 8 x
-eight-words x f e =
-    eight f ∙ tab-same 8 f (λ i. getD (wordsOf 8 x) i 0) (λ i p. e i ∙ sym (words-at 8 x i p)) ∙ tab-of 8 (wordsOf 8 x) (words-length 8 x)
-
--- one of them changed
-pub eight-set : (h : List ℕ) (j v : ℕ) (f : ℕ → ℕ) → length h ≡ 8 → j < 8 → f j ≡ v → ((i : ℕ) → (i ≡ j → ⊥) → f i ≡ getD h i 0)
-    → f 0 ∷ f 1 ∷ f 2 ∷ f 3 ∷ f 4 ∷ f 5 ∷ f 6 ∷ f 7 ∷ [] ≡ set h j v
-eight-set h j v f e l a b =
-    eight f ∙ tab-same 8 f (λ i. getD (set h j v) i 0) (λ i p. go i (ℕ-discrete i j)) ∙ tab-of 8 (set h j v) (length-set h j v ∙ e)
-  where
-    here : j < length h
-    here = omega arith
-
-    go : (i : ℕ) → Dec (i ≡ j) → f i ≡ getD (set h j v) i 0
-    go i (yes q) = rw q (a ∙ sym (getD-set-same h j v 0 here))
-    go i (no q) = b i q ∙ sym (getD-set-other h j i v 0 q)
 
 -- words joined by `or` are zero exactly if each is
 or-none : (a b : ℕ) → bitOr a b ≡ 0 → (a ≡ 0) × (b ≡ 0)
@@ -229,7 +206,7 @@ or-none a b e =
     let r : bitAnd a b ≤ b = and-le-r a b in
     (omega (arith, s, l, r, e), omega (arith, s, l, r, e))
 
-unfoldable ors : ℕ → List ℕ → ℕ
+unfoldable pub ors : ℕ → List ℕ → ℕ
 ors a [] = a
 ors a (w ∷ ws) = ors (bitOr a w) ws
 
@@ -251,7 +228,7 @@ ors-clear [] z = refl
 ors-clear (w ∷ ws) z = ap (λ (x : ℕ). ors x ws) (or-zero-l w ∙ z 0) ∙ ors-clear ws (λ i. z (suc i))
 
 -- no bit is set above the first word
-above-none : (w a : ℕ) (ws : List ℕ) → Small (w ∷ a ∷ ws) → eqb (ors a ws) 0 ≡ ltb (value (w ∷ a ∷ ws)) (2 ^ 64)
+pub above-none : (w a : ℕ) (ws : List ℕ) → Small (w ∷ a ∷ ws) → eqb (ors a ws) 0 ≡ ltb (value (w ∷ a ∷ ws)) (2 ^ 64)
 above-none w a ws s = go (ltb (value (w ∷ a ∷ ws)) (2 ^ 64)) refl
   where
     clear : a ≡ 0 → ((i : ℕ) → getD ws i 0 ≡ 0) → (k : ℕ) → 1 ≤ k → getD (w ∷ a ∷ ws) k 0 ≡ 0
@@ -275,20 +252,6 @@ above-none w a ws s = go (ltb (value (w ∷ a ∷ ws)) (2 ^ 64)) refl
         rw p (eq-eqb (ors a ws) 0 none)
     go false p = other (eqb (ors a ws) 0) refl p ∙ sym p
 
--- eight words one by one
-each : (h : List ℕ) → length h ≡ 8
-    → getD h 0 0 ∷ getD h 1 0 ∷ getD h 2 0 ∷ getD h 3 0 ∷ getD h 4 0 ∷ getD h 5 0 ∷ getD h 6 0 ∷ getD h 7 0 ∷ [] ≡ h
-each h e = eight (λ i. getD h i 0) ∙ tab-of 8 h e
-
-pub short : (h : List ℕ) → Small h → length h ≡ 8
-    → eqb (bitOr (bitOr (bitOr (bitOr (bitOr (bitOr (getD h 1 0) (getD h 2 0)) (getD h 3 0)) (getD h 4 0)) (getD h 5 0)) (getD h 6 0)) (getD h 7 0)) 0
-    ≡ ltb (value h) (2 ^ 64)
-unfolding ors
-short h s e =
-    above-none (getD h 0 0) (getD h 1 0) (getD h 2 0 ∷ getD h 3 0 ∷ getD h 4 0 ∷ getD h 5 0 ∷ getD h 6 0 ∷ getD h 7 0 ∷ [])
-    (subst Small (sym (each h e)) s)
-    ∙ ap (λ (l : List ℕ). ltb (value l) (2 ^ 64)) (each h e)
-
 -- a number of one word: the word, and zeros above it
 pub one-word : (n v : ℕ) → v < 2 ^ 64 → wordsOf (suc n) v ≡ v ∷ replicate n 0
 unfolding wordsOf
@@ -306,7 +269,8 @@ pub as-held : (n : ℕ) (h : List ℕ) → Small h → length h ≡ n → h ≡ 
 as-held n h s e = sym (ap (wordsOf n) (mod-eq-of-lt (all-held n h s e)) ∙ ap (λ (m : ℕ). wordsOf m (value h)) (sym e) ∙ words-num h s)
 
 -- words that hold a number, cut
-pub cut-up : (x w : ℕ) → w ≤ 512 → wordsOf 8 (value (wordsOf 8 x) % 2 ^ w) ≡ wordsOf 8 (x % 2 ^ w)
-cut-up x w p =
-    let whole : 512 ≡ 512 - w + w = omega arith in
-    ap (λ (v : ℕ). wordsOf 8 (v % 2 ^ w)) (value-words 8 x ∙ ap (λ (n : ℕ). x % 2 ^ n) whole) ∙ ap (wordsOf 8) (mod-mod-pow x (512 - w) w)
+pub cut-up : (n x w : ℕ) → w ≤ 64 * n → wordsOf n (value (wordsOf n x) % 2 ^ w) ≡ wordsOf n (x % 2 ^ w)
+cut-up n x w p =
+    let whole : 64 * n ≡ 64 * n - w + w = omega arith in
+    ap (λ (v : ℕ). wordsOf n (v % 2 ^ w)) (value-words n x ∙ ap (λ (m : ℕ). x % 2 ^ m) whole)
+    ∙ ap (wordsOf n) (mod-mod-pow x (64 * n - w) w)

@@ -6,7 +6,7 @@ use lib.ListN.{getD}
 use mir.Syntax.{w64}
 use mir.Val.{Fits}
 use Rattle.stream.specs.History.{value}
-use Rattle.stream.proofs.Words.{eight-words}
+use Rattle.stream.proofs.Eight.{eight-words}
 use Rattle.stream.proofs.Shifts.{bit-up}
 use borrow.Author.Needs.{needs}
 use Rattle.stream.proofs.history.bits_up.Statement.{statement}

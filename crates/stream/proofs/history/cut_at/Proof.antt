@@ -6,7 +6,8 @@ use lib.ListN.{getD}
 use mir.Syntax.{w64}
 use mir.Val.{Fits}
 use Rattle.stream.specs.History.{value, wordsOf}
-use Rattle.stream.proofs.Words.{eight-words, as-held}
+use Rattle.stream.proofs.Words.{as-held}
+use Rattle.stream.proofs.Eight.{eight-words}
 use Rattle.stream.proofs.Shifts.{word-cut}
 use borrow.Author.Needs.{needs}
 use Rattle.stream.proofs.history.cut_at.Statement.{statement}

@@ -4,7 +4,7 @@ use lib.ListN.{getD}
 use mir.Syntax.{w64}
 use mir.Val.{Fits}
 use Rattle.stream.specs.History.{within}
-use Rattle.stream.proofs.Words.{short}
+use Rattle.stream.proofs.Eight.{short}
 use borrow.Author.Needs.{needs}
 use Rattle.stream.proofs.history.is_short.Statement.{statement}
 use Rattle.stream.proofs.history.is_short.Tie as tie

@@ -53,7 +53,7 @@ returns-2 : tie.Need-returns-2
 returns-2 c =
     let a = c .before .before .before .before .args in
     c .cut-at .ensures ∙ ap (λ (l : List ℕ). wordsOf 8 (value l % 2 ^ a .w)) (c .before .bits-up .ensures)
-    ∙ cut-up (value (a .t1) * 2 ^ a .d) (a .w) (omega arith)
+    ∙ cut-up 8 (value (a .t1) * 2 ^ a .d) (a .w) (omega arith)
 
 places-up-requires : tie.Need-places-up-requires
 places-up-requires c κs = search needs

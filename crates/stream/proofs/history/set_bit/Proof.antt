@@ -12,7 +12,8 @@ use borrow.Author.Tests.{eq-eqb, ne-eqb}
 use Rattle.record.specs.Words.{if_then_else_}
 use Rattle.stream.specs.History.{bit, setBit}
 use Rattle.stream.proofs.Digits.{one-shl}
-use Rattle.stream.proofs.Words.{eight-set, set-word}
+use Rattle.stream.proofs.Words.{set-word}
+use Rattle.stream.proofs.Eight.{eight-set}
 use borrow.Author.Needs.{needs}
 use Rattle.stream.proofs.history.set_bit.Statement.{statement}
 use Rattle.stream.proofs.history.set_bit.Tie as tie
