@@ -47,11 +47,13 @@ loop-less c = search needs
 
 loop-again : tie.Need-loop-again Inv-loop μ-loop
 loop-again c =
-    let l = c .before .before .loop in
-    (search needs, λ k p q. elim (decLt k (l .j)) [
-      | yes r ↦ l .inv .1 k p r
-      | no r ↦ let e : k ≡ l .j = omega arith in rw e (c .if1 .left)
-    ])
+    let l = c .before .before .loop in (
+      search needs,
+      λ k p q. elim (decLt k (l .j)) [
+        | yes r ↦ l .inv .1 k p r
+        | no r ↦ let e : k ≡ l .j = omega arith in rw e (c .if1 .left)
+      ],
+    )
 
 returns-2 : tie.Need-returns-2 Inv-loop μ-loop
 unfolding within
