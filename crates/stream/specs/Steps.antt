@@ -64,7 +64,7 @@ historyAfter rule window m history =
     then marked window (m .places) (m .bit) history
     else history
 
--- The same where the window is at most a word; so is one with a wider window one that the marks do not fit.
+-- The same by the first word alone. A window of more than a word does not fit.
 unfoldable pub shortAfter : (rule window : ℕ) → Marks → History → History
 shortAfter rule window m history =
     if eqb rule vectorRule && ltb (m .places) window && leb window 64 && ltb (m .bit) 64
@@ -104,7 +104,7 @@ recordAfter s network (HandedUp m) =
 recordAfter s network Duplicate = with s (s .state) (tally (s .counts) network duplicate false 0)
 recordAfter s network Rogue = with s (s .state) (tally (s .counts) network rogue false 0)
 
--- The same of one that is handed up to a window of at most a word (`ShortStep`).
+-- The same of one that is handed up, by the first word of the history alone (`ShortStep`).
 unfoldable pub recordShort : Stream → (network : ℕ) → Marks → Stream
 recordShort s network m = recordUp s network m (shortAfter (s .rule) (s .window) m (s .state .history))
 
