@@ -4,10 +4,10 @@
 --     arrival-decided    every other arrival, refused by 7 or 8, or not refused
 use Prim.Native.Nat.{ℕ, _-_, _+_, _≤_, _<_}
 use mathlib.Core.Path.{_≡_, refl, sym, ap, _∙_}
-use mathlib.Core.Bool.{Bool, true, false, cond}
+use mathlib.Core.Bool.{Bool, true, false, not, cond}
 use mathlib.Core.List.{List}
 use native.Mathlib.Omega.{arith}
-use lib.Dec.{ltb}
+use lib.Dec.{ltb, leb}
 use lib.ListN.{length, set, length-append, length-take, length-drop}
 use lib.Seq.{set-getD}
 use borrow.Author.Tests.{lt-ltb, le-ltb, lt-leb, le-leb, leb-true, leb-false}
@@ -15,6 +15,7 @@ use Rattle.refusal.specs.Checks.Said.{refused, answers}
 use Rattle.refusal.specs.Numbers.{TABLE, NETWORK, UNKNOWN, DAMAGED, ROOM}
 use Rattle.refusal.proofs.Checks.{passed}
 use Rattle.record.specs.declared.Stream.{Stream}
+use Rattle.record.specs.Words.{if_then_else_}
 use Rattle.record.specs.Sizes.{slotsMost}
 use Rattle.frame.specs.Frame.{Tag, typeAt, cutAt, untagged, readOf}
 use Rattle.frame.specs.TagCalls.{writtenWithout}
@@ -23,16 +24,16 @@ use Rattle.frame.proofs.Heads.{TagIs, tag-of}
 use Rattle.frame.proofs.Writes.{type-place, without-fits}
 use Rattle.stream.specs.Record.{lawful}
 use Rattle.stream.specs.Decisions as decisions
-use Rattle.stream.specs.Steps.{marksOf, weighedAs, weighed, recordAfter}
+use Rattle.stream.specs.Steps.{marksOf, weighedAs, weighed, recordAfter, recordShort}
 use Rattle.stream.specs.Steps as steps
 use Rattle.stream.specs.declared.Marks.{Marks}
 use Rattle.stream.specs.declared.Weighed.{Weighed}
 use Rattle.stream.specs.declared.Weighed.the-variants as weighs
-use Rattle.stream.proofs.Steps.{steps-decide}
+use Rattle.stream.proofs.Steps.{steps-decide, short-step}
 use Rattle.calls.specs.Table.{Table, blank, at, search, found, hasKey}
 use Rattle.calls.specs.Calls.{arriving, refuse, arrive, admitted, arrivalAt, arrival, checked, act, after, answer, arrived, verdictWith, output, writtenFor, Meets}
 use Rattle.calls.specs.Said.{saidArrival}
-use Rattle.calls.specs.Steps.{asked, saidAsked, hasRoom, judgedAs, judged, recordOf, finished, bytesOf}
+use Rattle.calls.specs.Steps.{asked, saidAsked, hasRoom, judgedAs, judged, weighedIn, recordOf, finished, bytesOf}
 use Rattle.calls.specs.declared.Found.the-variants.{At, Nothing}
 use Rattle.calls.specs.declared.Asked.{Asked}
 use Rattle.calls.specs.declared.Asked.the-variants as asks
@@ -64,6 +65,33 @@ after-judged s network weighs.Damaged = refl
 after-judged s network (weighs.HandedUp m) = refl
 after-judged s network weighs.Duplicate = refl
 after-judged s network weighs.Rogue = refl
+
+-- what is handed up was weighed as that, so that a window of at most a word may be marked by the first word alone
+weighed-again : (w : Weighed) → weighedIn (judgedAs w) ≡ w
+weighed-again weighs.Damaged = refl
+weighed-again (weighs.HandedUp m) = refl
+weighed-again weighs.Duplicate = refl
+weighed-again weighs.Rogue = refl
+
+weighed-up : (s : Stream) (number : ℕ) (room : Bool) (m : Marks) → judges.HandedUp m ≡ judged s number room → weighed s number ≡ weighs.HandedUp m
+unfolding judged
+weighed-up s number room m e = go (lawful s) room (ap weighedIn e) refl
+  where
+    go : (l r : Bool)
+        → weighs.HandedUp m ≡ weighedIn (if not (lawful s) then judges.Refused DAMAGED else if not r then judges.Refused ROOM else judgedAs (weighed s number))
+        → lawful s ≡ l → weighed s number ≡ weighs.HandedUp m
+    go false r e l = let d : weighs.HandedUp m ≡ weighs.Damaged = rw l at e in cc
+    go true false e l = let d : weighs.HandedUp m ≡ weighs.Damaged = rw l at e in cc
+    go true true e l = let d : weighs.HandedUp m ≡ weighedIn (judgedAs (weighed s number)) = rw l at e in sym (d ∙ weighed-again (weighed s number))
+
+pub marks-right : (s : Stream) (number network : ℕ) (room : Bool) (m : Marks) → judges.HandedUp m ≡ judged s number room
+    → (if leb (s .window) 64 then recordShort s network m else recordAfter s network (weighs.HandedUp m)) ≡ recordAfter s network (weighs.HandedUp m)
+marks-right s number network room m e = go (leb (s .window) 64) refl
+  where
+    go : (b : Bool) → leb (s .window) 64 ≡ b
+        → (if b then recordShort s network m else recordAfter s network (weighs.HandedUp m)) ≡ recordAfter s network (weighs.HandedUp m)
+    go true w = short-step s number network m (leb-true (s .window) 64 w) (weighed-up s number room m e)
+    go false w = refl
 
 module _ (t : Table) (network : ℕ) (f out : List ℕ) where
   -- 1 to 5 and 14 are asked first, and what follows goes by what was read

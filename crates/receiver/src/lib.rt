@@ -11,10 +11,15 @@ use calls::Survey;
 pub use calls::Swept;
 pub use calls::Verdict;
 use record::Stream;
+use stream::Marks;
 ghost use mathlib.Core.Path.{_≡_};
 ghost use mathlib.Core.List.{[]};
 ghost use Prim.Native.Nat.{_<_};
+ghost use lib.Dec.{leb};
 ghost use lib.ListN.{length, set};
+ghost use Rattle.record.specs.Words.{if_then_else_};
+ghost use Rattle.stream.specs.Steps.{recordAfter, recordShort};
+ghost use Rattle.stream.specs.declared.Weighed.the-variants.{HandedUp};
 ghost use Rattle.calls.specs.Calls.{arriving, opening, closing, resetting, ticking, Meets};
 ghost use Rattle.calls.specs.Said.{saidArrival, saidOpened, saidDone, saidSwept};
 ghost use Rattle.calls.specs.Steps.{judged, recordOf};
@@ -84,6 +89,18 @@ fn sweep(t: &mut [Stream]) -> Sums
     sums
 }
 
+// A record after a frame that is handed up. In a window of at most a word the first word of the history alone is stored.
+fn mark_at(t: &mut [Stream], i: usize, network: u8, m: Marks)
+    requires { ⌜ i < length (now t) ⌝ }
+    ensures { λ _. ⌜ now (t .exit) ≡ set (now (t .entry)) i (if leb (at (now (t .entry)) i .window) 64 then recordShort (at (now (t .entry)) i) network m else recordAfter (at (now (t .entry)) i) network (HandedUp m)) ⌝ }
+{
+    if stream::is_narrow(t[i]) {
+        t[i] = stream::handed_up_short(t[i], network, m);
+    } else {
+        t[i] = stream::handed_up(t[i], network, m);
+    }
+}
+
 // One record decided: what the arrival is to it, and the record after it. The record is read again on purpose: so no
 // counter is carried over the first step. It is stored in each verdict's arm: so each verdict stores only what it changes,
 // and a refused arrival stores nothing.
@@ -95,7 +112,8 @@ fn decide_at(t: &mut [Stream], i: usize, network: u8, number: u16, room: bool) -
     match j {
         Judged::Refused(_) => {}
         Judged::HandedUp(m) => {
-            t[i] = stream::handed_up(t[i], network, m);
+            mark_at(t, i, network, m);
+            return j;
         }
         Judged::Duplicate => {
             t[i] = stream::duplicate(t[i], network);

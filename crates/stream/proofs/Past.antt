@@ -3,19 +3,21 @@ use Prim.Native.Nat.{ℕ, zero, suc, _+_, _-_, _*_, _/_, _%_, _^_, _≤_, _<_}
 use mathlib.Core.Path.{_≡_, refl, ap, ap₂, sym, _∙_}
 use mathlib.Core.Bool.{Bool, true, false, _||_}
 use mathlib.Core.List.{[], _∷_}
-use native.Mathlib.Nat.{add-zero, mod-lt}
+use native.Mathlib.Nat.{add-zero, mul-one, mod-lt, mod-eq-of-lt, div-eq-of-lt, lt-of-lt-of-le}
 use native.Mathlib.Omega.{arith}
 use native.Mathlib.Decide.{decLt}
 use lib.ListN.{length, getD}
 use lib.Dec.{eqb, ltb, eqb·suc-zero}
-use lib.Pow.{pow-pos, pow-lt}
+use lib.Pow.{pow-pos, pow-mono, pow-lt}
+use lib.Bits.{bitOr}
 use borrow.Author.Tests.{lt-ltb, le-ltb, ltb-true, ltb-false, eqb-true, ne-eqb}
 use Rattle.record.specs.Words.{if_then_else_}
 use Rattle.record.specs.Sizes.{windowMost}
-use Rattle.stream.specs.History.{History, value, wordsOf, holding, bitOf, same, empty, isEmpty, bit, single, setBit, push, pushes, advance, within, marked}
+use Rattle.stream.specs.History.{History, value, wordsOf, holding, bitOf, same, empty, isEmpty, bit, single, setBit, push, pushes, advance, within, marked, markedFirst}
 use Rattle.stream.proofs.Logic.{tests}
 use Rattle.stream.proofs.Words.{Small, wordAt, word-of, not-clear, value-words, words-num}
-use Rattle.stream.proofs.Moves.{held}
+use Rattle.stream.proofs.Moves.{held, pushes-at-once}
+use Rattle.stream.proofs.Digits.{or-bit}
 use Rattle.stream.proofs.Bits.{even, double, below, added, added-lt, none}
 
 -- 1. What rests on the form of the history. L is at most the greatest window. The words hold the bits below 512.
@@ -38,7 +40,7 @@ pub is-empty : (h : History) → isEmpty h ≡ true → h ≡ empty
 unfolding isEmpty
 is-empty h e = same-is h empty e
 
-no-value : value empty ≡ 0
+pub no-value : value empty ≡ 0
 unfolding value
 no-value = refl
 
@@ -200,3 +202,35 @@ marked-next l d h = refl
 pub marked-first : (l : ℕ) → marked l 0 0 empty ≡ single
 unfolding marked pushes setBit bit bitOf value wordsOf
 marked-first l = refl
+
+-- In a window of at most a word the words above the first are clear before and after.
+module _ (l : ℕ) (word : l ≤ 64) (h : History) (clear : value h < 2 ^ l) where
+  abbrev shifted : ℕ → ℕ
+  shifted d = value h * 2 ^ d % 2 ^ l
+
+  first-alone : (d k : ℕ) → markedFirst l d k h ≡ holding (if bitOf k (shifted d) then shifted d else shifted d + 2 ^ k)
+  unfolding markedFirst
+  first-alone d k =
+      let z : value h / 2 ^ 64 ≡ 0 = div-eq-of-lt (lt-of-lt-of-le clear (pow-mono word)) in
+      ap holding (ap (λ (x : ℕ). bitOr (shifted d) (2 ^ k) + 2 ^ 64 * x) z ∙ add-zero (bitOr (shifted d) (2 ^ k)) ∙ or-bit (shifted d) k)
+
+  set-held : (k v : ℕ) → value (holding v) ≡ v → setBit k (holding v) ≡ holding (if bitOf k v then v else v + 2 ^ k)
+  unfolding setBit bit
+  set-held k v e = rw e (go (bitOf k v))
+    where
+      go : (b : Bool) → (if b then holding v else holding (v + 2 ^ k)) ≡ holding (if b then v else v + 2 ^ k)
+      go true = refl
+      go false = refl
+
+  pub marked-up : (d k : ℕ) → 1 ≤ d → markedFirst l d k h ≡ marked l d k h
+  unfolding marked
+  marked-up d k p =
+      let most : l ≤ windowMost = omega arith in
+      first-alone d k
+      ∙ sym (ap (setBit k) (pushes-at-once l d h most p) ∙ set-held k (shifted d) (held l (shifted d) most (mod-lt (value h * 2 ^ d) (pow-pos l))))
+
+  pub marked-there : (k : ℕ) → bit k h ≡ false → markedFirst l 0 k h ≡ marked l 0 k h
+  unfolding marked pushes setBit bit
+  marked-there k e =
+      let same : shifted 0 ≡ value h = ap (λ (x : ℕ). x % 2 ^ l) (mul-one (value h)) ∙ mod-eq-of-lt clear in
+      first-alone 0 k ∙ rw (same, e)

@@ -1,20 +1,21 @@
 -- The two steps of the code are the decision. Assumes nothing.
-use Prim.Native.Nat.{ℕ, _-_, _≤_, _<_}
-use mathlib.Core.Path.{_≡_, refl, ap, _∙_}
+use Prim.Native.Nat.{ℕ, _-_, _^_, _≤_, _<_}
+use mathlib.Core.Path.{_≡_, refl, sym, ap, _∙_, subst}
 use mathlib.Core.Bool.{Bool, true, false, not}
 use mathlib.Core.Option.{some}
 use native.Mathlib.Omega.{arith}
 use lib.Dec.{eqb}
-use borrow.Author.Tests.{lt-ltb, le-leb}
+use lib.Pow.{pow-pos}
+use borrow.Author.Tests.{lt-ltb, le-leb, ltb-true}
 use Rattle.record.specs.Words.{if_then_else_, yes}
 use Rattle.record.specs.Sizes.{windowLeast, windowMost, vectorRule}
-use Rattle.stream.specs.History.{History, empty, single, marked}
-use Rattle.stream.specs.Record.{Stream}
+use Rattle.stream.specs.History.{History, value, empty, single, bit, within, marked, markedFirst}
+use Rattle.stream.specs.Record.{Stream, lawful}
 use Rattle.stream.specs.Decisions.{Case, first, far, again, late, next, moved, caseOf, verdictOf, handedUp, stateAfter, outOfOrder, losses, rise, counted, tally, countsAfter, with, verdict, decided}
-use Rattle.stream.specs.Steps.{Marks, marksOf, historyAfter, Duplicate, Rogue, weighedAs, weighed, said, recordAfter}
-use Rattle.stream.specs.Laws.{StepsTellVerdict, StepsDecide, StepsDamaged, StepsLeave}
-use Rattle.stream.proofs.Past.{marked-late, marked-next, marked-first}
-use Rattle.stream.proofs.Law.{Law, law, size, idle-fresh, fresh-parts}
+use Rattle.stream.specs.Steps.{Marks, Weighed, marksOf, historyAfter, shortAfter, Damaged, HandedUp, Duplicate, Rogue, weighedAs, weighed, said, recordUp, recordAfter, recordShort}
+use Rattle.stream.specs.Laws.{StepsTellVerdict, StepsDecide, StepsDamaged, StepsLeave, ShortStep}
+use Rattle.stream.proofs.Past.{no-value, empty-bit, marked-late, marked-next, marked-first, marked-up, marked-there}
+use Rattle.stream.proofs.Law.{Law, law, size, idle-fresh, fresh-parts, vector-within}
 use Rattle.stream.proofs.Told.{Fact, case-told}
 
 module _ (s : Stream) (n : ℕ) where
@@ -70,6 +71,64 @@ module _ (s : Stream) (n : ℕ) where
   gives network (moved b) l (a, r) =
       ap (λ (h : History). with s (handedUp s n (s .state .early) h) (countsAfter s network (moved b))) (stays (marksOf s n (moved b)) r)
 
+  -- By the first word alone, where the window is at most a word.
+  module _ (l : Law s) (word : s .window ≤ 64) where
+    short-fits : (m : Marks) → eqb (s .rule) vectorRule ≡ true → m .places < s .window → m .bit < 64
+        → shortAfter (s .rule) (s .window) m (s .state .history) ≡ markedFirst (s .window) (m .places) (m .bit) (s .state .history)
+    unfolding shortAfter
+    short-fits m r p b = rw (r, lt-ltb (m .places) (s .window) p, le-leb (s .window) 64 word, lt-ltb (m .bit) 64 b)
+
+    short-stays : (m : Marks) → eqb (s .rule) vectorRule ≡ false → shortAfter (s .rule) (s .window) m (s .state .history) ≡ s .state .history
+    unfolding shortAfter
+    short-stays m r = rw r
+
+    abbrev Alike : Marks → Type 0
+    Alike m = shortAfter (s .rule) (s .window) m (s .state .history) ≡ historyAfter (s .rule) (s .window) m (s .state .history)
+
+    alike : (m : Marks) → eqb (s .rule) vectorRule ≡ true → m .places < s .window → m .bit < 64
+        → markedFirst (s .window) (m .places) (m .bit) (s .state .history) ≡ marked (s .window) (m .places) (m .bit) (s .state .history) → Alike m
+    alike m r p b e = short-fits m r p b ∙ e ∙ sym (fits l m r p (omega arith))
+
+    below : yes (s .state .any) ≡ false → eqb (s .rule) vectorRule ≡ true → value (s .state .history) < 2 ^ s .window
+    unfolding within
+    below a r = ltb-true (value (s .state .history)) (2 ^ s .window) (vector-within l a r)
+
+    first-alike : yes (s .state .any) ≡ true → Alike (marksOf s n first)
+    first-alike a = go (eqb (s .rule) vectorRule) refl
+      where
+        none : s .state .history ≡ empty
+        none = fresh-parts {t = s .state} (idle-fresh l a) .history
+
+        clear : value (s .state .history) < 2 ^ s .window
+        clear = rw (none, no-value) (pow-pos (s .window))
+
+        go : (v : Bool) → eqb (s .rule) vectorRule ≡ v → Alike (marksOf s n first)
+        go true r =
+            let w : windowLeast ≤ s .window = size l .least in
+            alike (marksOf s n first) r (omega arith) (omega arith)
+            (marked-there (s .window) word (s .state .history) clear 0 (ap (bit 0) none ∙ empty-bit 0))
+        go false r = short-stays (marksOf s n first) r ∙ sym (stays (marksOf s n first) r)
+
+    abbrev shortened : (network : ℕ) → Weighed → Stream
+    shortened network Damaged = s
+    shortened network (HandedUp m) = recordShort s network m
+    shortened network Duplicate = recordAfter s network Duplicate
+    shortened network Rogue = recordAfter s network Rogue
+
+    shortens : (network : ℕ) (c : Case) → Fact s c → shortened network (weighedAs s n c) ≡ recordAfter s network (weighedAs s n c)
+    unfolding weighedAs recordAfter recordShort
+    shortens network first a = ap (recordUp s network (marksOf s n first)) (first-alike a)
+    shortens network far f = refl
+    shortens network again f = refl
+    shortens network (late k) (a, r, b, z) =
+        ap (recordUp s network (marksOf s n (late k)))
+        (alike (marksOf s n (late k)) r (omega arith) (omega arith) (marked-there (s .window) word (s .state .history) (below a r) k z))
+    shortens network (next d) (a, r, b, z) =
+        ap (recordUp s network (marksOf s n (next d)))
+        (alike (marksOf s n (next d)) r z (omega arith) (marked-up (s .window) word (s .state .history) (below a r) d 0 b))
+    shortens network (moved b) (a, r) =
+        ap (recordUp s network (marksOf s n (moved b))) (short-stays (marksOf s n (moved b)) r ∙ sym (stays (marksOf s n (moved b)) r))
+
 pub steps-tell-verdict : StepsTellVerdict
 unfolding weighed verdict
 steps-tell-verdict s n l = rw l (tells s n (caseOf s n))
@@ -85,6 +144,17 @@ steps-damaged s n l = rw l
 pub steps-leave : StepsLeave
 unfolding recordAfter
 steps-leave s n network l = rw (steps-damaged s n l)
+
+pub short-step : ShortStep
+unfolding weighed
+short-step s n network m word e = go (lawful s) refl
+  where
+    go : (b : Bool) → lawful s ≡ b → recordShort s network m ≡ recordAfter s network (HandedUp m)
+    go false l = let d = steps-damaged s n l in cc
+    go true l =
+        let is : weighedAs s n (caseOf s n) ≡ HandedUp m = rw l at e in
+        subst (λ (w : Weighed). shortened s n (law l) word network w ≡ recordAfter s network w) is
+        (shortens s n (law l) word network (caseOf s n) (case-told s n .fact))
 
 -- A discard, from its counters: all else is the record's.
 module _ (s : Stream) (network : ℕ) {a b c : ℕ} (p : a ≡ counted (eqb network 0) (s .counts .arrivals0)) (q : b ≡ counted (not (eqb network 0)) (s .counts .arrivals1)) where

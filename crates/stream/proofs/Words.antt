@@ -180,6 +180,18 @@ module _ (h : List ℕ) (s : Small h) (n k : ℕ) (long : length h ≡ n) (insid
           rw (sym (bit-same h s k) ∙ e, e) (sym (words-num l (small-set h s (k / 64) (w + 2 ^ (k % 64)) in-list fits))
           ∙ ap₂ wordsOf (length-set h (k / 64) (w + 2 ^ (k % 64)) ∙ long) sum)
 
+-- the first word is another, and the others stay
+pub set-first : (h : List ℕ) → Small h → (n v : ℕ) → length h ≡ suc n → v < 2 ^ 64 → set h 0 v ≡ wordsOf (suc n) (v + 2 ^ 64 * (value h / 2 ^ 64))
+unfolding value wordsOf
+set-first [] s n v long p = absurd (omega arith)
+set-first (w ∷ ws) s n v long p =
+    let q : w < 2 ^ 64 = s 0 in
+    let rest : (w + 2 ^ 64 * value ws) / 2 ^ 64 ≡ value ws = omega arith in
+    let others : length ws ≡ n = omega arith in
+    let low : (v + 2 ^ 64 * value ws) % 2 ^ 64 ≡ v = omega arith in
+    let high : (v + 2 ^ 64 * value ws) / 2 ^ 64 ≡ value ws = omega arith in
+    sym (rw rest (ap₂ _∷_ low (ap (wordsOf n) high ∙ ap (λ (m : ℕ). wordsOf m (value ws)) (sym others) ∙ words-num ws (λ k. s (suc k)))))
+
 -- a list by its places
 unfoldable pub tab : ℕ → (ℕ → ℕ) → List ℕ
 tab zero f = []

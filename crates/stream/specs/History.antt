@@ -4,6 +4,7 @@ use Prim.Native.Nat.{ℕ, zero, suc, _+_, _-_, _*_, _/_, _%_, _^_}
 use mathlib.Core.Bool.{Bool, true, false, not, _&&_}
 use mathlib.Core.List.{List, [], _∷_}
 use lib.Dec.{eqb, ltb}
+use lib.Bits.{bitOr}
 use Rattle.record.specs.Words.{if_then_else_}
 
 -- Words of 64 bits, the lowest first: the number that they hold, and the n words that hold a number.
@@ -82,3 +83,8 @@ advance window d history = setBit 0 (pushes window d history)
 -- d places up, and bit k set: what the code does in one go
 unfoldable pub marked : (window d k : ℕ) (history : History) → History
 marked window d k history = setBit k (pushes window d history)
+
+-- the same in a window of at most a word, by the first word alone: the others stay
+unfoldable pub markedFirst : (window d k : ℕ) (history : History) → History
+markedFirst window d k history =
+    holding (bitOr (value history * 2 ^ d % 2 ^ window) (2 ^ k) + 2 ^ 64 * (value history / 2 ^ 64))

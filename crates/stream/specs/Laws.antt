@@ -1,5 +1,5 @@
 -- Document 01, "The stream record" and "Decisions": what holds of the definitions. Assumes nothing.
-use Prim.Native.Nat.{ℕ, _<_}
+use Prim.Native.Nat.{ℕ, _<_, _≤_}
 use mathlib.Core.Path.{_≡_}
 use mathlib.Core.Bool.{Bool, true, false, _&&_}
 use mathlib.Core.Option.{some}
@@ -11,7 +11,7 @@ use Rattle.record.specs.Sizes.{vectorRule, matchRule}
 use Rattle.stream.specs.History.{empty, single}
 use Rattle.stream.specs.Record.{Counts, Stream, settled, lawful, opened}
 use Rattle.stream.specs.Decisions.{behind, difference, asInt, up, duplicate, rogue, isUp, rise, with, verdict, decided, reset, ticked}
-use Rattle.stream.specs.Steps.{plain, right, Damaged, weighed, said, recordAfter}
+use Rattle.stream.specs.Steps.{Marks, plain, right, Damaged, HandedUp, weighed, said, recordAfter, recordShort}
 use Rattle.stream.specs.WrapRun.{four, held}
 
 -- "The difference is taken modulo 65536 and read as signed, from -32768 to 32767": it is in that range, it is congruent to
@@ -129,6 +129,12 @@ StepsDamaged = (s : Stream) (number : ℕ) → lawful s ≡ false → weighed s 
 abbrev pub StepsLeave : Type 0
 StepsLeave =
     (s : Stream) (number network : ℕ) → lawful s ≡ false → recordAfter s network (weighed s number) ≡ s
+
+-- Where the window is at most a word, the second step may write the first word of the history alone.
+abbrev pub ShortStep : Type 0
+ShortStep =
+    (s : Stream) (number network : ℕ) (m : Marks) → s .window ≤ 64 → weighed s number ≡ HandedUp m
+    → recordShort s network m ≡ recordAfter s network (HandedUp m)
 
 -- The premises above are met: by fresh records and others of each rule, by a duplicate, a rogue and a late number, and by a
 -- record that is not lawful.

@@ -6,7 +6,7 @@ use mathlib.Core.Option.{Option, none, some}
 use lib.Dec.{eqb, ltb, leb}
 use Rattle.record.specs.Words.{if_then_else_, yes}
 use Rattle.record.specs.Sizes.{windowMost, vectorRule}
-use Rattle.stream.specs.History.{History, isEmpty, bit, within, marked}
+use Rattle.stream.specs.History.{History, isEmpty, bit, within, marked, markedFirst}
 use Rattle.stream.specs.Record.{Stream, anchorFresh, settled, placed, lawful, damaged}
 use Rattle.stream.specs.Decisions.{Case, first, far, again, late, next, moved, caseOf, Verdict, up, duplicate, rogue, verdictOf, handedUp, stateAfter, outOfOrder, losses, tally, with, expires, ticked}
 pub use Rattle.stream.specs.declared.Marks.{Marks}
@@ -64,6 +64,13 @@ historyAfter rule window m history =
     then marked window (m .places) (m .bit) history
     else history
 
+-- The same by the first word alone. A window of more than a word does not fit.
+unfoldable pub shortAfter : (rule window : ℕ) → Marks → History → History
+shortAfter rule window m history =
+    if eqb rule vectorRule && ltb (m .places) window && leb window 64 && ltb (m .bit) 64
+    then markedFirst window (m .places) (m .bit) history
+    else history
+
 -- A verdict as the first step answers it.
 abbrev pub answer : Verdict → Marks → Weighed
 answer up m = HandedUp m
@@ -84,14 +91,22 @@ said (HandedUp m) = some up
 said Duplicate = some duplicate
 said Rogue = some rogue
 
+-- The record after one that is handed up, by the history after it.
+abbrev pub recordUp : Stream → (network : ℕ) → Marks → History → Stream
+recordUp s network m history =
+    with s (handedUp s (m .anchor) (m .early) history) (tally (s .counts) network up (m .disorder) (m .lost))
+
 -- The second step. Without a verdict the record stays as it is.
 unfoldable pub recordAfter : Stream → (network : ℕ) → Weighed → Stream
 recordAfter s network Damaged = s
 recordAfter s network (HandedUp m) =
-    with s (handedUp s (m .anchor) (m .early) (historyAfter (s .rule) (s .window) m (s .state .history)))
-    (tally (s .counts) network up (m .disorder) (m .lost))
+    recordUp s network m (historyAfter (s .rule) (s .window) m (s .state .history))
 recordAfter s network Duplicate = with s (s .state) (tally (s .counts) network duplicate false 0)
 recordAfter s network Rogue = with s (s .state) (tally (s .counts) network rogue false 0)
+
+-- The same of one that is handed up, by the first word of the history alone (`ShortStep`).
+unfoldable pub recordShort : Stream → (network : ℕ) → Marks → Stream
+recordShort s network m = recordUp s network m (shortAfter (s .rule) (s .window) m (s .state .history))
 
 -- A tick: the record after it, whether the stream was reset, and whether the record is damaged.
 unfoldable pub tickOf : Stream → Ticked

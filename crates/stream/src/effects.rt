@@ -6,7 +6,7 @@ use record::State;
 use record::Stream;
 ghost use mathlib.Core.Path.{_≡_};
 ghost use Rattle.stream.specs.Decisions.{counted};
-ghost use Rattle.stream.specs.Steps.{historyAfter, recordAfter};
+ghost use Rattle.stream.specs.Steps.{historyAfter, shortAfter, recordUp, recordAfter, recordShort};
 
 // A counter, risen by 1 where the test holds.
 pub fn counted(test: bool, count: u64) -> u64
@@ -37,8 +37,28 @@ fn history_after(h: [u64; 8], rule: u8, window: u16, m: Marks) -> [u64; 8]
     history::marked(h, window, m.places, m.bit)
 }
 
-pub fn handed_up(s: Stream, network: u8, m: Marks) -> Stream
-    ensures { λ r. ⌜ r ≡ recordAfter s network (Weighed.HandedUp m) ⌝ }
+// The same for a window of at most a word: the first word alone is read and written.
+fn short_after(h: [u64; 8], rule: u8, window: u16, m: Marks) -> [u64; 8]
+    ensures { λ r. ⌜ r ≡ shortAfter rule window m h ⌝ }
+{
+    if rule != Stream::VECTOR_RULE {
+        return h;
+    }
+    if window <= m.places {
+        return h;
+    }
+    if 64 < window {
+        return h;
+    }
+    if 64 <= m.bit {
+        return h;
+    }
+    history::marked_first(h, window, m.places, m.bit)
+}
+
+// Handed up, with the history after it.
+fn up_with(s: Stream, network: u8, m: Marks, history: [u64; 8]) -> Stream
+    ensures { λ r. ⌜ r ≡ recordUp s network m history ⌝ }
 {
     let mut c = s.counts;
     c.arrivals0 = counted(network == 0, s.counts.arrivals0);
@@ -46,9 +66,6 @@ pub fn handed_up(s: Stream, network: u8, m: Marks) -> Stream
     c.passed = std::num::wrapping_add_u64(s.counts.passed, 1);
     c.disorder = counted(m.disorder, s.counts.disorder);
     c.lost = std::num::wrapping_add_u64(s.counts.lost, m.lost);
-    let old = s.state;
-    let h = old.history;
-    let history = history_after(h, s.rule, s.window, m);
     let state = State {
         history,
         anchor: m.anchor,
@@ -60,6 +77,26 @@ pub fn handed_up(s: Stream, network: u8, m: Marks) -> Stream
     t.state = state;
     t.counts = c;
     t
+}
+
+pub fn handed_up(s: Stream, network: u8, m: Marks) -> Stream
+    ensures { λ r. ⌜ r ≡ recordAfter s network (Weighed.HandedUp m) ⌝ }
+{
+    let old = s.state;
+    let h = old.history;
+    let history = history_after(h, s.rule, s.window, m);
+    up_with(s, network, m, history)
+}
+
+// The same where the window is at most a word: of the history the first word alone is new, so that a caller who stores the
+// record stores no more of it.
+pub fn handed_up_short(s: Stream, network: u8, m: Marks) -> Stream
+    ensures { λ r. ⌜ r ≡ recordShort s network m ⌝ }
+{
+    let old = s.state;
+    let h = old.history;
+    let history = short_after(h, s.rule, s.window, m);
+    up_with(s, network, m, history)
 }
 
 pub fn duplicate(s: Stream, network: u8) -> Stream

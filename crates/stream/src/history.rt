@@ -8,7 +8,7 @@ ghost use lib.Bits.{bitOr};
 ghost use lib.Count.{ones};
 ghost use Rattle.record.specs.Words.{if_then_else_};
 ghost use Rattle.record.specs.Sizes.{windowMost};
-ghost use Rattle.stream.specs.History.{value, wordsOf, empty, isEmpty, bit, within, setBit, leaving, marked};
+ghost use Rattle.stream.specs.History.{value, wordsOf, empty, isEmpty, bit, within, setBit, leaving, marked, markedFirst};
 
 // Bits in a word.
 const WORD: u16 = 64;
@@ -234,6 +234,16 @@ pub fn marked(h: [u64; 8], w: u16, d: u16, k: u16) -> [u64; 8]
     }
     let up = moved(h, w, d);
     set_bit(up, k)
+}
+
+// The same in a window of at most a word, by the first word alone: the others stay.
+pub fn marked_first(h: [u64; 8], w: u16, d: u16, k: u16) -> [u64; 8]
+    requires { ⌜ (k < 64) × ((d < w) × (w ≤ 64)) ⌝ }
+    ensures { λ r. ⌜ r ≡ markedFirst w d k h ⌝ }
+{
+    let up = WORD - w;
+    let x = (((h[0] << d) << up) >> up) | (1 << k);
+    [x, h[1], h[2], h[3], h[4], h[5], h[6], h[7]]
 }
 
 // How many bits are set. A word of zeros needs no counting.

@@ -8,6 +8,7 @@ mod number;
 pub use effects::counted;
 pub use effects::duplicate;
 pub use effects::handed_up;
+pub use effects::handed_up_short;
 pub use effects::rogue;
 use record::Counts;
 use record::State;
@@ -15,7 +16,7 @@ use record::Stream;
 ghost use mathlib.Core.Path.{_≡_};
 ghost use mathlib.Core.Bool.{true, _||_};
 ghost use Prim.Native.Nat.{_≤_};
-ghost use lib.Dec.{eqb};
+ghost use lib.Dec.{eqb, leb};
 ghost use Rattle.record.specs.Sizes.{windowLeast, windowMost, vectorRule, matchRule};
 ghost use Rattle.stream.specs.Record.{fresh, settled, placed, lawful, opened, closed};
 ghost use Rattle.stream.specs.Decisions.{reset};
@@ -213,6 +214,13 @@ pub fn weigh(s: Stream, number: u16) -> Weighed
         return cases::by_vector(s, number);
     }
     cases::by_match(s, number)
+}
+
+// The window is at most a word, so that the second step may be `handed_up_short`.
+pub fn is_narrow(s: Stream) -> bool
+    ensures { λ r. ⌜ r ≡ leb (s .window) 64 ⌝ }
+{
+    s.window <= 64
 }
 
 // The second step of the decision: the record after what the first step found.

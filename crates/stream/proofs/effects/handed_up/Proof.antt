@@ -1,40 +1,18 @@
 -- `stream::effects::handed_up` meets its contract. Assumes nothing.
-use Rattle.stream.specs.Decisions.{tally}
 use Rattle.stream.specs.Steps.{recordAfter}
 use borrow.Author.Needs.{needs}
 use Rattle.stream.proofs.effects.handed_up.Statement.{statement}
 use Rattle.stream.proofs.effects.handed_up.Tie as tie
 
-counted-requires : tie.Need-counted-requires
-counted-requires c κs = search needs
-
-counted-requires-2 : tie.Need-counted-requires-2
-counted-requires-2 c κs = search needs
-
-wrapping-add-u64-requires : tie.Need-wrapping-add-u64-requires
-wrapping-add-u64-requires c κs = search needs
-
-counted-requires-3 : tie.Need-counted-requires-3
-counted-requires-3 c κs = search needs
-
-wrapping-add-u64-requires-2 : tie.Need-wrapping-add-u64-requires-2
-wrapping-add-u64-requires-2 c κs = search needs
-
 history-after-requires : tie.Need-history-after-requires
 history-after-requires c κs = search needs
 
+up-with-requires : tie.Need-up-with-requires
+up-with-requires c κs = search needs
+
 returns : tie.Need-returns
-unfolding recordAfter tally
+unfolding recordAfter
 returns c = cc
 
 pub handed-up-spec : {M : Type 1} → statement M
-handed-up-spec =
-    tie.close
-    (tie.spec
-    counted-requires
-    counted-requires-2
-    wrapping-add-u64-requires
-    counted-requires-3
-    wrapping-add-u64-requires-2
-    history-after-requires
-    returns)
+handed-up-spec = tie.close (tie.spec history-after-requires up-with-requires returns)
