@@ -167,7 +167,7 @@ typedef struct nippitsun_tick_answer {
     uint8_t refusal;
 } nippitsun_tick_answer;
 
-/* Of a tag call. */
+/* Of a tag call, and of a send. */
 typedef struct nippitsun_tag_answer {
     size_t length;   /* bytes written to the output */
     uint16_t number; /* the number in the tag */
@@ -237,6 +237,28 @@ nippitsun_tag_answer nippitsun_take_tag(const uint8_t *NIPPITSUN_APART frame, si
 nippitsun_tag_answer nippitsun_write_tag(const uint8_t *NIPPITSUN_APART frame, size_t frame_bytes, uint16_t number,
                                          uint8_t *NIPPITSUN_APART out, size_t out_bytes);
 
+/* ---- the sending side (document 02, order 6), with no table */
+
+/* A sender stream. All bytes zero is a sender at first. Every value is a sender, so that no call refuses one. */
+typedef struct nippitsun_sender {
+    uint16_t next; /* the number that the next frame gets: 0 at first and after a reset, and 0 again after 65535 */
+} nippitsun_sender;
+
+/* Sends a frame that has no tag: puts a tag with the sender's next number into it, and writes the same tagged frame to the
+ * start of both outputs, one for each network, or to neither; the bytes after it keep their values. `next` then rises by 1,
+ * and 65535 is followed by 0. The answer tells the number that the frame got, and the length of the tagged frame.
+ * Refusals 3 (above NIPPITSUN_UNTAGGED_MOST), 4, 13, 14, 8: then no byte of either output has changed and no number is used
+ * up. 8 is given if either output holds fewer than frame_bytes + 6 bytes; NIPPITSUN_FRAME_MOST bytes are always enough, and the
+ * two need not be of the same length. The sender, the frame and both outputs lie apart. So a sender has one caller at a time,
+ * as a table has. */
+nippitsun_tag_answer nippitsun_send(nippitsun_sender *NIPPITSUN_APART sender, const uint8_t *NIPPITSUN_APART frame,
+                                    size_t frame_bytes, uint8_t *NIPPITSUN_APART out0, size_t out0_bytes,
+                                    uint8_t *NIPPITSUN_APART out1, size_t out1_bytes);
+
+/* Resets a sender: its next number is 0, as at first. The receivers take the new count once their streams have been reset, by
+ * R ticks with nothing handed up or by call; until then what it sends may count as duplicates and rogues. */
+void nippitsun_reset_sender(nippitsun_sender *sender);
+
 /* ---- the layout, as the crates record, calls, batch, port and port_tick have it */
 
 #define NIPPITSUN_TYPE(type, size) \
@@ -298,6 +320,9 @@ NIPPITSUN_TYPE(nippitsun_tag_answer, 16);
 NIPPITSUN_FIELD(nippitsun_tag_answer, length, 0, 8);
 NIPPITSUN_FIELD(nippitsun_tag_answer, number, 8, 2);
 NIPPITSUN_FIELD(nippitsun_tag_answer, refusal, 10, 1);
+
+NIPPITSUN_ASSERT(sizeof(nippitsun_sender) == 2 && NIPPITSUN_ALIGNOF(nippitsun_sender) == 2, "layout of nippitsun_sender");
+NIPPITSUN_FIELD(nippitsun_sender, next, 0, 2);
 
 #undef NIPPITSUN_TYPE
 #undef NIPPITSUN_FIELD

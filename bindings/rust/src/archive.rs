@@ -9,6 +9,7 @@
 #![allow(unsafe_code)]
 
 use crate::record::Stream;
+use crate::sender::Sender;
 use std::mem::{align_of, size_of};
 
 /// What an arrival answers. Where it is refused, `refusal` is the number and the rest is 0.
@@ -61,7 +62,7 @@ pub struct TickAnswer {
     pub refusal: u8,
 }
 
-/// What a tag call answers. Where it is refused, `refusal` is the number and the rest is 0.
+/// What a tag call and a send answer. Where it is refused, `refusal` is the number and the rest is 0.
 #[repr(C)]
 #[derive(Clone, Copy, Debug, Default, PartialEq, Eq)]
 pub struct TagAnswer {
@@ -88,6 +89,7 @@ const _: () = assert!(size_of::<BatchAnswer>() == 784 && align_of::<BatchAnswer>
 const _: () = assert!(size_of::<SlotAnswer>() == 16 && align_of::<SlotAnswer>() == 8);
 const _: () = assert!(size_of::<TickAnswer>() == 24 && align_of::<TickAnswer>() == 8);
 const _: () = assert!(size_of::<TagAnswer>() == 16 && align_of::<TagAnswer>() == 8);
+const _: () = assert!(size_of::<Sender>() == 2 && align_of::<Sender>() == 2);
 
 // A slice crosses as a pointer and a number of elements. bindings/check holds these to the crates port, port_batch
 // and port_tick.
@@ -136,6 +138,16 @@ extern "C" {
         out: *mut u8,
         out_len: usize,
     ) -> TagAnswer;
+    fn nippitsun_send(
+        sender: *mut Sender,
+        frame: *const u8,
+        frame_len: usize,
+        out0: *mut u8,
+        out0_len: usize,
+        out1: *mut u8,
+        out1_len: usize,
+    ) -> TagAnswer;
+    fn nippitsun_reset_sender(sender: *mut Sender);
 }
 
 /// Arrival.
@@ -249,4 +261,31 @@ pub fn write_tag(frame: &[u8], number: u16, out: &mut [u8]) -> TagAnswer {
             out.len(),
         )
     }
+}
+
+/// Send.
+#[inline(always)]
+pub fn send(sender: &mut Sender, frame: &[u8], out0: &mut [u8], out1: &mut [u8]) -> TagAnswer {
+    let (out0, out0_len) = (out0.as_mut_ptr(), out0.len());
+    let (out1, out1_len) = (out1.as_mut_ptr(), out1.len());
+    // SAFETY: three slices, two of them `&mut`, and a `&mut` sender, so they are whole and lie apart; they are borrowed until
+    // the call ends.
+    unsafe {
+        nippitsun_send(
+            sender,
+            frame.as_ptr(),
+            frame.len(),
+            out0,
+            out0_len,
+            out1,
+            out1_len,
+        )
+    }
+}
+
+/// Reset of a sender.
+#[inline(always)]
+pub fn reset_sender(sender: &mut Sender) {
+    // SAFETY: a `&mut` sender, borrowed until the call ends.
+    unsafe { nippitsun_reset_sender(sender) }
 }

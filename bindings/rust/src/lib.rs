@@ -17,12 +17,14 @@ pub mod batch;
 mod receiver;
 mod record;
 mod refusal;
+mod sender;
 pub mod tag;
 
 pub use batch::Batch;
 pub use receiver::{Arrival, Receiver, Settings, Ticked, Verdict};
 pub use record::{dest_of, Counts, State, Stream};
 pub use refusal::Refusal;
+pub use sender::{Sender, Sent};
 
 /// The version of this crate.
 pub const VERSION: &str = env!("CARGO_PKG_VERSION");
