@@ -11,12 +11,14 @@ use Rattle.refusal.specs.Checks.Said.{refused, answers}
 use Rattle.refusal.proofs.Checks.{same-value}
 use Rattle.frame.specs.Bytes.{word, overlay, Bytes}
 use Rattle.frame.specs.Frame.{Tag, readOf, untagged, writeOf}
-use Rattle.frame.specs.TagCalls.{takeFrom, takeTag, writeInto, writeTag, saidHead, saidRead, saidTaken, saidWritten}
+use Rattle.frame.specs.TagCalls.{takeFrom, takeTag, writeInto, writeTag, saidHead, saidRead, saidPlace, saidTaken, saidWritten}
 use Rattle.frame.specs.Laws.{DestSix, TakeRefusedKeeps, WriteRefusedKeeps, Coincide, AnswersTell}
 use Rattle.frame.specs.declared.Head.{Head}
 use Rattle.frame.specs.declared.Head.the-variants as head
 use Rattle.frame.specs.declared.TagRead.{TagRead}
 use Rattle.frame.specs.declared.TagRead.the-variants as read
+use Rattle.frame.specs.declared.TagPlace.{TagPlace}
+use Rattle.frame.specs.declared.TagPlace.the-variants as place
 use Rattle.frame.specs.declared.Taken.{Taken}
 use Rattle.frame.specs.declared.Taken.the-variants as taken
 use Rattle.frame.specs.declared.Written.{Written}
@@ -47,7 +49,7 @@ pub coincide : Coincide
 coincide A B said tell o r s x y p q = (tell r s (p .0 ∙ sym (q .0)), p .1 ∙ sym (q .1))
 
 pub answers-tell : AnswersTell
-answers-tell = (heads, reads, takens, writtens)
+answers-tell = (heads, reads, places, takens, writtens)
   where
     heads : (r s : Head) → saidHead r ≡ saidHead s → r ≡ s
     heads head.Short head.Short e = refl
@@ -60,6 +62,12 @@ answers-tell = (heads, reads, takens, writtens)
     reads (read.Refused n) (read.Tagged h m) e = cc
     reads (read.Tagged h n) (read.Refused m) e = cc
     reads (read.Tagged h n) (read.Tagged k m) e = let t = same-value e in ap₂ read.Tagged (ap (λ x. x .header) t) (ap (λ x. x .number) t)
+
+    places : (r s : TagPlace) → saidPlace r ≡ saidPlace s → r ≡ s
+    places (place.Refused n) (place.Refused m) e = cc
+    places (place.Refused n) (place.At o) e = cc
+    places (place.At o) (place.Refused m) e = cc
+    places (place.At o) (place.At p) e = cc
 
     takens : (r s : Taken) → saidTaken r ≡ saidTaken s → r ≡ s
     takens (taken.Refused n) (taken.Refused m) e = cc

@@ -13,7 +13,7 @@ use Rattle.refusal.specs.Numbers.{LONG, SHORT, UNTAGGED, ROOM, TAGGED, GROUP}
 use Rattle.refusal.proofs.Checks.{first-exactly}
 use Rattle.record.specs.Sizes.{frameMost, untaggedMost}
 use Rattle.frame.specs.Bytes.{overlay}
-use Rattle.frame.specs.Frame.{Tag, typeAt, groupSource, isTagged, headShort, tagShort, headerOf, numberIn, readOf, untagged, tagged, writeOf}
+use Rattle.frame.specs.Frame.{Tag, typeAt, groupSource, isTagged, headShort, tagShort, headerOf, numberIn, readOf, untagged, tagged, placeOf, putAt, writeOf}
 use Rattle.frame.specs.TagCalls.{Bare, takeFrom, takeTag, writeInto, writeTag}
 use Rattle.frame.specs.Refusals.{takeChecks, writeChecks, TakeRefusedExactly, WriteRefusedExactly}
 use Rattle.frame.specs.Laws.{TakeNeverGroup}
@@ -41,11 +41,11 @@ take-first f out = go (ltb frameMost (length f)) (headShort f) (isTagged f) (ltb
     go false false true false = picks-said (ltb (length out) (length f - 6)) (bare f) out (overlay (untagged f) out)
 
 pub write-first : (f : List ℕ) (number : ℕ) (out : List ℕ) → writeTag f number out .said ≡ firstOf (writeChecks f out) (length f + 6)
-unfolding writeTag writeInto writeOf writeChecks firstOf
+unfolding writeTag writeInto writeOf putAt placeOf writeChecks firstOf
 write-first f number out = go (ltb untaggedMost (length f)) (headShort f) refl (isTagged f) (groupSource f)
   where
     go : (long short : Bool) → headShort f ≡ short → (carries group : Bool)
-        → writeInto out (cond long (refused LONG) (cond short (refused SHORT) (cond carries (refused TAGGED) (cond group (refused GROUP) (answers (tagged f number)))))) .said
+        → writeInto out (putAt f number (cond long (refused LONG) (cond short (refused SHORT) (cond carries (refused TAGGED) (cond group (refused GROUP) (answers (typeAt f))))))) .said
         ≡ cond long (refused LONG) (cond short (refused SHORT) (cond carries (refused TAGGED) (cond group (refused GROUP) (cond (ltb (length out) (length f + 6)) (refused ROOM) (answers (length f + 6))))))
     go true short e carries group = refl
     go false true e carries group = refl

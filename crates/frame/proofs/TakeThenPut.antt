@@ -12,10 +12,10 @@ use Rattle.refusal.specs.Checks.Said.{refused, answers}
 use Rattle.refusal.specs.Numbers.{SHORT, TAGGED, GROUP}
 use Rattle.record.specs.Sizes.{untaggedMost}
 use Rattle.frame.specs.Bytes.{word, Bytes}
-use Rattle.frame.specs.Frame.{Tag, typeAt, groupSource, hasVlan, vlanOf, isTagged, headShort, tagShort, headerOf, readOf, tagBytes, cutAt, tagAt, untagged, reservedOf, formerOf, writeOf}
+use Rattle.frame.specs.Frame.{Tag, typeAt, groupSource, hasVlan, vlanOf, isTagged, headShort, tagShort, headerOf, readOf, tagBytes, cutAt, tagAt, untagged, reservedOf, formerOf, placeOf, putAt, writeOf}
 use Rattle.frame.specs.RoundTrips.{TakeThenPut, FormerTag, FormerVlan, FormerVlanNeeds, FormerVlanTag, FormerVlanShort}
 use Rattle.frame.proofs.Heads.{type-least, type-vlan, type-plain, head-cut, TagIs, tag-of}
-use Rattle.frame.proofs.Writes.{write-short, write-tagged, write-whole, wrote-is}
+use Rattle.frame.proofs.Writes.{place-short, place-tagged, place-whole, no-place, at-place, wrote-is}
 use Rattle.frame.proofs.Words.{word-front, word-at, word-take, word-drop, same-source, Place, plain, vlan, place, six}
 use Rattle.frame.proofs.PutThenTake.{front, inside}
 
@@ -93,13 +93,13 @@ module _ (f : List ℕ) (t : Tag) (read : readOf f ≡ answers t) where
   put-carries : formerOf f ≡ 0xF1C1 → writeOf (untagged f) (t .number) ≡ refused TAGGED
   put-carries e =
       let k = kept (λ _ x. let z : _≡_ {A = ℕ} 0xF1C1 0x8100 = sym e ∙ x in omega arith) in
-      write-tagged (untagged f) _ few (rw k long) (tag-then k ∙ eq-eqb _ _ e)
+      no-place (untagged f) _ (place-tagged (untagged f) few (rw k long) (tag-then k ∙ eq-eqb _ _ e))
 
   -- with 8100 and no VLAN tag: a frame of fewer than 24 bytes is refused as short, in a longer one the tag comes four bytes later
   put-cut : hasVlan f ≡ false → formerOf f ≡ 0x8100 → length f < 24 → writeOf (untagged f) (t .number) ≡ refused SHORT
   put-cut v e s =
       let m = moved v e in
-      write-short (untagged f) _ few (head-cut (untagged f) (omega (arith, cut-length f (typeAt f) room)))
+      no-place (untagged f) _ (place-short (untagged f) few (head-cut (untagged f) (omega (arith, cut-length f (typeAt f) room))))
 
   module _ (v : hasVlan f ≡ false) (e : formerOf f ≡ 0x8100) (s : 24 ≤ length f) where
     later : isTagged (untagged f) ≡ eqb (word f 22) 0xF1C1
@@ -107,12 +107,12 @@ module _ (f : List ℕ) (t : Tag) (read : readOf f ≡ answers t) where
     later = let m = moved v e in rw (m .1) (ap (λ (k : ℕ). eqb k 0xF1C1) (cut-behind f (typeAt f) room 16 4 (omega arith) ∙ ap (word f) (omega arith)))
 
     put-later-carries : word f 22 ≡ 0xF1C1 → writeOf (untagged f) (t .number) ≡ refused TAGGED
-    put-later-carries h = let m = moved v e in write-tagged (untagged f) _ few (omega (arith, cut-length f (typeAt f) room)) (later ∙ eq-eqb _ _ h)
+    put-later-carries h = let m = moved v e in no-place (untagged f) _ (place-tagged (untagged f) few (omega (arith, cut-length f (typeAt f) room)) (later ∙ eq-eqb _ _ h))
 
     put-later : groupSource f ≡ false → (word f 22 ≡ 0xF1C1 → ⊥) → writeOf (untagged f) (t .number) ≡ answers (tagAt (untagged f) 16 (t .number))
     put-later g h =
         let m = moved v e in
-        write-whole (untagged f) _ few (omega (arith, cut-length f (typeAt f) room)) (later ∙ ne-eqb _ _ h) (source ∙ g) ∙ ap (λ (o : ℕ). answers (tagAt (untagged f) o (t .number))) (m .1)
+        at-place (untagged f) _ (place-whole (untagged f) few (omega (arith, cut-length f (typeAt f) room)) (later ∙ ne-eqb _ _ h) (source ∙ g)) ∙ ap (λ (o : ℕ). answers (tagAt (untagged f) o (t .number))) (m .1)
 
   -- the tag's six bytes, where its reserved bytes are zero
   tag-bytes : Bytes f → reservedOf f ≡ 0 → take 6 (drop (typeAt f) f) ≡ tagBytes (t .number)
@@ -139,7 +139,7 @@ module _ (f : List ℕ) (t : Tag) (read : readOf f ≡ answers t) where
   put-same : Bytes f → groupSource f ≡ false → reservedOf f ≡ 0 → (formerOf f ≡ 0xF1C1 → ⊥) → (hasVlan f ≡ false → formerOf f ≡ 0x8100 → ⊥) → writeOf (untagged f) (t .number) ≡ answers f
   put-same b g z u x =
       let k = kept x in
-      write-whole (untagged f) _ few (rw k long) (tag-then k ∙ ne-eqb _ _ u) (source ∙ g)
+      at-place (untagged f) _ (place-whole (untagged f) few (rw k long) (tag-then k ∙ ne-eqb _ _ u) (source ∙ g))
       ∙ ap (λ (o : ℕ). answers (tagAt (untagged f) o (t .number))) k
       ∙ ap answers (tag-cut f (typeAt f) room (t .number) (tag-bytes b z))
 
@@ -180,7 +180,7 @@ reflected =
     ∷ 0x81 ∷ 0 ∷ 0 ∷ 0 ∷ 0x08 ∷ 0 ∷ []
 
 pub former-vlan-needs : FormerVlanNeeds
-unfolding readOf headerOf headShort tagShort typeAt hasVlan vlanOf isTagged groupSource cutAt writeOf
+unfolding readOf headerOf headShort tagShort typeAt hasVlan vlanOf isTagged groupSource cutAt placeOf putAt writeOf
 former-vlan-needs all =
     let w : refused GROUP ≡ answers _ = all reflected (record { header = headerOf reflected; number = 7 }) refl refl refl (omega arith) (λ e. omega (arith, e)) in
     let z : _≡_ {A = ℕ} 0 1 = cc in

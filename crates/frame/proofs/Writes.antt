@@ -14,7 +14,7 @@ use Rattle.refusal.specs.Numbers.{LONG, SHORT, ROOM, TAGGED, GROUP}
 use Rattle.refusal.proofs.Checks.{passed, same-value}
 use Rattle.record.specs.Sizes.{frameMost, untaggedMost}
 use Rattle.frame.specs.Bytes.{overlay}
-use Rattle.frame.specs.Frame.{typeAt, groupSource, hasVlan, isTagged, headShort, readOf, cutAt, tagAt, tagged, writeOf}
+use Rattle.frame.specs.Frame.{typeAt, groupSource, hasVlan, isTagged, headShort, readOf, cutAt, tagAt, tagged, placeOf, putAt, writeOf}
 use Rattle.frame.specs.TagCalls.{Outcome, takeTag, takeFrom, writeInto, writeTag, saidRead, refusalOf, typePlace, cutFits, writtenWithout, tagFits, writtenWith}
 use Rattle.frame.specs.declared.Header.{Header}
 use Rattle.frame.specs.declared.TagRead.{TagRead}
@@ -145,50 +145,81 @@ pub tag-length : (f : List ℕ) (o n : ℕ) → o ≤ length f → length (tagAt
 unfolding tagAt
 tag-length f o n h = simp (length-append, length-take, length-drop) (omega arith)
 
-module _ (f : List ℕ) (n : ℕ) where
-  pub write-long : untaggedMost < length f → writeOf f n ≡ refused LONG
-  unfolding writeOf
-  write-long h = simp (lt-ltb _ _ h)
+-- ---- where it is put
+
+module _ (f : List ℕ) where
+  pub place-long : untaggedMost < length f → placeOf f ≡ refused LONG
+  unfolding placeOf
+  place-long h = simp (lt-ltb _ _ h)
 
   module _ (few : length f ≤ untaggedMost) where
-    pub write-short : headShort f ≡ true → writeOf f n ≡ refused SHORT
-    unfolding writeOf
-    write-short h = simp (le-ltb _ _ few, h)
+    pub place-short : headShort f ≡ true → placeOf f ≡ refused SHORT
+    unfolding placeOf
+    place-short h = simp (le-ltb _ _ few, h)
 
-    pub write-tagged : typeAt f + 2 ≤ length f → isTagged f ≡ true → writeOf f n ≡ refused TAGGED
-    unfolding writeOf
-    write-tagged r t = simp (le-ltb _ _ few, head-whole f r, t)
+    pub place-tagged : typeAt f + 2 ≤ length f → isTagged f ≡ true → placeOf f ≡ refused TAGGED
+    unfolding placeOf
+    place-tagged r t = simp (le-ltb _ _ few, head-whole f r, t)
 
-    pub write-group : typeAt f + 2 ≤ length f → isTagged f ≡ false → groupSource f ≡ true → writeOf f n ≡ refused GROUP
-    unfolding writeOf
-    write-group r t g = simp (le-ltb _ _ few, head-whole f r, t, g)
+    pub place-group : typeAt f + 2 ≤ length f → isTagged f ≡ false → groupSource f ≡ true → placeOf f ≡ refused GROUP
+    unfolding placeOf
+    place-group r t g = simp (le-ltb _ _ few, head-whole f r, t, g)
 
-    pub write-whole : typeAt f + 2 ≤ length f → isTagged f ≡ false → groupSource f ≡ false → writeOf f n ≡ answers (tagged f n)
-    unfolding writeOf
-    write-whole r t g = simp (le-ltb _ _ few, head-whole f r, t, g)
+    pub place-whole : typeAt f + 2 ≤ length f → isTagged f ≡ false → groupSource f ≡ false → placeOf f ≡ answers (typeAt f)
+    unfolding placeOf
+    place-whole r t g = simp (le-ltb _ _ few, head-whole f r, t, g)
+
+-- what a place says of the frame
+pub record PlaceIs (f : List ℕ) (o : ℕ) : Type 0 where
+  pub few : length f ≤ untaggedMost
+  pub room : typeAt f + 2 ≤ length f
+  pub plain : isTagged f ≡ false
+  pub remains : groupSource f ≡ false
+  pub at : o ≡ typeAt f
+
+pub place-is : (f : List ℕ) {o : ℕ} → placeOf f ≡ answers o → PlaceIs f o
+unfolding placeOf
+place-is f e =
+    let a = passed (ltb untaggedMost (length f)) LONG (sym e) in
+    let b = passed (headShort f) SHORT (a .1) in
+    let c = passed (isTagged f) TAGGED (b .1) in
+    let d = passed (groupSource f) GROUP (c .1) in
+    record { few = ltb-false _ _ (a .0); room = head-room f (b .0); plain = c .0; remains = d .0; at = cc (d .1) }
+
+-- ---- writing it
+
+module _ (f : List ℕ) (n : ℕ) where
+  pub no-place : {k : ℕ} → placeOf f ≡ refused k → writeOf f n ≡ refused k
+  unfolding writeOf putAt
+  no-place e = rw e
+
+  pub at-place : {o : ℕ} → placeOf f ≡ answers o → writeOf f n ≡ answers (tagAt f o n)
+  unfolding writeOf putAt
+  at-place e = rw e
 
   module _ (out : List ℕ) where
-    pub write-refused : {k : ℕ} → writeOf f n ≡ refused k → (refused k ≡ writeTag f n out .said) × (out ≡ writeTag f n out .bytes)
+    pub write-refused : {k : ℕ} → placeOf f ≡ refused k → (refused k ≡ writeTag f n out .said) × (out ≡ writeTag f n out .bytes)
     unfolding writeTag writeInto
-    write-refused e = rw e (refl, refl)
+    write-refused e = rw (no-place e) (refl, refl)
 
-    module _ (h : Header) (k : HeadIs f h) (few : length f ≤ untaggedMost) (t : h .tagged ≡ false) {g : Bool} (e : g ≡ groupSource f) (s : g ≡ false) where
-      whole : writeOf f n ≡ answers (tagged f n)
-      whole = write-whole few (k .room) (sym (k .tagged) ∙ t) (sym e ∙ s)
-
-      long : length (tagged f n) ≡ length f + 6
-      long = tag-length f (typeAt f) n (omega (arith, k .room))
+    module _ (o : ℕ) (e : placeOf f ≡ answers o) where
+      pub long : length (tagAt f o n) ≡ length f + 6
+      long = let k = place-is f e in tag-length f o n (omega (arith, k .room, k .at))
 
       pub write-small : length out < length f + 6 → (refused ROOM ≡ writeTag f n out .said) × (out ≡ writeTag f n out .bytes)
       unfolding writeTag writeInto
-      write-small s = rw (whole, long) (simp (lt-ltb _ _ s) (refl, refl))
+      write-small s = rw (at-place e, long) (simp (lt-ltb _ _ s) (refl, refl))
 
-      pub write-done : {new : List ℕ} → length f + 6 ≤ length out → new ≡ writtenWith f (h .at) n out
+      -- the writer's bytes, where they fit
+      pub wrote-with : length f + 6 ≤ length out → writtenWith f o n out ≡ overlay (tagAt f o n) out
+      wrote-with s =
+          let k = place-is f e in
+          with-fits f o out (ap typePlace (k .at) ∙ type-place f) n (omega (arith, k .room, k .at)) (k .few) s
+
+      pub write-done : {new : List ℕ} → length f + 6 ≤ length out → new ≡ writtenWith f o n out
           → (answers (length f + 6) ≡ writeTag f n out .said) × (new ≡ writeTag f n out .bytes)
       unfolding writeTag writeInto
-      write-done s e =
-          let w : writtenWith f (typeAt f) n out ≡ overlay (tagAt f (typeAt f) n) out = with-fits f (typeAt f) out (type-place f) n (omega (arith, k .room)) few s in
-          rw (whole, long) (simp (le-ltb _ _ s) (refl, e ∙ ap (λ (o : ℕ). writtenWith f o n out) (k .at) ∙ w))
+      write-done s w = rw (at-place e, long) (simp (le-ltb _ _ s) (refl, w ∙ wrote-with s))
 
 -- ---- what a tagged frame says of the frame that it was made from
 
@@ -200,13 +231,14 @@ pub record WroteIs (f : List ℕ) (n : ℕ) (g : List ℕ) : Type 0 where
   pub same : g ≡ tagged f n
 
 pub wrote-is : (f : List ℕ) (n : ℕ) {g : List ℕ} → writeOf f n ≡ answers g → WroteIs f n g
-unfolding writeOf
-wrote-is f n e =
-    let a = passed (ltb untaggedMost (length f)) LONG (sym e) in
-    let b = passed (headShort f) SHORT (a .1) in
-    let c = passed (isTagged f) TAGGED (b .1) in
-    let d = passed (groupSource f) GROUP (c .1) in
-    record { few = ltb-false _ _ (a .0); room = head-room f (b .0); plain = c .0; remains = d .0; same = cc (d .1) }
+unfolding writeOf putAt
+wrote-is f n {g} e = go (placeOf f) refl e
+  where
+    go : (x : Said ℕ) → placeOf f ≡ x → putAt f n x ≡ answers g → WroteIs f n g
+    go (refused k) p e = absurd (let z : _≡_ {A = ℕ} 0 1 = cc in omega arith)
+    go (answers o) p e =
+        let k = place-is f p in
+        record { few = k .few; room = k .room; plain = k .plain; remains = k .remains; same = same-value (sym e) ∙ ap (λ (o : ℕ). tagAt f o n) (k .at) }
 
 -- what write a tag answers fits into the output
 pub written-fits : (f : List ℕ) (n : ℕ) (out : List ℕ) {l : ℕ} → writeTag f n out .said ≡ answers l → l ≤ length out

@@ -98,11 +98,19 @@ tagAt f o n = take o f ++ tagBytes n ++ drop o f
 abbrev pub tagged : (f : List ℕ) (number : ℕ) → List ℕ
 tagged f n = tagAt f (typeAt f) n
 
--- What the writer makes of a frame: 3 above 1994 bytes, 4 by the 14 and 18 byte rules only, 13, 14, or the tagged frame.
-unfoldable pub writeOf : (f : List ℕ) (number : ℕ) → Said (List ℕ)
-writeOf f n =
+-- Where the writer puts it: 3 above 1994 bytes, 4 by the 14 and 18 byte rules only, 13, 14, or the type field.
+unfoldable pub placeOf : List ℕ → Said ℕ
+placeOf f =
     if ltb untaggedMost (length f) then refused LONG
     else if headShort f then refused SHORT
     else if isTagged f then refused TAGGED
     else if groupSource f then refused GROUP
-    else answers (tagged f n)
+    else answers (typeAt f)
+
+-- What the writer makes of a frame: the refusal, or the tagged frame.
+unfoldable pub putAt : (f : List ℕ) (number : ℕ) → Said ℕ → Said (List ℕ)
+putAt f n (refused k) = refused k
+putAt f n (answers o) = answers (tagAt f o n)
+
+unfoldable pub writeOf : (f : List ℕ) (number : ℕ) → Said (List ℕ)
+writeOf f n = putAt f n (placeOf f)

@@ -11,7 +11,7 @@ use Rattle.refusal.specs.Checks.Said.{refused}
 use Rattle.refusal.specs.Numbers.{GROUP}
 use Rattle.frame.specs.Bytes.{word, Bytes}
 use Rattle.frame.specs.Frame.{destOf, typeAt, readOf}
-use Rattle.frame.specs.TagCalls.{Outcome, takeTag, writeTag, saidHead, saidRead, saidTaken, saidWritten}
+use Rattle.frame.specs.TagCalls.{Outcome, takeTag, writeTag, saidHead, saidRead, saidPlace, saidTaken, saidWritten}
 use Rattle.frame.specs.Refusals.{short}
 
 -- A word stands at a place of a frame that holds both of its bytes.
@@ -63,4 +63,4 @@ Coincide =
 
 -- Each answer enum of this crate is such.
 abbrev pub AnswersTell : Type 0
-AnswersTell = Telling saidHead × Telling saidRead × Telling saidTaken × Telling saidWritten
+AnswersTell = Telling saidHead × Telling saidRead × Telling saidPlace × Telling saidTaken × Telling saidWritten

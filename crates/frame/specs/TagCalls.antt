@@ -17,6 +17,8 @@ use Rattle.frame.specs.declared.Head.{Head}
 use Rattle.frame.specs.declared.Head.the-variants as head
 use Rattle.frame.specs.declared.TagRead.{TagRead}
 use Rattle.frame.specs.declared.TagRead.the-variants as read
+use Rattle.frame.specs.declared.TagPlace.{TagPlace}
+use Rattle.frame.specs.declared.TagPlace.the-variants as place
 use Rattle.frame.specs.declared.Taken.{Taken}
 use Rattle.frame.specs.declared.Taken.the-variants as taken
 use Rattle.frame.specs.declared.Written.{Written}
@@ -66,6 +68,10 @@ saidRead (read.Tagged h n) = answers (record { header = h; number = n })
 abbrev pub refusalOf : TagRead → ℕ
 refusalOf (read.Refused n) = n
 refusalOf (read.Tagged h n) = 0
+
+abbrev pub saidPlace : TagPlace → Said ℕ
+saidPlace (place.Refused n) = refused n
+saidPlace (place.At o) = answers o
 
 abbrev pub saidTaken : Taken → Said Bare
 saidTaken (taken.Refused n) = refused n

@@ -6,8 +6,8 @@ ghost use Prim.Native.Nat.{_+_, _*_, _≤_, _<_};
 ghost use lib.ListN.{length};
 ghost use Rattle.record.specs.Sizes.{frameMost};
 ghost use Rattle.frame.specs.Bytes.{word, overlay};
-ghost use Rattle.frame.specs.Frame.{headOf, destOf, groupSource, readOf, tagBytes, cutAt, tagAt};
-ghost use Rattle.frame.specs.TagCalls.{saidHead, saidRead, saidTaken, saidWritten, refusalOf, takeTag, writeTag, writtenWithout, writtenWith};
+ghost use Rattle.frame.specs.Frame.{headOf, destOf, groupSource, readOf, tagBytes, cutAt, tagAt, placeOf};
+ghost use Rattle.frame.specs.TagCalls.{saidHead, saidRead, saidPlace, saidTaken, saidWritten, refusalOf, takeTag, writeTag, writtenWithout, writtenWith};
 
 // What stands before a frame's data.
 pub struct Header {
@@ -30,6 +30,12 @@ pub enum Head {
 pub enum TagRead {
     Refused(u8),
     Tagged(Header, u16),
+}
+
+// Where a tag is put into a frame, or the number of its refusal.
+pub enum TagPlace {
+    Refused(u8),
+    At(usize),
 }
 
 // A tag taken out: its number, and the length of the frame without it.
@@ -284,28 +290,40 @@ pub fn take_tag(frame: &[u8], out: &mut [u8]) -> Taken
     Taken::Out(number, len)
 }
 
+// Where a tag is put into a frame: refusals 3, 4, 13 and 14, or the place of its type field.
+pub fn place_of(frame: &[u8]) -> TagPlace
+    ensures { λ r. ⌜ saidPlace r ≡ placeOf (now (frame .entry)) ⌝ }
+{
+    if frame.len() > Stream::UNTAGGED_MOST {
+        return TagPlace::Refused(refusal::LONG);
+    }
+    let Head::Whole(h) = read_head(frame) else {
+        return TagPlace::Refused(refusal::SHORT);
+    };
+    if h.tagged {
+        return TagPlace::Refused(refusal::TAGGED);
+    }
+    if group_source(frame) {
+        return TagPlace::Refused(refusal::GROUP);
+    }
+    TagPlace::At(h.at)
+}
+
 // Write a tag: the frame with a tag put in, at the start of out.
 pub fn write_tag(frame: &[u8], number: u16, out: &mut [u8]) -> Written
     ensures { λ r. ⌜ saidWritten r ≡ writeTag (now (frame .entry)) number (now (out .entry)) .said ⌝ }
     ensures { λ _. ⌜ now (out .exit) ≡ writeTag (now (frame .entry)) number (now (out .entry)) .bytes ⌝ }
 {
-    if frame.len() > Stream::UNTAGGED_MOST {
-        return Written::Refused(refusal::LONG);
+    let place = place_of(frame);
+    match place {
+        TagPlace::Refused(n) => Written::Refused(n),
+        TagPlace::At(at) => {
+            let len = frame.len() + 6;
+            if out.len() < len {
+                return Written::Refused(refusal::ROOM);
+            }
+            write_with(frame, at, number, out);
+            Written::Out(len)
+        }
     }
-    let Head::Whole(h) = read_head(frame) else {
-        return Written::Refused(refusal::SHORT);
-    };
-    if h.tagged {
-        return Written::Refused(refusal::TAGGED);
-    }
-    if group_source(frame) {
-        return Written::Refused(refusal::GROUP);
-    }
-    let at = h.at;
-    let len = frame.len() + 6;
-    if out.len() < len {
-        return Written::Refused(refusal::ROOM);
-    }
-    write_with(frame, at, number, out);
-    Written::Out(len)
 }

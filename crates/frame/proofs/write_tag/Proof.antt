@@ -1,77 +1,54 @@
 -- `frame::write_tag` meets its contract: at each return a law says what the call comes to. Assumes nothing.
-use mathlib.Core.Path.{sym, _∙_}
-use native.Mathlib.Omega.{arith}
-use Rattle.frame.proofs.Heads.{HeadIs, head-is, short-is}
-use Rattle.frame.proofs.Writes.{write-long, write-short, write-tagged, write-group, write-refused, write-small, write-done}
+use mathlib.Core.Path.{sym, ap, _∙_}
+use Rattle.frame.specs.TagCalls.{saidPlace}
+use Rattle.frame.proofs.Writes.{write-refused, write-small, write-done}
 use borrow.Author.Needs.{needs}
 use Rattle.frame.proofs.write_tag.Statement.{statement}
 use Rattle.frame.proofs.write_tag.Tie as tie
 
--- what the header says of the frame
-known : (c : tie.After-h) → HeadIs (c .before .before .before .before .before .before .args .frame .now) (c .h .given .0 .0)
-known c = head-is _ _ (c .before .before .read-head .ensures) (c .h .given .1)
+place-of-requires : tie.Need-place-of-requires
+place-of-requires c κs = search needs
 
-returns : tie.Need-returns
-returns c = write-refused _ _ _ (write-long _ _ (c .if1 .taken))
+enum-known-place : tie.Need-enum-known-place
+enum-known-place c = search needs
 
-read-head-requires : tie.Need-read-head-requires
-read-head-requires c κs = search needs
-
-enum-known-h : tie.Need-enum-known-h
-enum-known-h c = search needs
-
-enum-told : tie.Need-enum-told
-enum-told c = search needs
-
-returns-2 : tie.Need-returns-2
-returns-2 c = write-refused _ _ _ (write-short _ _ (omega arith) (short-is _ (c .before .before .read-head .ensures) (c .enum-told .given .1)))
-
-returns-3 : tie.Need-returns-3
-returns-3 c = let k = known (c .before .before) in write-refused _ _ _ (write-tagged _ _ (omega arith) (k .room) (sym (k .tagged) ∙ c .if2 .taken))
-
-group-source-requires : tie.Need-group-source-requires
-group-source-requires c κs = search needs
-
-returns-4 : tie.Need-returns-4
-returns-4 c =
-    let e = c .before .before in
-    let k = known (e .before .before) in
-    write-refused _ _ _ (write-group _ _ (omega arith) (k .room) (sym (k .tagged) ∙ e .if2 .left) (sym (c .before .group-source .ensures) ∙ c .if3 .taken))
+enum-known-place-2 : tie.Need-enum-known-place-2
+enum-known-place-2 c = search needs
 
 add-len : tie.Need-add-len
 add-len c = search needs
 
-returns-5 : tie.Need-returns-5
-returns-5 c =
-    let e = c .before .before .before in
-    write-small _ _ _ _ (known (e .before .before)) (omega arith) (e .if2 .left) (c .before .before .group-source .ensures) (c .before .if3 .left) (c .if4 .taken)
+returns : tie.Need-returns
+returns c =
+    let p = c .before .before in
+    write-small _ _ _ _ (sym (p .before .before .place-of .ensures) ∙ ap saidPlace (p .place2 .given .1)) (c .if1 .taken)
 
 write-with-requires : tie.Need-write-with-requires
 write-with-requires c κs = search needs
 
+returns-2 : tie.Need-returns-2
+returns-2 c = let p = c .before in write-refused _ _ _ (sym (p .before .before .place-of .ensures) ∙ ap saidPlace (p .place .given .1))
+
 same-length : tie.Need-same-length
 same-length c = search needs
 
-returns-6 : tie.Need-returns-6
-returns-6 c =
-    let w = c .before .before .before .before in
-    let e = w .before .before .before in
-    write-done _ _ _ _ (known (e .before .before)) (omega arith) (e .if2 .left) (w .before .before .group-source .ensures) (w .before .if3 .left) (w .if4 .left) (c .before .before .write-with .ensures)
+returns-3 : tie.Need-returns-3
+returns-3 c =
+    let w = c .before .before in
+    let s = w .before .before in
+    let p = s .before .before in
+    write-done _ _ _ _ (sym (p .before .before .place-of .ensures) ∙ ap saidPlace (p .place2 .given .1)) (s .if1 .left) (w .write-with .ensures)
 
 pub write-tag-spec : {M : Type 1} → statement M
 write-tag-spec =
     tie.close
     (tie.spec
-    returns
-    read-head-requires
-    enum-known-h
-    enum-told
-    returns-2
-    returns-3
-    group-source-requires
-    returns-4
+    place-of-requires
+    enum-known-place
+    enum-known-place-2
     add-len
-    returns-5
+    returns
     write-with-requires
+    returns-2
     same-length
-    returns-6)
+    returns-3)
