@@ -197,29 +197,26 @@ module _ (f : List ℕ) (n : ℕ) where
   unfolding writeOf putAt
   at-place e = rw e
 
+  pub place-length : {o : ℕ} → placeOf f ≡ answers o → length (tagAt f o n) ≡ length f + 6
+  place-length {o} e = let k = place-is f e in tag-length f o n (omega (arith, k .room, k .at))
+
   module _ (out : List ℕ) where
     pub write-refused : {k : ℕ} → placeOf f ≡ refused k → (refused k ≡ writeTag f n out .said) × (out ≡ writeTag f n out .bytes)
     unfolding writeTag writeInto
     write-refused e = rw (no-place e) (refl, refl)
 
-    module _ (o : ℕ) (e : placeOf f ≡ answers o) where
-      pub long : length (tagAt f o n) ≡ length f + 6
-      long = let k = place-is f e in tag-length f o n (omega (arith, k .room, k .at))
+    pub write-small : {o : ℕ} → placeOf f ≡ answers o → length out < length f + 6 → (refused ROOM ≡ writeTag f n out .said) × (out ≡ writeTag f n out .bytes)
+    unfolding writeTag writeInto
+    write-small e s = rw (at-place e, place-length e) (simp (lt-ltb _ _ s) (refl, refl))
 
-      pub write-small : length out < length f + 6 → (refused ROOM ≡ writeTag f n out .said) × (out ≡ writeTag f n out .bytes)
-      unfolding writeTag writeInto
-      write-small s = rw (at-place e, long) (simp (lt-ltb _ _ s) (refl, refl))
+    -- the bytes at that place fit
+    pub place-fits : {o : ℕ} → placeOf f ≡ answers o → length f + 6 ≤ length out → writtenWith f o n out ≡ overlay (tagAt f o n) out
+    place-fits {o} e s = let k = place-is f e in with-fits f o out (ap typePlace (k .at) ∙ type-place f) n (omega (arith, k .room, k .at)) (k .few) s
 
-      -- the writer's bytes, where they fit
-      pub wrote-with : length f + 6 ≤ length out → writtenWith f o n out ≡ overlay (tagAt f o n) out
-      wrote-with s =
-          let k = place-is f e in
-          with-fits f o out (ap typePlace (k .at) ∙ type-place f) n (omega (arith, k .room, k .at)) (k .few) s
-
-      pub write-done : {new : List ℕ} → length f + 6 ≤ length out → new ≡ writtenWith f o n out
-          → (answers (length f + 6) ≡ writeTag f n out .said) × (new ≡ writeTag f n out .bytes)
-      unfolding writeTag writeInto
-      write-done s w = rw (at-place e, long) (simp (le-ltb _ _ s) (refl, w ∙ wrote-with s))
+    pub write-done : {o : ℕ} {new : List ℕ} → placeOf f ≡ answers o → length f + 6 ≤ length out → new ≡ writtenWith f o n out
+        → (answers (length f + 6) ≡ writeTag f n out .said) × (new ≡ writeTag f n out .bytes)
+    unfolding writeTag writeInto
+    write-done e s w = rw (at-place e, place-length e) (simp (le-ltb _ _ s) (refl, w ∙ place-fits e s))
 
 -- ---- what a tagged frame says of the frame that it was made from
 

@@ -21,7 +21,7 @@ add-len c = search needs
 returns : tie.Need-returns
 returns c =
     let p = c .before .before in
-    write-small _ _ _ _ (sym (p .before .before .place-of .ensures) ∙ ap saidPlace (p .place2 .given .1)) (c .if1 .taken)
+    write-small _ _ _ (sym (p .before .before .place-of .ensures) ∙ ap saidPlace (p .place2 .given .1)) (c .if1 .taken)
 
 write-with-requires : tie.Need-write-with-requires
 write-with-requires c κs = search needs
@@ -37,7 +37,7 @@ returns-3 c =
     let w = c .before .before in
     let s = w .before .before in
     let p = s .before .before in
-    write-done _ _ _ _ (sym (p .before .before .place-of .ensures) ∙ ap saidPlace (p .place2 .given .1)) (s .if1 .left) (w .write-with .ensures)
+    write-done _ _ _ (sym (p .before .before .place-of .ensures) ∙ ap saidPlace (p .place2 .given .1)) (s .if1 .left) (w .write-with .ensures)
 
 pub write-tag-spec : {M : Type 1} → statement M
 write-tag-spec =

@@ -1,0 +1,2 @@
+-- What a send comes to, its laws, and the numbers of what a run sends.
+pub mod Sends

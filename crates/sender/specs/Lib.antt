@@ -1,0 +1,5 @@
+pub mod Sender
+pub mod Refusals
+pub mod Laws
+pub mod Runs
+pub mod Example
