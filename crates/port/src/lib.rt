@@ -8,12 +8,16 @@ ghost use Rattle.calls.specs.Said.{saidOpened, saidDone};
 ghost use Rattle.calls.specs.Told.{tellArrival};
 ghost use Rattle.port.specs.Tags.{tellTaken, tellWritten};
 ghost use Rattle.port.specs.Answers.{tellOpened, tellDone, MeetsInC};
+ghost use Rattle.port.specs.Sending.{SendsInC, tellSent};
+ghost use Rattle.sender.specs.Sender.{atFirst, saidSent};
 use calls::ArrivalAnswer;
 use calls::Done;
 use calls::Opened;
 use frame::Taken;
 use frame::Written;
 use record::Stream;
+use sender::Sender;
+use sender::Sent;
 
 // The answer of a tag call. Where it is refused, refusal is the number and the rest is 0; otherwise refusal is 0.
 #[repr(C)]
@@ -63,6 +67,50 @@ pub extern "C" fn nippitsun_write_tag(frame: &[u8], number: u16, out: &mut [u8])
             refusal: 0,
         },
     }
+}
+
+// ---- the sending side. A sender is lent as its one field, the next number.
+
+fn tell_sent(a: Sent) -> TagAnswer
+    ensures { λ r. ⌜ r ≡ tellSent (saidSent a) ⌝ }
+{
+    match a {
+        Sent::Refused(refusal) => TagAnswer {
+            length: 0,
+            number: 0,
+            refusal,
+        },
+        Sent::Out(number, length) => TagAnswer {
+            length,
+            number,
+            refusal: 0,
+        },
+    }
+}
+
+// Send.
+#[no_mangle]
+pub extern "C" fn nippitsun_send(
+    sender: &mut u16,
+    frame: &[u8],
+    out0: &mut [u8],
+    out1: &mut [u8],
+) -> TagAnswer
+    ensures { λ r. ⌜ SendsInC (now (sender .entry)) (now (frame .entry)) (now (out0 .entry)) (now (out1 .entry)) r (now (sender .exit)) (now (out0 .exit)) (now (out1 .exit)) ⌝ }
+{
+    let s = Sender { next: *sender };
+    let a = sender::send(s, frame, out0, out1);
+    *sender = a.sender.next;
+    tell_sent(a.answer)
+}
+
+// Reset of a sender.
+#[no_mangle]
+pub extern "C" fn nippitsun_reset_sender(sender: &mut u16)
+    ensures { λ _. ⌜ now (sender .exit) ≡ atFirst .next ⌝ }
+{
+    let s = sender::at_first();
+    *sender = s.next;
 }
 
 // ---- the calls on a table

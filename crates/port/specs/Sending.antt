@@ -1,0 +1,33 @@
+-- The sending side for C: how what a send says is told in plain fields. Assumes nothing.
+use Prim.Native.Nat.{ℕ}
+use mathlib.Core.Path.{_≡_}
+use mathlib.Core.List.{List}
+use Rattle.refusal.specs.Checks.{Said}
+use Rattle.refusal.specs.Checks.Said.{refused, answers}
+use Rattle.sender.specs.declared.Sender.{Sender}
+use Rattle.sender.specs.Sender.{Numbered, sendOf}
+use Rattle.port.specs.declared.TagAnswer.{TagAnswer}
+
+-- A send tells the number that the frame got, and the length. A refusal tells its number, and 0 in all other fields.
+abbrev pub tellSent : Said Numbered → TagAnswer
+tellSent (refused n) = record { length = 0; number = 0; refusal = n }
+tellSent (answers a) = record { length = a .length; number = a .number; refusal = 0 }
+
+-- The sender with this next number.
+abbrev pub senderAt : (next : ℕ) → Sender
+senderAt next = record { next = next }
+
+-- The contract of the exported send: what order 6 says of the call is told, and the next number and both outputs are those that
+-- it gives.
+pub record SendsInC (next : ℕ) (f out0 out1 : List ℕ) (told : TagAnswer) (left : ℕ) (bytes0 bytes1 : List ℕ) : Type 0 where
+  pub said : told ≡ tellSent (sendOf (senderAt next) f out0 out1 .said)
+  pub sender : left ≡ sendOf (senderAt next) f out0 out1 .sender .next
+  pub out0 : bytes0 ≡ sendOf (senderAt next) f out0 out1 .out0
+  pub out1 : bytes1 ≡ sendOf (senderAt next) f out0 out1 .out1
+
+-- Nothing is lost: sends that are told alike said the same.
+abbrev pub SentTold : Type 0
+SentTold =
+    (m : ℕ) (f out0 out1 : List ℕ) (n : ℕ) (g back0 back1 : List ℕ)
+    → tellSent (sendOf (senderAt m) f out0 out1 .said) ≡ tellSent (sendOf (senderAt n) g back0 back1 .said)
+    → sendOf (senderAt m) f out0 out1 .said ≡ sendOf (senderAt n) g back0 back1 .said
