@@ -1,2 +1,4 @@
 -- What a send comes to, its laws, and the numbers of what a run sends.
 pub mod Sends
+pub mod Laws
+pub mod Numbers
