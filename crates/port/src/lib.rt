@@ -99,9 +99,10 @@ pub extern "C" fn nippitsun_send(
     ensures { λ r. ⌜ SendsInC (now (sender .entry)) (now (frame .entry)) (now (out0 .entry)) (now (out1 .entry)) r (now (sender .exit)) (now (out0 .exit)) (now (out1 .exit)) ⌝ }
 {
     let s = Sender { next: *sender };
-    let a = sender::send(s, frame, out0, out1);
-    *sender = a.sender.next;
-    tell_sent(a.answer)
+    let r = sender::send(s, frame, out0, out1);
+    *sender = r.sender.next;
+    let a = r.answer;
+    tell_sent(a)
 }
 
 // Reset of a sender.
