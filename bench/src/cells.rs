@@ -1,13 +1,14 @@
 //! What is timed and counted: each cell is the same calls on several sides.
-use crate::record::{State, Stream};
-use crate::{cells_arrivals, cells_batches, plain, proved};
+use crate::cells_arrivals::Sum;
+use crate::record::{State, Stream, TagAnswer};
+use crate::{cells_arrivals, cells_batches, cells_sends, plain, proved};
 
 /// Makes so many calls and gives a sum of what they answered.
 pub type Work = Box<dyn FnMut(u64) -> u64>;
 
 pub struct Cell {
     pub name: String,
-    /// How many decisions, tag calls, arrivals or frames one call is.
+    /// How many decisions, tag calls, sends, arrivals or frames one call is.
     pub each: u64,
     /// The work of each of the group's sides.
     pub works: Vec<Work>,
@@ -75,6 +76,13 @@ impl Room {
     }
 }
 
+impl Sum for TagAnswer {
+    #[inline(always)]
+    fn sum(&self) -> u64 {
+        self.length as u64 + self.number as u64 + self.refusal as u64
+    }
+}
+
 macro_rules! taking {
     ($side:ident, $size:expr, $vlan:expr) => {{
         let mut room = Room::with(&frame($size, $vlan, true));
@@ -83,7 +91,7 @@ macro_rules! taking {
             let mut sum = 0u64;
             for _ in 0..calls {
                 let r = $side::take_tag(hidden(&ring[0][..$size]), out);
-                sum = sum.wrapping_add(r.length as u64 + r.number as u64 + r.refusal as u64);
+                sum = sum.wrapping_add(r.sum());
             }
             sum.wrapping_add(out[$size - 7] as u64)
         })
@@ -98,7 +106,7 @@ macro_rules! writing {
             let mut sum = 0u64;
             for n in 0..calls {
                 let r = $side::write_tag(hidden(&ring[0][..$size]), n as u16, out);
-                sum = sum.wrapping_add(r.length as u64 + r.number as u64 + r.refusal as u64);
+                sum = sum.wrapping_add(r.sum());
             }
             sum.wrapping_add(out[$size + 5] as u64)
         })
@@ -267,12 +275,13 @@ fn decisions() -> Group {
 }
 
 /// The arrivals first: they are the one table.
-pub fn all() -> [Group; 5] {
+pub fn all() -> [Group; 6] {
     [
         cells_arrivals::arrivals(),
         cells_arrivals::windows(),
         cells_batches::batches(),
         tags(),
+        cells_sends::sends(),
         decisions(),
     ]
 }

@@ -270,7 +270,7 @@ pub fn records(mix: Mix) -> Box<Slots<Stream>> {
     Box::new(Slots(std::array::from_fn(|i| record_of(&table.0[i]))))
 }
 
-/// What is summed of an answer, the same for both sides.
+/// What is summed of an answer, the same for all sides.
 pub trait Sum {
     fn sum(&self) -> u64;
 }

@@ -61,7 +61,7 @@ pub fn individual(dice: &mut Dice, frame: &mut [u8]) {
 }
 
 /// A random frame: short, long or too long; with and without 8100 and F1C1, at the places that count and at others.
-fn frame(dice: &mut Dice, pool: &[u8]) -> Vec<u8> {
+pub fn frame(dice: &mut Dice, pool: &[u8]) -> Vec<u8> {
     let length = match dice.below(8) {
         0 => dice.below(26),
         1 => 1988 + dice.below(20),

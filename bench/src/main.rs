@@ -7,9 +7,11 @@
 mod cells;
 mod cells_arrivals;
 mod cells_batches;
+mod cells_sends;
 mod compare;
 mod compare_arrivals;
 mod compare_batches;
+mod compare_sends;
 mod plain;
 mod proved;
 mod record;
@@ -51,6 +53,8 @@ fn compared() -> Result<(), String> {
     let tags = compare::tags(300_000)?;
     let decisions = compare::decisions(300_000, &mut none)?;
     println!("{} tag calls and {} decisions and rows of them on random inputs: answers, records and output bytes equal", tags, decisions);
+    let sends = compare_sends::sends(300_000)?;
+    println!("{} sends of random frames, with resets between: answers, next numbers and the bytes of both outputs equal", sends);
     let arrivals = compare_arrivals::arrivals(400_000)?;
     println!("{} arrivals on random tables, beside two plain arrivals: answers, records and output bytes equal", arrivals);
     let batches = compare_batches::batches(40_000)?;
@@ -102,6 +106,7 @@ fn tables(counts: &str, names: &[&str]) -> Result<(), String> {
         table::windows,
         table::batches,
         table::tags,
+        table::sends,
         table::decisions,
     ]) {
         let mut cells = std::mem::take(&mut group.cells);

@@ -1,9 +1,9 @@
 //! The plain side: the same calls in safe Rust, written from documents 01 and 02 alone. Each is kept a call of its own, as the
-//! archive's are, so that both sides pay for one; tag calls and decisions have C's convention, by which the answer comes back in
-//! registers.
+//! archive's are, so that both sides pay for one; tag calls, sends and decisions have C's convention, by which the answer comes
+//! back in registers.
 use crate::record::{
-    ArrivalAnswer, BatchAnswer, Decided, Stream, TagAnswer, DAMAGED, DUPLICATE, FRAMES_MOST,
-    HANDED_UP, ROGUE,
+    ArrivalAnswer, BatchAnswer, Decided, Sender, Stream, TagAnswer, DAMAGED, DUPLICATE,
+    FRAMES_MOST, HANDED_UP, ROGUE,
 };
 
 const SLOTS_MOST: usize = 64;
@@ -107,6 +107,21 @@ fn written(frame: &[u8], at: usize, number: u16, out: &mut [u8]) -> TagAnswer {
     }
 }
 
+/// Why no tag is put in at this place, or 0. Each output has so much room, or more.
+#[inline(always)]
+fn tag_refusal(frame: &[u8], at: usize, room: usize) -> u8 {
+    if word(frame, at) == TAG {
+        return TAGGED;
+    }
+    if frame[SOURCE] & 1 != 0 {
+        return GROUP;
+    }
+    if room < frame.len() + 6 {
+        return ROOM;
+    }
+    0
+}
+
 #[inline(never)]
 #[allow(improper_ctypes_definitions)]
 pub extern "C" fn write_tag(frame: &[u8], number: u16, out: &mut [u8]) -> TagAnswer {
@@ -117,19 +132,53 @@ pub extern "C" fn write_tag(frame: &[u8], number: u16, out: &mut [u8]) -> TagAns
         Some(at) => at,
         None => return refused(SHORT),
     };
-    if word(frame, at) == TAG {
-        return refused(TAGGED);
-    }
-    if frame[SOURCE] & 1 != 0 {
-        return refused(GROUP);
-    }
-    if out.len() < frame.len() + 6 {
-        return refused(ROOM);
+    let refusal = tag_refusal(frame, at, out.len());
+    if refusal != 0 {
+        return refused(refusal);
     }
     if at == 12 {
         written(frame, 12, number, out)
     } else {
         written(frame, 16, number, out)
+    }
+}
+
+/// The send behind 3 and 4. Both outputs are written from the frame: a copy of the first would read the tag just after it was
+/// written in smaller pieces, and wait.
+#[inline(always)]
+fn sent(
+    sender: &mut Sender,
+    frame: &[u8],
+    at: usize,
+    out0: &mut [u8],
+    out1: &mut [u8],
+) -> TagAnswer {
+    let refusal = tag_refusal(frame, at, out0.len().min(out1.len()));
+    if refusal != 0 {
+        return refused(refusal);
+    }
+    let number = sender.next;
+    sender.next = number.wrapping_add(1);
+    written(frame, at, number, out0);
+    written(frame, at, number, out1)
+}
+
+// With the place as a constant from here on, no check of the frame's bounds is left. This makes the plain side faster.
+#[inline(never)]
+#[allow(improper_ctypes_definitions)]
+pub extern "C" fn send(
+    sender: &mut Sender,
+    frame: &[u8],
+    out0: &mut [u8],
+    out1: &mut [u8],
+) -> TagAnswer {
+    if frame.len() > UNTAGGED_MOST {
+        return refused(LONG);
+    }
+    match type_place(frame) {
+        Some(12) => sent(sender, frame, 12, out0, out1),
+        Some(_) => sent(sender, frame, 16, out0, out1),
+        None => refused(SHORT),
     }
 }
 

@@ -1,6 +1,6 @@
 //! The proved side: the calls of the archives, with nothing added.
 use crate::record::{Decided, Stream};
-pub use nippitsun::archive::{arrival, batch, open, take_tag, tick, write_tag};
+pub use nippitsun::archive::{arrival, batch, open, reset_sender, send, take_tag, tick, write_tag};
 
 mod archive {
     use crate::record::{Decided, Stream};

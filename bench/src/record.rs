@@ -3,7 +3,7 @@ pub use nippitsun::archive::{
     ArrivalAnswer, BatchAnswer, SlotAnswer, TagAnswer, TickAnswer, DUPLICATE, FRAMES_MOST,
     HANDED_UP, ROGUE,
 };
-pub use nippitsun::{Counts, State, Stream};
+pub use nippitsun::{Counts, Sender, State, Stream};
 
 /// A decision's verdict on a damaged record. In an arrival that is a refusal.
 pub const DAMAGED: u8 = 0;
