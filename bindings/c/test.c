@@ -1355,7 +1355,7 @@ int main(void) {
     free(sender);
     for (int n = 1; n <= NIPPITSUN_REFUSED_BATCH; n++) CHECK(refused[n] > 0);
     for (int v = 1; v <= 3; v++) CHECK(verdicts[v] > 0);
-    printf("%u checks of the C calls, %u failed: every verdict, refusals 1 to %d, every field of a record, every number of a sender\n", checks,
-           failures, NIPPITSUN_REFUSED_BATCH);
+    printf("%u checks of the C calls, %u failed: every verdict, refusals 1 to %d, every field of a record, every number sent\n",
+           checks, failures, NIPPITSUN_REFUSED_BATCH);
     return failures != 0;
 }
