@@ -171,7 +171,7 @@ typedef struct nippitsun_tick_answer {
 
 /* Of a tag call, and of a send. */
 typedef struct nippitsun_tag_answer {
-    size_t length;   /* bytes written to the output */
+    size_t length;   /* bytes written to the output; of a send: to each of its two */
     uint16_t number; /* the number in the tag */
     uint8_t refusal;
 } nippitsun_tag_answer;

@@ -67,7 +67,7 @@ pub struct TickAnswer {
 #[repr(C)]
 #[derive(Clone, Copy, Debug, Default, PartialEq, Eq)]
 pub struct TagAnswer {
-    /// Bytes written to the output.
+    /// Bytes written to the output; of a send: to each of its two.
     pub length: usize,
     /// The number in the tag.
     pub number: u16,

@@ -133,10 +133,7 @@ fn refusals_in_their_order() {
             assert_eq!(send(&mut at(77), &frame, rooms), Err(why));
             // With room for all of them, 8 alone is gone.
             let with_room = send(&mut at(77), &frame, [2000, 2001]);
-            assert_eq!(
-                with_room.err(),
-                Some(why).filter(|&why| why != Refusal::Room)
-            );
+            assert_eq!(with_room.err(), (why != Refusal::Room).then_some(why));
         }
     }
 }
@@ -147,7 +144,7 @@ fn lengths() {
     for length in 0..20 {
         let plain = send(&mut Sender::new(), &untagged(length), rooms);
         let vlan = send(&mut Sender::new(), &in_vlan(length), rooms);
-        let short = |least| Some(Refusal::Short).filter(|_| length < least);
+        let short = |least| (length < least).then_some(Refusal::Short);
         assert_eq!((plain.err(), vlan.err()), (short(14), short(18)));
     }
     let longest = untagged(Stream::UNTAGGED_MOST);
@@ -167,7 +164,7 @@ fn both_outputs_have_room_or_neither_is_written() {
         for (more0, more1) in more.into_iter().flat_map(|a| more.map(|b| (a, b))) {
             let sent = send(&mut at(9), &frame, [length + more0, length + more1]);
             let fits = more0 >= tag::LENGTH && more1 >= tag::LENGTH;
-            assert_eq!(sent.err(), Some(Refusal::Room).filter(|_| !fits));
+            assert_eq!(sent.err(), (!fits).then_some(Refusal::Room));
         }
         assert_eq!(send(&mut at(9), &frame, [0, 2000]), Err(Refusal::Room));
         assert_eq!(send(&mut at(9), &frame, [2000, 0]), Err(Refusal::Room));
