@@ -1,34 +1,36 @@
-/* Nippitsun for C and C++: a receiver for frames that arrive on two networks, and the redundancy tag in and out.
+/* Nippitsun for C and C++: a receiver for frames that arrive on two networks, the redundancy tag in and out, and a sender.
  *
- * The calls are the exported functions of the crates `port`, `port_batch` and `port_tick`, proved to do what document 01 says,
- * with orders 1, 3, 4 and 5 of document 02 (order 2 changes no answer). This header is written by hand: bindings/c/test.c holds it
- * to the compiled code, and bindings/check to the sources. C11 or C++11, x86-64; link with libport.a, which is called
- * libnippitsun.a once it is installed (docs/LINKING.md).
+ * The calls are the exported functions of the crates `port` and `port_*`, proved to do what document 01 says, with orders 1, 3,
+ * 4, 5 and 6 of document 02 (order 2 changes no answer). This header is written by hand: bindings/c/test.c holds it to the
+ * compiled code, and bindings/check to the sources. C11 or C++11, x86-64; link with libport.a, which is called libnippitsun.a
+ * once it is installed (docs/LINKING.md).
  *
  * What the caller owes. The proof takes it for granted, and no call can test it:
  *
  * - An area is a pointer and a number of ELEMENTS: records for a table, bytes for a frame, the frames of a batch and an output.
  *   So many are there, and a table is aligned for its records. The pointer may be NULL where the number is 0. The
- *   destination of an open has no number: its six bytes are always there, and its pointer is never NULL.
- * - The areas of one call lie apart: no byte of the table, the frame or frames, the output or the destination belongs to
- *   another.
- * - They are lent for the call alone. No call keeps a pointer, and nobody else reads a table or an output, or writes to any
- *   of the areas, while the call runs.
+ *   destination of an open and a sender have no number: the six bytes, and the one sender, aligned for its field, are always
+ *   there, and their pointers are never NULL.
+ * - The areas of one call lie apart: no byte of the table, the sender, the frame or frames, the output or either of two, or the
+ *   destination belongs to another.
+ * - They are lent for the call alone. No call keeps a pointer, and nobody else reads a table, a sender or an output, or writes
+ *   to any of the areas, while the call runs.
  * - So a table has one caller at a time. Two ports that share a table share a lock too, held for the whole call: the verdict
- *   and its marking are one call, and two calls at once could hand a command up twice.
+ *   and its marking are one call, and two calls at once could hand a command up twice. A sender has one caller at a time too:
+ *   two calls at once could give two commands one number, and the receivers then hand up one of them.
  *
- * Nothing else is asked for. Every value of every argument and every bit pattern of a record is taken, and a call that can't
- * do its work refuses: it answers a number of enum nippitsun_refusal and changes nothing, no record, counter or output byte.
- * Every call ends, allocates nothing and keeps no state of its own. */
+ * Nothing else is asked for. Every value of every argument and every bit pattern of a record or a sender is taken, and a call
+ * that can't do its work refuses: it answers a number of enum nippitsun_refusal and changes nothing, no record, counter, next
+ * number or output byte. Every call ends, allocates nothing and keeps no state of its own. */
 #ifndef NIPPITSUN_H
 #define NIPPITSUN_H
 
 #include <stddef.h>
 #include <stdint.h>
 
-#define NIPPITSUN_VERSION "0.6.0"
+#define NIPPITSUN_VERSION "0.7.0"
 #define NIPPITSUN_VERSION_MAJOR 0
-#define NIPPITSUN_VERSION_MINOR 6
+#define NIPPITSUN_VERSION_MINOR 7
 #define NIPPITSUN_VERSION_PATCH 0
 
 #ifdef __cplusplus
@@ -81,7 +83,7 @@ enum nippitsun_refusal {
     NIPPITSUN_REFUSED_UNTAGGED = 5, /* no F1C1 at the type field */
     NIPPITSUN_REFUSED_UNKNOWN = 6,  /* no slot in use has the key */
     NIPPITSUN_REFUSED_DAMAGED = 7,  /* the record is damaged; for reset: its settings are out of range */
-    NIPPITSUN_REFUSED_ROOM = 8,     /* output too small */
+    NIPPITSUN_REFUSED_ROOM = 8,     /* output too small; for a send: either of the two */
     NIPPITSUN_REFUSED_SETTING = 9,  /* a setting outside the sizes */
     NIPPITSUN_REFUSED_TAKEN = 10,   /* a slot in use has the key */
     NIPPITSUN_REFUSED_FULL = 11,    /* no free slot */
@@ -95,7 +97,7 @@ enum nippitsun_refusal {
  *
  * A table is an array of these, made and kept by the caller. All bytes zero is a table of free slots. The fields may be read
  * between two calls; a caller who writes to them may damage a record, which a call then refuses or a tick then counts. A
- * record has 152 bytes, and each of them belongs to a field; where each field stands is asserted at the end of this file. In
+ * record has 152 bytes, and each of them belongs to a field; where each field stands is asserted at the end of this file. Since
  * 0.6.0 the history has eight words: a record that was kept from an earlier version is not to be lent. */
 
 /* What an arrival and a tick change. */
@@ -169,7 +171,7 @@ typedef struct nippitsun_tick_answer {
 
 /* Of a tag call, and of a send. */
 typedef struct nippitsun_tag_answer {
-    size_t length;   /* bytes written to the output */
+    size_t length;   /* bytes written to the output; of a send: to each of its two */
     uint16_t number; /* the number in the tag */
     uint8_t refusal;
 } nippitsun_tag_answer;
@@ -237,45 +239,50 @@ nippitsun_tag_answer nippitsun_take_tag(const uint8_t *NIPPITSUN_APART frame, si
 nippitsun_tag_answer nippitsun_write_tag(const uint8_t *NIPPITSUN_APART frame, size_t frame_bytes, uint16_t number,
                                          uint8_t *NIPPITSUN_APART out, size_t out_bytes);
 
-/* ---- the sending side (document 02, order 6), with no table */
+/* ---- the sending side (document 02, order 6), with no table
+ *
+ * One sender for each stream: for all frames to one destination and VLAN id, and for no others. A receiver follows the numbers
+ * of each such key by themselves. No call here looks at the key. */
 
-/* A sender stream. All bytes zero is a sender at first. Every value is a sender, so that no call refuses one. */
+/* A sender stream, made and kept by the caller. All bytes zero is a sender at first. Every value is a sender: no call refuses
+ * one. */
 typedef struct nippitsun_sender {
     uint16_t next; /* the number that the next frame gets: 0 at first and after a reset, and 0 again after 65535 */
 } nippitsun_sender;
 
-/* Sends a frame that has no tag: puts a tag with the sender's next number into it, and writes the same tagged frame to the
- * start of both outputs, one for each network, or to neither; the bytes after it keep their values. `next` then rises by 1,
- * and 65535 is followed by 0. The answer tells the number that the frame got, and the length of the tagged frame.
- * Refusals 3 (above NIPPITSUN_UNTAGGED_MOST), 4, 13, 14, 8: then no byte of either output has changed and no number is used
- * up. 8 is given if either output holds fewer than frame_bytes + 6 bytes; NIPPITSUN_FRAME_MOST bytes are always enough, and the
- * two need not be of the same length. The sender, the frame and both outputs lie apart. So a sender has one caller at a time,
- * as a table has. */
+/* Makes a pair of a frame that has no tag: puts a tag with the sender's next number into it, and writes the same tagged frame to
+ * the start of both outputs, or to neither; the bytes after it keep their values. The caller then sends one on each network.
+ * `next` rises by 1, and 65535 is followed by 0. The answer tells the number that the frame got, and the length of the tagged
+ * frame.
+ * Refusals 3 (above NIPPITSUN_UNTAGGED_MOST), 4, 13, 14, 8, as of nippitsun_write_tag: then no byte of either output has changed,
+ * and no number is used up. 8 is given if either output holds fewer than frame_bytes + 6 bytes. The two may differ in length, and
+ * NIPPITSUN_FRAME_MOST bytes are always enough. */
 nippitsun_tag_answer nippitsun_send(nippitsun_sender *NIPPITSUN_APART sender, const uint8_t *NIPPITSUN_APART frame,
                                     size_t frame_bytes, uint8_t *NIPPITSUN_APART out0, size_t out0_bytes,
                                     uint8_t *NIPPITSUN_APART out1, size_t out1_bytes);
 
-/* Resets a sender: its next number is 0, as at first. The receivers take the new count once their streams have been reset, by
- * R ticks with nothing handed up or by call; until then what it sends may count as duplicates and rogues. */
+/* Resets a sender: its next number is 0, as at first. It answers nothing, since there is nothing to refuse. To the receivers it
+ * is as if the sender's program started anew: they follow the new numbers once their streams are reset, by R ticks with nothing
+ * handed up or by call. Until then they may take what is sent for duplicates or rogues, which are not handed up. */
 void nippitsun_reset_sender(nippitsun_sender *sender);
 
-/* ---- the layout, as the crates record, calls, batch, port and port_tick have it */
+/* ---- the layout, as the crates record, calls, batch, port, port_tick and sender have it */
 
-#define NIPPITSUN_TYPE(type, size) \
-    NIPPITSUN_ASSERT(sizeof(type) == (size) && NIPPITSUN_ALIGNOF(type) == 8, "layout of " #type)
+#define NIPPITSUN_TYPE(type, size, aligned) \
+    NIPPITSUN_ASSERT(sizeof(type) == (size) && NIPPITSUN_ALIGNOF(type) == (aligned), "layout of " #type)
 #define NIPPITSUN_FIELD(type, field, at, size) \
     NIPPITSUN_ASSERT(offsetof(type, field) == (at) && sizeof(((type *)0)->field) == (size), "layout of " #type ", " #field)
 
-NIPPITSUN_TYPE(size_t, 8);
+NIPPITSUN_TYPE(size_t, 8, 8);
 
-NIPPITSUN_TYPE(nippitsun_state, 72);
+NIPPITSUN_TYPE(nippitsun_state, 72, 8);
 NIPPITSUN_FIELD(nippitsun_state, history, 0, 64);
 NIPPITSUN_FIELD(nippitsun_state, anchor, 64, 2);
 NIPPITSUN_FIELD(nippitsun_state, remaining, 66, 2);
 NIPPITSUN_FIELD(nippitsun_state, early, 68, 2);
 NIPPITSUN_FIELD(nippitsun_state, any, 70, 2);
 
-NIPPITSUN_TYPE(nippitsun_counts, 64);
+NIPPITSUN_TYPE(nippitsun_counts, 64, 8);
 NIPPITSUN_FIELD(nippitsun_counts, arrivals0, 0, 8);
 NIPPITSUN_FIELD(nippitsun_counts, arrivals1, 8, 8);
 NIPPITSUN_FIELD(nippitsun_counts, passed, 16, 8);
@@ -285,7 +292,7 @@ NIPPITSUN_FIELD(nippitsun_counts, disorder, 40, 8);
 NIPPITSUN_FIELD(nippitsun_counts, lost, 48, 8);
 NIPPITSUN_FIELD(nippitsun_counts, resets, 56, 8);
 
-NIPPITSUN_TYPE(nippitsun_stream, 152);
+NIPPITSUN_TYPE(nippitsun_stream, 152, 8);
 NIPPITSUN_FIELD(nippitsun_stream, dest, 0, 8);
 NIPPITSUN_FIELD(nippitsun_stream, vlan, 8, 2);
 NIPPITSUN_FIELD(nippitsun_stream, window, 10, 2);
@@ -295,33 +302,33 @@ NIPPITSUN_FIELD(nippitsun_stream, used, 15, 1);
 NIPPITSUN_FIELD(nippitsun_stream, state, 16, 72);
 NIPPITSUN_FIELD(nippitsun_stream, counts, 88, 64);
 
-NIPPITSUN_TYPE(nippitsun_arrival_answer, 24);
+NIPPITSUN_TYPE(nippitsun_arrival_answer, 24, 8);
 NIPPITSUN_FIELD(nippitsun_arrival_answer, slot, 0, 8);
 NIPPITSUN_FIELD(nippitsun_arrival_answer, length, 8, 8);
 NIPPITSUN_FIELD(nippitsun_arrival_answer, number, 16, 2);
 NIPPITSUN_FIELD(nippitsun_arrival_answer, verdict, 18, 1);
 NIPPITSUN_FIELD(nippitsun_arrival_answer, refusal, 19, 1);
 
-NIPPITSUN_TYPE(nippitsun_batch_answer, 784);
+NIPPITSUN_TYPE(nippitsun_batch_answer, 784, 8);
 NIPPITSUN_FIELD(nippitsun_batch_answer, answers, 0, 768);
 NIPPITSUN_FIELD(nippitsun_batch_answer, frames, 768, 8);
 NIPPITSUN_FIELD(nippitsun_batch_answer, refusal, 776, 1);
 
-NIPPITSUN_TYPE(nippitsun_slot_answer, 16);
+NIPPITSUN_TYPE(nippitsun_slot_answer, 16, 8);
 NIPPITSUN_FIELD(nippitsun_slot_answer, slot, 0, 8);
 NIPPITSUN_FIELD(nippitsun_slot_answer, refusal, 8, 1);
 
-NIPPITSUN_TYPE(nippitsun_tick_answer, 24);
+NIPPITSUN_TYPE(nippitsun_tick_answer, 24, 8);
 NIPPITSUN_FIELD(nippitsun_tick_answer, resets, 0, 8);
 NIPPITSUN_FIELD(nippitsun_tick_answer, damaged, 8, 8);
 NIPPITSUN_FIELD(nippitsun_tick_answer, refusal, 16, 1);
 
-NIPPITSUN_TYPE(nippitsun_tag_answer, 16);
+NIPPITSUN_TYPE(nippitsun_tag_answer, 16, 8);
 NIPPITSUN_FIELD(nippitsun_tag_answer, length, 0, 8);
 NIPPITSUN_FIELD(nippitsun_tag_answer, number, 8, 2);
 NIPPITSUN_FIELD(nippitsun_tag_answer, refusal, 10, 1);
 
-NIPPITSUN_ASSERT(sizeof(nippitsun_sender) == 2 && NIPPITSUN_ALIGNOF(nippitsun_sender) == 2, "layout of nippitsun_sender");
+NIPPITSUN_TYPE(nippitsun_sender, 2, 2);
 NIPPITSUN_FIELD(nippitsun_sender, next, 0, 2);
 
 #undef NIPPITSUN_TYPE

@@ -1,6 +1,6 @@
 /* Holds nippitsun.h to the compiled calls: every function, verdict and refusal number, and every field of a record in both
- * directions. A refused call must leave every byte of table and output as it was, and answer 0 but for the number. A batch must
- * do what single arrivals in turn do.
+ * directions. A refused call must leave every byte of table, sender and outputs as it was, and answer 0 but for the number. A
+ * batch must do what single arrivals in turn do, and a send what the tag writer does.
  *
  * All areas are blocks of the heap of their exact size, so that bindings/c/memcheck sees an access behind their end. */
 #include "nippitsun.h"
@@ -27,8 +27,9 @@ static void check(int holds, const char *what, int line) {
 /* ---- the areas, and a copy of each from before the call */
 
 static nippitsun_stream *table, *table_before;
-static uint8_t *out, *out_before;
-static size_t slots, room;
+static nippitsun_sender *sender, sender_before;
+static uint8_t *out, *out_before, *twin, *twin_before; /* the twin is a send's second output */
+static size_t slots, room, twin_room;
 
 static void *block(size_t bytes) { return bytes ? malloc(bytes) : NULL; }
 
@@ -53,23 +54,45 @@ static void make_table(size_t n) {
     for (size_t i = 0; i < n; i++) table[i].used = 0;
 }
 
-static void make_out(size_t n) {
-    free(out);
-    free(out_before);
-    room = n;
-    out = block(n);
-    out_before = block(n);
-    fill(out, n, 201);
+static void make_area(uint8_t **area, uint8_t **before, size_t n, unsigned from) {
+    free(*area);
+    free(*before);
+    *area = block(n);
+    *before = block(n);
+    fill(*area, n, from);
+}
+
+static void make_out(size_t n) { make_area(&out, &out_before, room = n, 201); }
+static void make_twin(size_t n) { make_area(&twin, &twin_before, twin_room = n, 77); }
+
+static void make_outs(size_t n, size_t twin_n) {
+    make_out(n);
+    make_twin(twin_n);
+}
+
+/* A sender at first: all bytes zero. */
+static void make_sender(void) {
+    static const nippitsun_sender first;
+    free(sender);
+    sender = block(sizeof *sender);
+    copy(sender, &first, sizeof first);
 }
 
 static void begin(void) {
     copy(table_before, table, slots * sizeof *table);
+    sender_before = *sender;
     copy(out_before, out, room);
+    copy(twin_before, twin, twin_room);
 }
 
 static int table_same(void) { return equal(table, table_before, slots * sizeof *table); }
 
-static int out_same_from(size_t from) { return from == room || equal(out + from, out_before + from, room - from); }
+static int same_from(size_t from, const uint8_t *area, const uint8_t *before, size_t n) {
+    return from == n || equal(area + from, before + from, n - from);
+}
+
+static int out_same_from(size_t from) { return same_from(from, out, out_before, room); }
+static int twin_same_from(size_t from) { return same_from(from, twin, twin_before, twin_room); }
 
 static int others_same(size_t slot) {
     for (size_t i = 0; i < slots; i++)
@@ -83,7 +106,7 @@ static unsigned refused[256], verdicts[256];
 
 static void end(uint8_t refusal) {
     refused[refusal]++;
-    if (refusal) CHECK(table_same() && out_same_from(0));
+    if (refusal) CHECK(table_same() && sender->next == sender_before.next && out_same_from(0) && twin_same_from(0));
 }
 
 static nippitsun_arrival_answer arrive(uint8_t network, const uint8_t *frame, size_t n) {
@@ -162,6 +185,30 @@ static nippitsun_tag_answer written(const uint8_t *frame, size_t n, uint16_t num
     if (a.refusal) CHECK(a.length == 0 && a.number == 0);
     free(f);
     return a;
+}
+
+/* Order 6 with the tag writer: it has the next number and as much room as the smaller output, and what it writes stands in
+ * both. */
+static nippitsun_tag_answer sent(const uint8_t *frame, size_t n) {
+    uint8_t *f = block(n);
+    copy(f, frame, n);
+    begin();
+    nippitsun_tag_answer a = nippitsun_send(sender, f, n, out, room, twin, twin_room);
+    end(a.refusal);
+    CHECK(equal(f, frame, n) && table_same());
+    nippitsun_tag_answer want = nippitsun_write_tag(f, n, sender_before.next, out_before, room < twin_room ? room : twin_room);
+    copy(twin_before, out_before, want.length);
+    CHECK(a.length == want.length && a.number == want.number && a.refusal == want.refusal);
+    CHECK(out_same_from(0) && twin_same_from(0));
+    CHECK(sender->next == (want.refusal ? sender_before.next : (sender_before.next + 1) % 65536));
+    free(f);
+    return a;
+}
+
+static void sender_reset(void) {
+    begin();
+    nippitsun_reset_sender(sender);
+    CHECK(sender->next == 0 && table_same() && out_same_from(0) && twin_same_from(0));
 }
 
 /* ---- records, field by field */
@@ -252,6 +299,13 @@ static const uint8_t *untagged(size_t n) {
 /* The frame just made, with this first byte of its source. It is a group's if the byte is odd; those made above are even. */
 static const uint8_t *from(uint8_t first, const uint8_t *made) {
     frame_bytes[6] = first;
+    return made;
+}
+
+/* The frame just made, with this type in the two bytes at this place. */
+static const uint8_t *typed(size_t at, unsigned type, const uint8_t *made) {
+    frame_bytes[at] = (uint8_t)(type >> 8);
+    frame_bytes[at + 1] = (uint8_t)type;
     return made;
 }
 
@@ -825,7 +879,7 @@ static void refusals(void) {
 static void sources(void) {
     static const uint8_t group[6] = {0x01, 0x00, 0x5E, 0x00, 0x00, 0x07};
     make_table(2);
-    make_out(100);
+    make_outs(100, 100);
     for (unsigned first = 0; first < 256; first++) {
         unsigned refusal = first % 2 ? NIPPITSUN_REFUSED_GROUP : NIPPITSUN_REFUSED_NOT;
         table[0] = table[1] = running();
@@ -833,6 +887,7 @@ static void sources(void) {
         CHECK(arrive(0, from((uint8_t)first, tagged(60, 0, 101)), 60).refusal == refusal);
         CHECK(arrive(1, from((uint8_t)first, tagged(60, 5, 101)), 60).refusal == refusal);
         CHECK(written(from((uint8_t)first, untagged(60)), 60, 1).refusal == refusal);
+        CHECK(sent(from((uint8_t)first, untagged(60)), 60).refusal == refusal);
         CHECK(taken(from((uint8_t)first, tagged(60, 0, 7)), 60).number == 7 && out[6] == first);
     }
     make_table(1);
@@ -1012,9 +1067,207 @@ static void batches_in_turn(void) {
     CHECK(ended > 300 && whole > 300);
 }
 
+/* ---- the sending side (document 02, order 6) */
+
+/* Is the output the frame with a tag of this number at this place, and does the twin begin as it does? */
+static int with_tag(size_t n, size_t at, uint16_t number) {
+    const uint8_t tag[6] = {0xF1, 0xC1, 0, 0, (uint8_t)(number >> 8), (uint8_t)number};
+    return equal(out, frame_bytes, at) && equal(out + at, tag, 6) && equal(out + at + 6, frame_bytes + at, n - at)
+        && equal(twin, out, n + 6);
+}
+
+/* What is sent: every byte of both outputs, the number and the length. */
+static void sends(void) {
+    make_table(0);
+    make_sender();
+    CHECK(sender->next == 0);
+    make_outs(100, 70);
+    nippitsun_tag_answer a = sent(untagged(60), 60);
+    CHECK(a.refusal == 0 && a.number == 0 && a.length == 66 && with_tag(60, 12, 0) && sender->next == 1);
+    a = sent(untagged(61), 61);
+    CHECK(a.refusal == 0 && a.number == 1 && a.length == 67 && with_tag(61, 12, 1) && sender->next == 2);
+
+    /* Behind a VLAN tag, whatever type follows it. The number has its high byte first. */
+    sender->next = 0xABCD;
+    a = sent(typed(12, 0x8100, untagged(60)), 60);
+    CHECK(a.number == 0xABCD && a.length == 66 && with_tag(60, 16, 0xABCD) && sender->next == 0xABCE);
+    a = sent(typed(16, 0x8100, typed(12, 0x8100, untagged(60))), 60);
+    CHECK(a.number == 0xABCE && with_tag(60, 16, 0xABCE));
+    /* F1C1 that is not at the type field is no tag. */
+    a = sent(typed(16, 0xF1C1, untagged(60)), 60);
+    CHECK(a.number == 0xABCF && with_tag(60, 12, 0xABCF));
+    a = sent(typed(20, 0xF1C1, typed(12, 0x8100, untagged(60))), 60);
+    CHECK(a.number == 0xABD0 && with_tag(60, 16, 0xABD0));
+
+    /* The number is 0 again after 65535. */
+    sender->next = 65535;
+    a = sent(untagged(60), 60);
+    CHECK(a.number == 65535 && with_tag(60, 12, 65535) && sender->next == 0);
+    a = sent(untagged(60), 60);
+    CHECK(a.number == 0 && with_tag(60, 12, 0) && sender->next == 1);
+
+    /* A reset, whatever the next number is, and also where it is 0. */
+    static const uint16_t next[] = {1, 2, 255, 256, 0x8000, 65535, 0};
+    for (size_t i = 0; i < sizeof next / sizeof *next; i++) {
+        sender->next = next[i];
+        sender_reset();
+        CHECK(sent(untagged(60), 60).number == 0 && with_tag(60, 12, 0));
+    }
+
+    /* The longest and the shortest frames, into outputs that just hold them. */
+    make_outs(NIPPITSUN_FRAME_MOST, NIPPITSUN_FRAME_MOST);
+    a = sent(untagged(NIPPITSUN_UNTAGGED_MOST), NIPPITSUN_UNTAGGED_MOST);
+    CHECK(a.refusal == 0 && a.number == 1 && a.length == 2000 && with_tag(1994, 12, 1));
+    make_outs(20, 20);
+    a = sent(untagged(14), 14);
+    CHECK(a.refusal == 0 && a.number == 2 && a.length == 20 && with_tag(14, 12, 2));
+    make_outs(24, 24);
+    a = sent(typed(12, 0x8100, untagged(18)), 18);
+    CHECK(a.refusal == 0 && a.number == 3 && a.length == 24 && with_tag(18, 16, 3));
+
+    /* Frame and outputs in one block, at odd addresses: the bytes around them keep their values too. */
+    make_outs(300, 300);
+    copy(out + 51, untagged(60), 60);
+    copy(twin, out, 300);
+    a = nippitsun_send(sender, out + 51, 60, out + 115, 67, out + 187, 68);
+    CHECK(a.refusal == 0 && a.number == 4 && a.length == 66 && sender->next == 5);
+    CHECK(nippitsun_write_tag(frame_bytes, 60, 4, twin + 115, 67).length == 66);
+    CHECK(nippitsun_write_tag(frame_bytes, 60, 4, twin + 187, 68).length == 66);
+    CHECK(equal(out, twin, 300));
+}
+
+/* Refusals 3, 4, 13, 14, 8. What sent() checks of each: no output byte has changed, and no number is used up. */
+static void refused_sends(void) {
+    make_table(0);
+    make_sender();
+    sender->next = 77;
+
+    /* Each with all the later ones wrong too, whichever output is too small. */
+    static const size_t small[][2] = {{0, 0}, {0, 2000}, {2000, 0}, {1, 65}, {65, 66}, {66, 65}};
+    for (size_t i = 0; i < sizeof small / sizeof *small; i++) {
+        make_outs(small[i][0], small[i][1]);
+        CHECK(sent(from(1, tagged(2100, 0, 1)), 2100).refusal == NIPPITSUN_REFUSED_LONG);
+        CHECK(sent(from(1, tagged(1995, 0, 1)), 1995).refusal == NIPPITSUN_REFUSED_LONG);
+        CHECK(sent(from(1, tagged(1995, 5, 1)), 1995).refusal == NIPPITSUN_REFUSED_LONG);
+        CHECK(sent(from(1, tagged(13, 0, 1)), 13).refusal == NIPPITSUN_REFUSED_SHORT);
+        CHECK(sent(from(1, tagged(17, 5, 1)), 17).refusal == NIPPITSUN_REFUSED_SHORT);
+        CHECK(sent(from(1, tagged(14, 0, 1)), 14).refusal == NIPPITSUN_REFUSED_TAGGED);
+        CHECK(sent(from(1, tagged(18, 5, 1)), 18).refusal == NIPPITSUN_REFUSED_TAGGED);
+        CHECK(sent(from(1, tagged(1994, 0, 1)), 1994).refusal == NIPPITSUN_REFUSED_TAGGED);
+        CHECK(sent(from(1, untagged(60)), 60).refusal == NIPPITSUN_REFUSED_GROUP);
+        CHECK(sent(from(0xFF, typed(12, 0x8100, untagged(60))), 60).refusal == NIPPITSUN_REFUSED_GROUP);
+        CHECK(sent(untagged(60), 60).refusal == NIPPITSUN_REFUSED_ROOM);
+        CHECK(sent(typed(12, 0x8100, untagged(60)), 60).refusal == NIPPITSUN_REFUSED_ROOM);
+        CHECK(sender->next == 77);
+    }
+
+    /* So they are with room. The rules of 14 and of 18 bytes: a frame behind a VLAN tag has its type at 16. */
+    make_outs(NIPPITSUN_FRAME_MOST, NIPPITSUN_FRAME_MOST + 1);
+    CHECK(sent(untagged(1995), 1995).refusal == NIPPITSUN_REFUSED_LONG);
+    CHECK(sent(tagged(60, 0, 1), 60).refusal == NIPPITSUN_REFUSED_TAGGED);
+    CHECK(sent(tagged(60, 5, 1), 60).refusal == NIPPITSUN_REFUSED_TAGGED);
+    CHECK(sent(from(1, untagged(60)), 60).refusal == NIPPITSUN_REFUSED_GROUP);
+    CHECK(sender->next == 77);
+    for (size_t n = 0; n < 20; n++) {
+        CHECK(sent(untagged(n), n).refusal == (n < 14 ? NIPPITSUN_REFUSED_SHORT : NIPPITSUN_REFUSED_NOT));
+        CHECK(sent(typed(12, 0x8100, untagged(n)), n).refusal == (n < 18 ? NIPPITSUN_REFUSED_SHORT : NIPPITSUN_REFUSED_NOT));
+    }
+    CHECK(sender->next == 77 + 6 + 2);
+
+    /* Room for the frame and six bytes more, in both. */
+    static const size_t sizes[] = {14, 60, 300, 1994};
+    static const size_t rooms[] = {0, 1, 5, 6, 7, 50};
+    for (size_t i = 0; i < sizeof sizes / sizeof *sizes; i++)
+        for (size_t j = 0; j < 36; j++) {
+            size_t n = sizes[i], more = rooms[j % 6], twin_more = rooms[j / 6];
+            make_outs(n + more, n + twin_more);
+            int fits = more >= NIPPITSUN_TAG_LENGTH && twin_more >= NIPPITSUN_TAG_LENGTH;
+            CHECK(sent(untagged(n), n).refusal == (fits ? NIPPITSUN_REFUSED_NOT : NIPPITSUN_REFUSED_ROOM));
+        }
+
+    /* Refused frames between two that are sent. */
+    make_sender();
+    make_outs(100, 66);
+    CHECK(sent(untagged(60), 60).number == 0);
+    CHECK(sent(untagged(1995), 1995).refusal == NIPPITSUN_REFUSED_LONG);
+    CHECK(sent(untagged(13), 13).refusal == NIPPITSUN_REFUSED_SHORT);
+    CHECK(sent(tagged(60, 0, 1), 60).refusal == NIPPITSUN_REFUSED_TAGGED);
+    CHECK(sent(from(1, untagged(60)), 60).refusal == NIPPITSUN_REFUSED_GROUP);
+    CHECK(sent(untagged(61), 61).refusal == NIPPITSUN_REFUSED_ROOM);
+    nippitsun_tag_answer a = sent(untagged(60), 60);
+    CHECK(a.refusal == 0 && a.number == 1 && with_tag(60, 12, 1));
+    /* At the wrap too. */
+    sender->next = 65535;
+    CHECK(sent(untagged(61), 61).refusal == NIPPITSUN_REFUSED_ROOM);
+    CHECK(sent(untagged(60), 60).number == 65535);
+    CHECK(sent(untagged(61), 61).refusal == NIPPITSUN_REFUSED_ROOM);
+    CHECK(sent(untagged(60), 60).number == 0);
+}
+
+/* Sends of all kinds, each held to the tag writer by sent(). Without a reset a frame carries how many were sent before it,
+ * modulo 65536. */
+static void sends_in_turn(void) {
+    static const size_t lengths[] = {0, 13, 14, 17, 18, 60, 300, 1994, 1995};
+    unsigned refusals = 0, index = 0;
+    make_table(0);
+    make_sender();
+    for (size_t i = 0; i < 3000; i++) {
+        size_t n = lengths[below(9)];
+        make_outs(n + 4 + below(40), n + 4 + below(40));
+        untagged(n);
+        if (below(3) == 0) typed(12, 0x8100, frame_bytes);
+        if (below(8) == 0) typed(below(2) ? 12 : 16, 0xF1C1, frame_bytes);
+        if (below(8) == 0) from(1, frame_bytes);
+        nippitsun_tag_answer a = sent(frame_bytes, n);
+        if (a.refusal) refusals++;
+        else CHECK(a.number == index++);
+    }
+    CHECK(refusals > 300 && index > 300);
+    make_outs(20, 20);
+    for (; index < 2 * 65536 + 2; index++) CHECK(sent(untagged(14), 14).number == index % 65536);
+    CHECK(sender->next == 2);
+    sender_reset();
+    CHECK(sent(untagged(14), 14).number == 0);
+}
+
+/* What is sent is taken apart again, and a receiver hands each up once, from the network where it comes first. */
+static void sent_and_received(void) {
+    enum { n = 60 };
+    uint8_t on_network[2][n + NIPPITSUN_TAG_LENGTH];
+    make_table(1);
+    make_sender();
+    make_outs(100, 90);
+    CHECK(opened(untagged(n), 0, NIPPITSUN_RULE_VECTOR, 4, 3).refusal == 0);
+    sender->next = 65000;
+    for (unsigned i = 0; i < 1000; i++) {
+        uint16_t number = (uint16_t)(65000 + i);
+        nippitsun_tag_answer a = sent(untagged(n), n);
+        CHECK(a.number == number);
+        copy(on_network[0], out, a.length);
+        copy(on_network[1], twin, a.length);
+        nippitsun_tag_answer t = taken(on_network[i % 2], a.length);
+        CHECK(t.refusal == 0 && t.number == number && t.length == n && equal(out, frame_bytes, n));
+        nippitsun_arrival_answer u = arrive(i % 2, on_network[i % 2], a.length);
+        CHECK(u.verdict == NIPPITSUN_VERDICT_HANDED_UP && u.number == number && u.length == n && equal(out, frame_bytes, n));
+        u = arrive(1 - i % 2, on_network[1 - i % 2], a.length);
+        CHECK(u.verdict == NIPPITSUN_VERDICT_DUPLICATE && u.number == number);
+    }
+    nippitsun_counts counts = table[0].counts;
+    CHECK(counts.passed == 1000 && counts.discarded == 1000 && counts.rogue == 0 && counts.disorder == 0 && counts.lost == 0);
+
+    /* The stream stands at 463. A sender that is reset is a rogue to it, until R ticks have passed with nothing handed up. */
+    sender_reset();
+    nippitsun_tag_answer a = sent(untagged(n), n);
+    copy(on_network[0], out, a.length);
+    CHECK(a.number == 0 && arrive(0, on_network[0], a.length).verdict == NIPPITSUN_VERDICT_ROGUE);
+    CHECK(ticked().resets == 0 && ticked().resets == 0 && ticked().resets == 1);
+    CHECK(arrive(0, on_network[0], a.length).verdict == NIPPITSUN_VERDICT_HANDED_UP);
+}
+
 /* 1 comes before anything else: a table of more than 64 slots is refused and not read, and an open's settings and a batch's
- * network, count and lengths are refused before the table is read, the first two before the frames are. No contract can say
- * that, so here the table lies where a read or a store ends this program, and so do these frames. */
+ * network, count and lengths are refused before the table is read, the first two before the frames are. And where one of a send's
+ * outputs is too small the other is not touched. No contract can say that, so here the table lies where a read or a store ends
+ * this program, and so do these frames and this output. */
 static void unread(void) {
     enum { no_access = 0, own_and_blank = 0x22 }; /* PROT_NONE; MAP_PRIVATE and MAP_ANONYMOUS, on Linux */
     static const size_t lengths[] = {65, 65 * sizeof(nippitsun_stream), 4160000, SIZE_MAX / sizeof(nippitsun_stream)};
@@ -1036,13 +1289,19 @@ static void unread(void) {
     CHECK(nippitsun_batch(t, 64, 0, 1, (uint8_t[]){0, 9}, 2, out, room).refusal == NIPPITSUN_REFUSED_BATCH);
     CHECK(nippitsun_batch(t, 64, 0, 0, frames, 65536, out, room).refusal == NIPPITSUN_REFUSED_NOT);
     CHECK(nippitsun_open(t, 64, running_dest, 0, 3, 4, 3).refusal == NIPPITSUN_REFUSED_SETTING);
+    uint8_t *output = mmap(NULL, 65536, no_access, own_and_blank, -1, 0);
+    CHECK(output != (void *)-1);
+    make_sender();
+    make_out(65);
+    CHECK(nippitsun_send(sender, untagged(60), 60, output, 65536, out, room).refusal == NIPPITSUN_REFUSED_ROOM);
+    CHECK(nippitsun_send(sender, untagged(60), 60, out, room, output, 65536).refusal == NIPPITSUN_REFUSED_ROOM);
 }
 
 /* NULL with length 0, for each area of each call. */
 static void nothing(void) {
     make_table(0);
-    make_out(0);
-    CHECK(table == NULL && out == NULL);
+    make_outs(0, 0);
+    CHECK(table == NULL && out == NULL && twin == NULL);
     CHECK(arrive(0, NULL, 0).refusal == NIPPITSUN_REFUSED_SHORT);
     CHECK(arrive(0, tagged(60, 0, 1), 60).refusal == NIPPITSUN_REFUSED_UNKNOWN);
     CHECK(opened(running_dest, 0, 1, 4, 3).refusal == NIPPITSUN_REFUSED_FULL);
@@ -1054,6 +1313,13 @@ static void nothing(void) {
     CHECK(taken(tagged(60, 0, 1), 60).refusal == NIPPITSUN_REFUSED_ROOM);
     CHECK(written(NULL, 0, 1).refusal == NIPPITSUN_REFUSED_SHORT);
     CHECK(written(untagged(60), 60, 1).refusal == NIPPITSUN_REFUSED_ROOM);
+    CHECK(sent(NULL, 0).refusal == NIPPITSUN_REFUSED_SHORT);
+    CHECK(sent(untagged(60), 60).refusal == NIPPITSUN_REFUSED_ROOM);
+    make_twin(66);
+    CHECK(sent(untagged(60), 60).refusal == NIPPITSUN_REFUSED_ROOM);
+    make_outs(66, 0);
+    CHECK(sent(untagged(60), 60).refusal == NIPPITSUN_REFUSED_ROOM);
+    make_out(0);
     CHECK(batched_from(0, 0, NULL, 0).refusal == NIPPITSUN_REFUSED_NOT);
     CHECK(batched_from(0, 1, NULL, 0).refusal == NIPPITSUN_REFUSED_BATCH);
     pack_none();
@@ -1066,6 +1332,7 @@ static void nothing(void) {
 }
 
 int main(void) {
+    make_sender();
     arrivals();
     starts();
     places();
@@ -1077,13 +1344,18 @@ int main(void) {
     sources();
     batches();
     batches_in_turn();
+    sends();
+    refused_sends();
+    sends_in_turn();
+    sent_and_received();
     unread();
     nothing();
     make_table(0);
-    make_out(0);
+    make_outs(0, 0);
+    free(sender);
     for (int n = 1; n <= NIPPITSUN_REFUSED_BATCH; n++) CHECK(refused[n] > 0);
     for (int v = 1; v <= 3; v++) CHECK(verdicts[v] > 0);
-    printf("%u checks of the C calls, %u failed: every verdict, refusals 1 to %d, every field of a record\n", checks, failures,
-           NIPPITSUN_REFUSED_BATCH);
+    printf("%u checks of the C calls, %u failed: every verdict, refusals 1 to %d, every field of a record, every number sent\n",
+           checks, failures, NIPPITSUN_REFUSED_BATCH);
     return failures != 0;
 }

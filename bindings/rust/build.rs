@@ -1,6 +1,5 @@
-// Links the archive of the proved crates `port`, `port_batch` and `port_tick`. In the repository tools/archive makes it:
-// target/native/libport.a. Where tools/install put this crate, it stands in the same prefix: lib/libnippitsun.a.
-// NIPPITSUN_ARCHIVES names another folder.
+// Links the archive of the proved crates `port` and `port_*`. In the repository tools/archive makes it: target/native/libport.a.
+// Where tools/install put this crate, it stands in the same prefix: lib/libnippitsun.a. NIPPITSUN_ARCHIVES names another folder.
 use std::env;
 use std::path::PathBuf;
 

@@ -1,6 +1,7 @@
-//! A controller's receiver in short: one stream, a command that comes on both networks, and a tick.
+//! A sender and a controller's receiver in short: one stream, a command that is sent on both networks and comes on both, and a
+//! tick.
 
-use nippitsun::{Receiver, Refusal, Settings, Stream, Verdict};
+use nippitsun::{Receiver, Refusal, Sender, Settings, Stream, Verdict};
 
 fn receive(receiver: &mut Receiver, network: u8, frame: &[u8]) {
     let mut out = [0; Stream::FRAME_MOST];
@@ -31,12 +32,21 @@ fn main() -> Result<(), Refusal> {
         time: 3,
     })?;
 
-    let frame = [
-        2, 0, 0, 0, 0, 1, 2, 0, 0, 0, 0, 2, 0xF1, 0xC1, 0, 0, 0, 7, 0x08, 0x00, 0xAB,
-    ];
-    receive(&mut receiver, 0, &frame);
-    receive(&mut receiver, 1, &frame);
-    receive(&mut receiver, 1, &frame[..19]);
+    // The command as an ordinary frame, with no tag: destination, source, type, and what to do.
+    let frame = [2, 0, 0, 0, 0, 1, 2, 0, 0, 0, 0, 2, 0x08, 0x00, 0xAB];
+    // What goes out on network 0 and on network 1.
+    let (mut out0, mut out1) = ([0; Stream::FRAME_MOST], [0; Stream::FRAME_MOST]);
+    let mut sender = Sender::new();
+    let sent = sender.send(&frame, &mut out0, &mut out1)?;
+    println!(
+        "number {} sent, {} bytes on each network",
+        sent.number, sent.length
+    );
+
+    receive(&mut receiver, 0, &out0[..sent.length]);
+    receive(&mut receiver, 1, &out1[..sent.length]);
+    // Cut short on its way.
+    receive(&mut receiver, 1, &out1[..19]);
 
     // Once in each tick period, whether frames come or not.
     let ticked = receiver.tick()?;

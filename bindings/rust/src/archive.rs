@@ -1,11 +1,12 @@
 //! The calls of the archive as they are: a table is a slice that the caller lends, and an answer has plain numbers.
 //!
-//! [`Receiver`](crate::Receiver) and [`tag`](crate::tag) say the same with Rust's own types, and are what a program needs.
+//! [`Receiver`](crate::Receiver), [`Sender`] and [`tag`](crate::tag) say the same with Rust's own types, and are what a program
+//! needs.
 //!
 //! This is the only module with unsafe code. The proof of a call takes for granted that its areas are there in their whole
 //! length, lie apart, and belong to the call while it runs. `&` and `&mut` on slices give just that, so the functions are
 //! safe: the areas are slices, no two of which overlap if one is `&mut`; no call keeps a pointer; every length is below
-//! `isize::MAX`; and every bit pattern is a value of [`Stream`] and of the answers, which hold only integers.
+//! `isize::MAX`; and every bit pattern is a value of [`Stream`], of [`Sender`] and of the answers, which hold only integers.
 #![allow(unsafe_code)]
 
 use crate::record::Stream;
@@ -66,7 +67,7 @@ pub struct TickAnswer {
 #[repr(C)]
 #[derive(Clone, Copy, Debug, Default, PartialEq, Eq)]
 pub struct TagAnswer {
-    /// Bytes written to the output.
+    /// Bytes written to the output; of a send: to each of its two.
     pub length: usize,
     /// The number in the tag.
     pub number: u16,
@@ -91,8 +92,7 @@ const _: () = assert!(size_of::<TickAnswer>() == 24 && align_of::<TickAnswer>() 
 const _: () = assert!(size_of::<TagAnswer>() == 16 && align_of::<TagAnswer>() == 8);
 const _: () = assert!(size_of::<Sender>() == 2 && align_of::<Sender>() == 2);
 
-// A slice crosses as a pointer and a number of elements. bindings/check holds these to the crates port, port_batch
-// and port_tick.
+// A slice crosses as a pointer and a number of elements. bindings/check holds these to the crates port and port_*.
 extern "C" {
     fn nippitsun_arrival(
         table: *mut Stream,

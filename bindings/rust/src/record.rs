@@ -108,7 +108,7 @@ impl Stream {
     /// The match rule.
     pub const MATCH_RULE: u8 = 2;
 
-    /// The record's bytes as they lie in memory, low byte first: for a file, or for another program. In 0.6.0 the history has
+    /// The record's bytes as they lie in memory, low byte first: for a file, or for another program. Since 0.6.0 the history has
     /// eight words: bytes that were kept from an earlier version are no record any more.
     pub fn to_bytes(&self) -> [u8; size_of::<Stream>()] {
         let state = &self.state;

@@ -49,7 +49,7 @@ refusals! {
     Unknown = 6, "no slot in use has the key";
     /// The record is damaged. For a reset: its settings are out of range.
     Damaged = 7, "the record is damaged";
-    /// The output is too small.
+    /// The output is too small. For a send: either of the two.
     Room = 8, "output too small";
     /// A setting is outside the sizes.
     Setting = 9, "a setting outside the sizes";

@@ -2,6 +2,8 @@
 
 #[path = "calls/batch.rs"]
 mod batch;
+#[path = "calls/sender.rs"]
+mod sender;
 #[path = "calls/words.rs"]
 mod words;
 
@@ -103,6 +105,16 @@ fn tagged(length: usize, number: u16) -> Vec<u8> {
 fn from(first: u8, mut frame: Vec<u8>) -> Vec<u8> {
     frame[6] = first;
     frame
+}
+
+/// A small generator, so that every run has the same cases.
+struct Dice(u64);
+
+impl Dice {
+    fn below(&mut self, n: u64) -> u64 {
+        self.0 = self.0.wrapping_mul(6364136223846793005).wrapping_add(1);
+        (self.0 >> 33) % n
+    }
 }
 
 /// An arrival that is refused changes nothing.

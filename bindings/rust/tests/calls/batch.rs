@@ -1,6 +1,6 @@
 //! A batch is its frames as single arrivals in turn: order 3's own words as a reference, and each case that is easily missed.
 
-use super::{from, running, settings, tagged};
+use super::{from, running, settings, tagged, Dice};
 use nippitsun::archive::{self, ArrivalAnswer, BatchAnswer, FRAMES_MOST};
 use nippitsun::batch::{behind, Frames, ROOM_ENOUGH};
 use nippitsun::{Arrival, Receiver, Refusal, State, Stream, Verdict};
@@ -268,16 +268,6 @@ fn thirty_two_of_the_longest_fit_into_the_room_that_is_enough() {
     assert_eq!((reached, answers.len()), (32, 32));
     assert!(answers.iter().all(Result::is_ok));
     assert_eq!(batch(&mut receiver(), 0, &frames, ROOM_ENOUGH - 1).0, 31);
-}
-
-/// A small generator, so that every run has the same cases.
-struct Dice(u64);
-
-impl Dice {
-    fn below(&mut self, n: u64) -> u64 {
-        self.0 = self.0.wrapping_mul(6364136223846793005).wrapping_add(1);
-        (self.0 >> 33) % n
-    }
 }
 
 #[test]
