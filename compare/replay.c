@@ -93,15 +93,22 @@ static int same_answer(const nippitsun_arrival_answer *a) {
     return a->slot == slot && a->length == length && a->number == told && a->verdict == verdict && a->refusal == refusal;
 }
 
-static u8 frame[1 << 16], out[1 << 16], wanted[1 << 16];
+static u8 frame[1 << 16], out[1 << 16], second_out[1 << 16], wanted[1 << 16];
 static stream table[256], after[256];
+
+static void check_output(const u8 *left, u64 room) {
+    take(wanted, room);
+    if (memcmp(left, wanted, room) != 0) stop("DIFFERENT: an output");
+}
 
 /* A call of the product. A case has the arguments and the answer's fields of all calls, 0 where a call has none. */
 static void call(u8 kind) {
-    u64 slots = number(1), n = number(2), room = number(2);
+    u64 slots = number(1), room = number(2), second_room = number(2), n = number(2);
     take(table, slots * sizeof *table);
-    take(frame, n);
     take(out, room);
+    take(second_out, second_room);
+    nippitsun_sender sender = {number(2)};
+    take(frame, n);
     u64 slot = number(8), count = number(8);
     u16 tag = number(2), vlan = number(2), window = number(2), time = number(2);
     u8 network = number(1), rule = number(1), dest[6];
@@ -130,6 +137,11 @@ static void call(u8 kind) {
     } else if (kind == 10) {
         batch = nippitsun_batch(table, slots, network, count, frame, n, out, room);
         frames = batch.frames, refusal = batch.refusal;
+    } else if (kind == 11) {
+        nippitsun_tag_answer a = nippitsun_send(&sender, frame, n, out, room, second_out, second_room);
+        length = a.length, number_told = a.number, refusal = a.refusal;
+    } else if (kind == 12) {
+        nippitsun_reset_sender(&sender);
     } else {
         stop("no such kind of case");
     }
@@ -140,10 +152,11 @@ static void call(u8 kind) {
     for (u64 i = 0; kind == 10 && i < NIPPITSUN_FRAMES_MOST; i++)
         if (!same_answer(batch.answers + i)) stop("DIFFERENT: the answer to a frame of a batch");
     take(after, slots * sizeof *after);
-    take(wanted, room);
     for (u64 i = 0; i < slots; i++)
         if (!same(table + i, after + i)) stop("DIFFERENT: a record");
-    if (memcmp(out, wanted, room) != 0) stop("DIFFERENT: the output");
+    check_output(out, room);
+    check_output(second_out, second_room);
+    if (sender.next != number(2)) stop("DIFFERENT: a sender's next number");
 }
 
 int main(void) {
@@ -153,6 +166,6 @@ int main(void) {
         else call(kind);
         done++;
     }
-    printf("%lu calls of the archives themselves, under the emulator: answers, records and output bytes equal\n", done);
+    printf("%lu calls of the archives themselves, under the emulator: answers, records, next numbers and output bytes equal\n", done);
     return done ? 0 : 1;
 }

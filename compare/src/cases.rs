@@ -5,11 +5,12 @@ use crate::{Answer, Call};
 use nippitsun::archive::BatchAnswer;
 use nippitsun::Stream;
 
-/// What a call starts from or leaves: the table and the output.
-#[derive(Clone, Copy)]
+/// What a call starts from or leaves: the table, the outputs, and the sender's next number.
+#[derive(Clone, Copy, PartialEq, Eq)]
 pub struct Areas<'a> {
     pub table: &'a [Stream],
-    pub out: &'a [u8],
+    pub outs: [&'a [u8]; 2],
+    pub next: u16,
 }
 
 /// The arguments of all calls together. A call has those that it does not take as 0.
@@ -85,6 +86,11 @@ fn arguments(call: Call) -> Arguments {
             a.count = count as u64;
             a.frame = frames;
         }
+        Call::Send { frame } => {
+            a.kind = 11;
+            a.frame = frame;
+        }
+        Call::ResetSender => a.kind = 12,
     }
     a
 }
@@ -146,17 +152,25 @@ fn add_frames(to: &mut Vec<u8>, answer: &Answer) {
     }
 }
 
+fn add_areas(to: &mut Vec<u8>, areas: Areas) {
+    for s in areas.table {
+        to.extend_from_slice(&s.to_bytes());
+    }
+    for out in areas.outs {
+        to.extend_from_slice(out);
+    }
+    to.extend_from_slice(&areas.next.to_le_bytes());
+}
+
 /// Adds one case.
 pub fn add(to: &mut Vec<u8>, call: Call, before: Areas, answer: &Answer, after: Areas) {
     let a = arguments(call);
     to.extend_from_slice(&[a.kind, before.table.len() as u8]);
-    to.extend_from_slice(&(a.frame.len() as u16).to_le_bytes());
-    to.extend_from_slice(&(before.out.len() as u16).to_le_bytes());
-    for s in before.table {
-        to.extend_from_slice(&s.to_bytes());
+    for area in [before.outs[0], before.outs[1], a.frame] {
+        to.extend_from_slice(&(area.len() as u16).to_le_bytes());
     }
+    add_areas(to, before);
     to.extend_from_slice(a.frame);
-    to.extend_from_slice(before.out);
     for x in [a.slot, a.count] {
         to.extend_from_slice(&x.to_le_bytes());
     }
@@ -174,8 +188,5 @@ pub fn add(to: &mut Vec<u8>, call: Call, before: Areas, answer: &Answer, after: 
     if let Call::Batch { .. } = call {
         add_frames(to, answer);
     }
-    for s in after.table {
-        to.extend_from_slice(&s.to_bytes());
-    }
-    to.extend_from_slice(after.out);
+    add_areas(to, after);
 }

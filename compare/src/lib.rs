@@ -8,12 +8,12 @@
 pub mod cases;
 
 use nippitsun::archive::{self, ArrivalAnswer, BatchAnswer};
-use nippitsun::{tag, Counts, Receiver, State, Stream};
+use nippitsun::{tag, Counts, Receiver, Sender, State, Stream};
 use second::Verdict;
 
 pub use nippitsun::Settings;
 
-/// One call. The output and the table stand beside it.
+/// One call. The outputs, the table and the sender stand beside it.
 #[derive(Clone, Copy, Debug)]
 pub enum Call<'a> {
     Arrival {
@@ -36,6 +36,10 @@ pub enum Call<'a> {
         count: usize,
         frames: &'a [u8],
     },
+    Send {
+        frame: &'a [u8],
+    },
+    ResetSender,
 }
 
 /// What a call answers, in one form for both sides.
@@ -102,35 +106,54 @@ impl Answer {
     }
 }
 
-/// One of the two programs, with a table.
+/// One of the two programs, with a table and a sender.
 pub trait Side {
-    /// A table with these records.
+    /// A table with these records, and a sender at first.
     fn new(records: &[Stream]) -> Self;
     /// Writes to a slot, as the owner of a table may.
     fn set(&mut self, slot: usize, record: Stream);
     /// The record in a slot of the table.
     fn record(&self, slot: usize) -> Stream;
-    fn call(&mut self, call: Call, out: &mut [u8]) -> Answer;
+    /// Writes the sender's next number, as its owner may.
+    fn set_next(&mut self, next: u16);
+    /// The sender's next number.
+    fn next(&self) -> u16;
+    /// Makes the call. Only a send has the second output.
+    fn call(&mut self, call: Call, outs: [&mut [u8]; 2]) -> Answer;
 }
 
 /// The compiled product.
-pub struct Product(Receiver);
+pub struct Product {
+    receiver: Receiver,
+    sender: Sender,
+}
 
 impl Side for Product {
     fn new(records: &[Stream]) -> Product {
-        Product(Receiver::from_records(records.to_vec()))
+        Product {
+            receiver: Receiver::from_records(records.to_vec()),
+            sender: Sender::new(),
+        }
     }
 
     fn set(&mut self, slot: usize, record: Stream) {
-        self.0.records_mut()[slot] = record;
+        self.receiver.records_mut()[slot] = record;
     }
 
     fn record(&self, slot: usize) -> Stream {
-        self.0.records()[slot]
+        self.receiver.records()[slot]
     }
 
-    fn call(&mut self, call: Call, out: &mut [u8]) -> Answer {
-        let r = &mut self.0;
+    fn set_next(&mut self, next: u16) {
+        self.sender.next = next;
+    }
+
+    fn next(&self) -> u16 {
+        self.sender.next
+    }
+
+    fn call(&mut self, call: Call, [out, second_out]: [&mut [u8]; 2]) -> Answer {
+        let r = &mut self.receiver;
         let answer = match call {
             Call::Arrival { network, frame } => r.arrival(network, frame, out).map(|a| {
                 let (slot, number) = (a.slot, a.number);
@@ -167,6 +190,18 @@ impl Side for Product {
                 let told = archive::batch(r.records_mut(), network, count, frames, out);
                 Ok(Answer::of_batch(told))
             }
+            Call::Send { frame } => {
+                self.sender
+                    .send(frame, out, second_out)
+                    .map(|sent| Answer::Tag {
+                        number: sent.number,
+                        length: sent.length,
+                    })
+            }
+            Call::ResetSender => {
+                self.sender.reset();
+                Ok(Answer::Done)
+            }
         };
         answer.unwrap_or_else(|why| Answer::Refused(why.number()))
     }
@@ -177,6 +212,7 @@ impl Side for Product {
 pub struct Second {
     table: Vec<second::Stream>,
     real: Vec<u64>,
+    sender: second::Sender,
 }
 
 /// Stands in for a destination of more than six bytes.
@@ -206,6 +242,7 @@ impl Side for Second {
         let mut side = Second {
             table: vec![second::Stream::FREE; records.len()],
             real: vec![0; records.len()],
+            sender: second::Sender::default(),
         };
         for (slot, &record) in records.iter().enumerate() {
             side.set(slot, record);
@@ -275,7 +312,15 @@ impl Side for Second {
         }
     }
 
-    fn call(&mut self, call: Call, out: &mut [u8]) -> Answer {
+    fn set_next(&mut self, next: u16) {
+        self.sender.next = next;
+    }
+
+    fn next(&self) -> u16 {
+        self.sender.next
+    }
+
+    fn call(&mut self, call: Call, [out, second_out]: [&mut [u8]; 2]) -> Answer {
         let table = &mut self.table;
         let answer =
             match call {
@@ -326,6 +371,18 @@ impl Side for Second {
                         refusal: 0,
                     }))
                 }),
+                Call::Send { frame } => {
+                    self.sender
+                        .send(frame, out, second_out)
+                        .map(|sent| Answer::Tag {
+                            number: sent.number,
+                            length: sent.length,
+                        })
+                }
+                Call::ResetSender => {
+                    self.sender.reset();
+                    Ok(Answer::Done)
+                }
             };
         answer.unwrap_or_else(|why| Answer::Refused(why.number()))
     }

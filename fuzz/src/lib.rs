@@ -1,9 +1,9 @@
 //! The harness for libFuzzer: an input is a run of calls, and each call is made on the compiled product and on the second
-//! program. Answers, whole tables and whole outputs must be the same after each. The second program is built with the
-//! fuzzer's counters in it, so its branches guide the fuzzer.
+//! program. Answers, whole tables, the senders' next numbers and whole outputs must be the same after each. The second program
+//! is built with the fuzzer's counters in it, so its branches guide the fuzzer.
 //!
 //! An input is an event file (document 01, "Event file and the program `events`"), read as `events` reads it, so every event
-//! file is a seed. A first byte other than 1 is no end but the number of slots, and six kinds are added for what `events`
+//! file is a seed. A first byte other than 1 is no end but the number of slots, and nine kinds are added for what `events`
 //! can't reach:
 //!
 //! | kind | body |
@@ -14,6 +14,9 @@
 //! | 243 set a record | slot 1, its 152 bytes as they lie in memory, low bytes first |
 //! | 244 change one byte of a record | slot 1, place 1, value 1 |
 //! | 245 batch | room 2, network 1, count 1, frames with their lengths |
+//! | 246 send | room 2, room 2, frame |
+//! | 247 reset a sender | nothing more |
+//! | 248 set a sender's next number | number 2 |
 
 use compare::{Call, Product, Second, Settings, Side};
 use nippitsun::{Counts, State, Stream};
@@ -25,6 +28,9 @@ const TAKE_TAG: u8 = 242;
 const SET_RECORD: u8 = 243;
 const CHANGE_RECORD: u8 = 244;
 const BATCH: u8 = 245;
+const SEND: u8 = 246;
+const RESET_SENDER: u8 = 247;
+const SET_NEXT: u8 = 248;
 
 /// Bytes of a record.
 const RECORD: usize = std::mem::size_of::<Stream>();
@@ -87,12 +93,12 @@ fn settings(destination: [u8; 6], vlan: u16, rule: u8, window: u16, time: u16) -
     (destination != STAND_IN).then_some(settings)
 }
 
-/// A body as the room for its output and the call; none, where `events` would find it bad and where it is no call.
-fn call_of(body: &[u8]) -> Option<(usize, Call<'_>)> {
+/// A body as the rooms of its outputs and the call; none, where `events` would find it bad and where it is no call.
+fn call_of(body: &[u8]) -> Option<([usize; 2], Call<'_>)> {
     let all = Stream::FRAME_MOST;
     let two = |high, low| u16::from_be_bytes([high, low]);
     let room = |high, low| usize::from(two(high, low)).min(all);
-    Some(match *body {
+    let (room, call) = match *body {
         [kind::OPEN, d0, d1, d2, d3, d4, d5, v0, v1, rule, window, r0, r1] => {
             let destination = [d0, d1, d2, d3, d4, d5];
             let settings = settings(destination, two(v0, v1), rule, window.into(), two(r0, r1))?;
@@ -124,8 +130,14 @@ fn call_of(body: &[u8]) -> Option<(usize, Call<'_>)> {
             };
             (room(r0, r1), call)
         }
+        [SEND, r0, r1, s0, s1, ref frame @ ..] => {
+            let rooms = [room(r0, r1), room(s0, s1)];
+            return Some((rooms, Call::Send { frame }));
+        }
+        [RESET_SENDER] => (0, Call::ResetSender),
         _ => return None,
-    })
+    };
+    Some(([room, 0], call))
 }
 
 /// A body that writes to a slot, as the owner of a table may: the slot and its new record.
@@ -142,6 +154,12 @@ fn written(product: &Product, slots: usize, body: &[u8]) -> Option<(usize, Strea
     (usize::from(slot) < slots && known).then_some((slot.into(), record))
 }
 
+/// As much of both outputs as a call may have.
+fn lent(outs: &mut [[u8; Stream::FRAME_MOST]; 2], rooms: [usize; 2]) -> [&mut [u8]; 2] {
+    let [first, second] = outs;
+    [&mut first[..rooms[0]], &mut second[..rooms[1]]]
+}
+
 fn run(input: &[u8]) {
     let (first, mut rest) = match input {
         [first, rest @ ..] => (*first, rest),
@@ -153,7 +171,8 @@ fn run(input: &[u8]) {
     };
     let free = vec![Stream::default(); slots];
     let (mut product, mut second) = (Product::new(&free), Second::new(&free));
-    let mut outs = [[0; Stream::FRAME_MOST]; 2];
+    // The two outputs of each side.
+    let mut outs = [[[0; Stream::FRAME_MOST]; 2]; 2];
     while let [high, low, behind @ ..] = rest {
         let length = usize::from(u16::from_be_bytes([*high, *low]));
         if behind.len() < length {
@@ -164,11 +183,17 @@ fn run(input: &[u8]) {
         if let Some((slot, record)) = written(&product, slots, body) {
             product.set(slot, record);
             second.set(slot, record);
-        } else if let Some((room, call)) = call_of(body) {
-            let [product_out, second_out] = &mut outs;
-            let a = product.call(call, &mut product_out[..room]);
-            let b = second.call(call, &mut second_out[..room]);
+        } else if let [SET_NEXT, high, low] = *body {
+            let next = u16::from_be_bytes([high, low]);
+            product.set_next(next);
+            second.set_next(next);
+        } else if let Some((rooms, call)) = call_of(body) {
+            let [product_outs, second_outs] = &mut outs;
+            let a = product.call(call, lent(product_outs, rooms));
+            let b = second.call(call, lent(second_outs, rooms));
             assert!(a == b, "{call:02x?}: answers {a:?} and {b:?}");
+            let (a, b) = (product.next(), second.next());
+            assert!(a == b, "{call:02x?}: next numbers {a} and {b}");
             for slot in 0..slots {
                 let (a, b) = (product.record(slot), second.record(slot));
                 assert!(a == b, "{call:02x?}: slot {slot} is {a:?} and {b:?}");

@@ -1,8 +1,8 @@
-//! A receiver for frames that arrive on two networks, and a writer for the
-//! redundancy tag.
+//! A receiver for frames that arrive on two networks, a writer for the
+//! redundancy tag, and a sender.
 //!
 //! This is a second implementation. It was written from document 01 ("Exact
-//! rules and what to build") and orders 1 to 5 of document 02 (README.md), so that its
+//! rules and what to build") and orders 1 to 6 of document 02 (README.md), so that its
 //! answers can be compared with those of the first one. Section names in the
 //! comments are those of document 01.
 
@@ -14,12 +14,14 @@ pub mod frame;
 pub mod generate;
 pub mod history;
 pub mod random;
+pub mod sender;
 pub mod stream;
 pub mod table;
 pub mod wrong;
 
 pub use batch::{batch, Batch};
 pub use frame::{take_tag, write_tag, Taken};
+pub use sender::{Sender, Sent};
 pub use stream::Stream;
 pub use table::{arrival, close, open, reset, tick, Arrival, Settings, Ticked, Verdict};
 

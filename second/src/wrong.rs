@@ -1,7 +1,7 @@
 //! Wrong variants of this program, each with one slip. A comparison with
 //! another program is only worth something if it finds them, so it is tried
 //! against each. Document 01 names some under "Errors that look right"; the
-//! others are slips that its text, or that of orders 1 to 5 of document 02, makes
+//! others are slips that its text, or that of orders 1 to 6 of document 02, makes
 //! easy.
 //!
 //! No variant is set at first. In the code a slip stands behind the right rule:
@@ -22,7 +22,8 @@ pub enum Seen {
     Files,
     /// Only where calls are compared: the slip is in a counter, an output byte,
     /// the treatment of a damaged record or of a small output, in the tag
-    /// writer, in taking a tag out or in a batch. `events` shows none of these.
+    /// writer, in taking a tag out, in a batch or in a send. `events` shows none
+    /// of these.
     CallsOnly,
 }
 
@@ -175,6 +176,33 @@ variants! {
     LastWordUncut, CallsOnly, "bits at L or above are lawful in the word that has place L - 1";
     HigherWordsUnseen, CallsOnly, "bits in the words above the window's are lawful";
     EmptyByFirstWord, CallsOnly, "a history is zero if its first word is";
+    RefusedUsesNumber, CallsOnly, "a refused frame uses up a number of its sender";
+    NoRoomUsesNumber, CallsOnly, "a frame that a send refuses with 8 uses up a number";
+    TwoNumbersAFrame, CallsOnly, "a send uses up two numbers, one for each output";
+    SenderSkipsZero, CallsOnly, "a sender's 65535 is followed by 1";
+    SenderStaysAtEnd, CallsOnly, "a sender's 65535 is followed by 65535";
+    SenderWrapsEarly, CallsOnly, "a sender's 65534 is followed by 0";
+    SenderStartsAtOne, CallsOnly, "a sender's next number is 1 at first";
+    SenderResetForgotten, CallsOnly, "a reset leaves a sender's next number";
+    SenderResetsToOne, CallsOnly, "a reset sets a sender's next number to 1";
+    SecondGetsNext, CallsOnly, "in a send the second output gets the number behind the first's";
+    SecondUnwritten, CallsOnly, "a send writes to the first output alone";
+    FirstBeforeRoom, CallsOnly, "a send writes to the first output before the room in the second is known";
+    SecondBeforeRoom, CallsOnly, "a send writes to the second output before the room in the first is known";
+    SendRoomInEither, CallsOnly, "a send gives 8 only if both outputs are too small";
+    SendRoomInFirst, CallsOnly, "a send asks for room in the first output alone";
+    SendRoomInSecond, CallsOnly, "a send asks for room in the second output alone";
+    SendOutputsAlike, CallsOnly, "a send gives 8 where its outputs differ in length";
+    SendNeedsOneMore, CallsOnly, "a send gives 8 where an output has just the room";
+    SendRoomBeforeGroup, CallsOnly, "in a send refusal 8 comes before 14";
+    SendRoomBeforeTagged, CallsOnly, "in a send refusal 8 comes before 13";
+    SendRoomBeforeShort, CallsOnly, "in a send refusal 8 comes before 4";
+    SendRoomBeforeLength, CallsOnly, "in a send refusal 8 comes before 3";
+    SendTakes2000, CallsOnly, "a send gives 3 above 2000 bytes only, and 8 from 1995 on";
+    SendClearsFirst, CallsOnly, "a send clears the bytes behind the frame in the first output";
+    SendClearsSecond, CallsOnly, "a send clears the bytes behind the frame in the second output";
+    SendTellsNext, CallsOnly, "a send answers the number that comes next";
+    SendTellsUntagged, CallsOnly, "a send answers the length without the tag";
 }
 
 #[cfg(feature = "wrong")]
@@ -344,4 +372,29 @@ pub(crate) fn forgets_length(
     length_bytes.copy_from_slice(&(length as u16).to_be_bytes());
     packed.copy_from_slice(&room[..packed.len()]);
     (answer, taken)
+}
+
+/// What a send is refused with, if 8 comes before this refusal of the tag
+/// writer. Those that come behind it have higher numbers.
+pub(crate) fn room_before(this: Refusal, why: Refusal, room: Result<(), Refusal>) -> Refusal {
+    match room {
+        Err(too_small) if why >= this => too_small,
+        _ => why,
+    }
+}
+
+/// What a send is refused with, if its limit is that of a tagged frame. The
+/// place aside is then too small for some.
+pub(crate) fn too_long_to_tag(frame: &[u8], why: Refusal) -> Refusal {
+    match why {
+        Refusal::FrameTooLong if frame.len() <= Stream::MAX_FRAME => Refusal::OutputTooSmall,
+        _ => why,
+    }
+}
+
+/// Writes these bytes to the start of the output, where there is room for them.
+pub(crate) fn write_where_room(output: &mut [u8], bytes: &[u8]) {
+    if let Some(start) = output.get_mut(..bytes.len()) {
+        start.copy_from_slice(bytes);
+    }
 }

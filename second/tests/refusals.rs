@@ -2,30 +2,21 @@
 //!
 //! The answer is compared with a list: each refusal number has its own
 //! condition, and the first number in the call's order whose condition holds
-//! must be the answer ("Calls and the order of checks"). A refused call must
-//! change no byte of table and output; any other call only its own slot.
+//! must be the answer ("Calls and the order of checks", and order 6 for sends).
+//! A refused call must change no byte of table, sender and outputs; any other
+//! call only its own slot.
 
 mod common;
 
 use common::*;
 use second::random::Random;
-use second::{arrival, close, open, reset, take_tag, tick, write_tag, Settings, Stream, Verdict};
+use second::{
+    arrival, close, open, reset, take_tag, tick, write_tag, Sender, Sent, Settings, Stream, Verdict,
+};
 
 /// The first number in the order whose condition holds, else 0.
 fn first(order: &[(u8, bool)]) -> u8 {
     order.iter().find(|c| c.1).map_or(0, |c| c.0)
-}
-
-fn at(frame: &[u8], place: usize, mark: [u8; 2]) -> bool {
-    frame.get(place..place + 2) == Some(&mark[..])
-}
-
-fn type_place(frame: &[u8]) -> usize {
-    if at(frame, 12, [0x81, 0x00]) {
-        16
-    } else {
-        12
-    }
 }
 
 fn short_for_writing(frame: &[u8]) -> bool {
@@ -369,12 +360,8 @@ fn tags() {
             seen.note("write a group", expected);
         }
         if answer.is_ok() {
-            let place = type_place(&frame);
-            let [high, low] = number.to_be_bytes();
-            let tag = [0xF1, 0xC1, 0, 0, high, low];
-            let full = [&frame[..place], &tag[..], &frame[place..]].concat();
             assert_eq!(answer, Ok(need));
-            assert_eq!(output[..need], full[..]);
+            assert_eq!(output[..need], with_tag(&frame, number));
             assert_eq!(output[need..], before[need..]);
         } else {
             assert_eq!(output, before);
@@ -410,4 +397,56 @@ fn tags() {
     seen.all_met("write a group", &[3, 4, 13, 14]);
     seen.all_met("take", &[0, 3, 4, 5, 8]);
     seen.all_met("take a group", &[0, 3, 4, 5, 8]);
+}
+
+#[test]
+fn sends() {
+    let mut random = Random::new(16);
+    let mut seen = Seen::default();
+    let mut sender = Sender::default();
+    let mut next = 0_u32;
+    for _ in 0..60_000 {
+        if random.chance(1, 50) {
+            next = random.pick(&[0, 1, 65534, 65535, 65535]);
+            sender.next = next as u16;
+        }
+        if random.chance(1, 50) {
+            sender.reset();
+            next = 0;
+        }
+        let frame = any_frame(&mut random);
+        let need = frame.len() + 6;
+        let mut outputs = [0; 2].map(|_| any_output(&mut random, need));
+        let before = outputs.clone();
+        let expected = first(&[
+            (3, frame.len() > 1994),
+            (4, short_for_writing(&frame)),
+            (13, has_mark(&frame)),
+            (14, group_source(&frame)),
+            (8, outputs.iter().any(|output| output.len() < need)),
+        ]);
+        let [one, other] = &mut outputs;
+        let answer = sender.send(&frame, one, other);
+        assert_eq!(number_of(answer), expected);
+        seen.note("send", expected);
+        if before.iter().all(|output| output.len() < need) {
+            seen.note("send without room", expected);
+        }
+        if answer.is_ok() {
+            let (number, length) = (next as u16, need);
+            assert_eq!(answer, Ok(Sent { number, length }));
+            for (output, before) in outputs.iter().zip(&before) {
+                assert_eq!(output[..need], with_tag(&frame, number));
+                assert_eq!(output[need..], before[need..]);
+            }
+            next = (next + 1) % 65536;
+            seen.note("wrap", u8::from(next == 0));
+        } else {
+            assert_eq!(outputs, before);
+        }
+        assert_eq!(u32::from(sender.next), next);
+    }
+    seen.all_met("send", &[0, 3, 4, 8, 13, 14]);
+    seen.all_met("send without room", &[3, 4, 8, 13, 14]);
+    seen.all_met("wrap", &[0, 1]);
 }

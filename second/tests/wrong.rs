@@ -10,7 +10,7 @@ use std::process::Command;
 use common::*;
 use second::random::Random;
 use second::wrong::{self, Seen, Wrong, VARIANTS};
-use second::{arrival, batch, close, open, reset, take_tag, tick, write_tag, Stream};
+use second::{arrival, batch, close, open, reset, take_tag, tick, write_tag, Sender, Stream};
 
 const DESTINATIONS: [[u8; 6]; 2] = [DESTINATION, [2, 0, 0, 0, 0, 2]];
 
@@ -84,13 +84,37 @@ fn calls(seed: u64) -> Vec<(String, Vec<Stream>, Vec<u8>)> {
     seen
 }
 
+/// Random sends: every answer, and the next number and both outputs after each.
+fn sends(seed: u64) -> Vec<(String, u16, [Vec<u8>; 2])> {
+    let mut random = Random::new(seed);
+    let mut sender = Sender::default();
+    let mut seen = Vec::new();
+    for _ in 0..20 {
+        match random.below(8) {
+            0 => sender.reset(),
+            1 => sender.next = random.pick(&[65534, 65535]),
+            _ => {}
+        }
+        let frame = any_frame(&mut random);
+        let needed = frame.len() + 6;
+        let mut outputs = [0; 2].map(|_| {
+            let room = random.pick(&[needed - 1, needed, needed, needed + 9]);
+            vec![FILL; room]
+        });
+        let [first, second] = &mut outputs;
+        let answer = format!("{:?}", sender.send(&frame, first, second));
+        seen.push((answer, sender.next, outputs));
+    }
+    seen
+}
+
 #[test]
 fn every_variant_for_calls_is_seen_in_calls() {
     for variant in VARIANTS.iter().filter(|v| v.seen == Seen::CallsOnly) {
         let differs = (0..2000).any(|seed| {
-            let right = calls(seed);
+            let right = (calls(seed), sends(seed));
             wrong::set(Some(variant.wrong));
-            let wrong = calls(seed);
+            let wrong = (calls(seed), sends(seed));
             wrong::set(None);
             right != wrong
         });

@@ -1,7 +1,7 @@
-//! Random calls on random tables, given to the product and to the second program. After every call the answer, the whole
-//! table and the whole output must be equal, and a refused call must have changed nothing.
+//! Random calls on random tables and senders, given to the product and to the second program. After every call the answer, the
+//! whole table, the sender's next number and the whole outputs must be equal, and a refused call must have changed nothing.
 //!
-//!     calls                    the comparison, 4,000,000 calls
+//!     calls                    the comparison, 4,000,000 calls, and more sends in a row than there are numbers
 //!     calls SEED COUNT         the same from another seed, or with fewer or more calls
 //!     calls wrong              each wrong variant of the second program that shows in calls alone must be found
 //!     calls cases COUNT        writes so many calls for compare/replay.c, with what they answer and leave
@@ -46,6 +46,9 @@ const FRAMES_TRIED: u64 = 40;
 const INPUT_MOST: usize = 60_000;
 /// Outputs that are too small for any frame of a batch, or for more than one.
 const SMALL_ROOMS: [usize; 5] = [0, 1, 2, 15, 16];
+
+/// Sends in a row without a reset: the numbers twice, and some more.
+const IN_A_ROW: u32 = 2 * 65536 + 3;
 
 // ---- what is given
 
@@ -440,7 +443,7 @@ fn batch<'a>(
     pool: &[u8],
     table: &[Stream],
     f: &'a mut Frames,
-) -> (Call<'a>, usize) {
+) -> (Call<'a>, [usize; 2]) {
     let mut count = random.below(FRAMES_TRIED + 1) as usize;
     f.packed.clear();
     let mut length = 0;
@@ -478,7 +481,8 @@ fn batch<'a>(
         frames: &f.packed,
     };
     // What the frames take if there is enough: each takes less than it took of the input.
-    let all = match Product::new(table).call(call, &mut vec![0; f.packed.len()]) {
+    let mut ample = vec![0; f.packed.len()];
+    let all = match Product::new(table).call(call, [&mut ample, &mut []]) {
         Answer::Batch(told) => taken(&told),
         _ => 0,
     };
@@ -490,7 +494,7 @@ fn batch<'a>(
         8 => random.below(all as u64 + 1) as usize,
         _ => all + random.below(60) as usize,
     };
-    (call, room)
+    (call, [room, 0])
 }
 
 /// What a batch has written to its output.
@@ -499,31 +503,72 @@ fn taken(told: &BatchAnswer) -> usize {
     lengths.filter(|&length| length > 0).map(|n| n + 2).sum()
 }
 
-/// A call, and how many bytes its output should have: a few more than are needed, just so many, or one fewer.
+/// Another type in the place of the frame's mark, so that a tag can be put in.
+fn unmark(f: &mut [u8; 2100]) {
+    let at = if f[12..14] == [0x81, 0x00] { 16 } else { 12 };
+    f[at..at + 2].copy_from_slice(&[0x08, 0x00]);
+}
+
+/// How many bytes an output should have: a few more than are needed, just so many, one fewer, or none.
+fn room(random: &mut Random, needed: usize) -> usize {
+    match random.below(16) {
+        0 => needed.saturating_sub(1),
+        1 => 0,
+        2 => needed,
+        _ => needed + random.below(12) as usize,
+    }
+}
+
+/// A send, most often of a frame without a tag, or now and then a reset of the sender.
+fn send<'a>(
+    random: &mut Random,
+    pool: &[u8],
+    table: &[Stream],
+    f: &'a mut [u8; 2100],
+) -> (Call<'a>, [usize; 2]) {
+    if random.chance(1, 8) {
+        return (Call::ResetSender, [0, 0]);
+    }
+    let length = frame(random, pool, table, f);
+    if !random.chance(1, 8) {
+        unmark(f);
+    }
+    let frame = &f[..length];
+    let rooms = [0; 2].map(|_| room(random, length + 6));
+    (Call::Send { frame }, rooms)
+}
+
+/// A next number, often one at the wrap.
+fn next(random: &mut Random) -> u16 {
+    let any = random.word();
+    random.pick(&[0, 1, 65534, 65535, 65535, any])
+}
+
+/// A call, and how many bytes its outputs should have.
 fn call<'a>(
     random: &mut Random,
     pool: &[u8],
     table: &[Stream],
     f: &'a mut Frames,
-) -> (Call<'a>, usize) {
-    if random.chance(1, 48) {
-        return batch(random, pool, table, f);
+) -> (Call<'a>, [usize; 2]) {
+    match random.below(48) {
+        0 => return batch(random, pool, table, f),
+        1..=3 => return send(random, pool, table, &mut f.single),
+        _ => {}
     }
     let f = &mut f.single;
     let kind = random.below(32);
     match kind {
-        19..=22 => return (Call::Open(settings(random)), 0),
-        23 => return (Call::Close(slot(random, table)), 0),
-        24 | 25 => return (Call::Reset(slot(random, table)), 0),
-        26 | 27 => return (Call::Tick, 0),
+        19..=22 => return (Call::Open(settings(random)), [0, 0]),
+        23 => return (Call::Close(slot(random, table)), [0, 0]),
+        24 | 25 => return (Call::Reset(slot(random, table)), [0, 0]),
+        26 | 27 => return (Call::Tick, [0, 0]),
         _ => {}
     }
     let length = frame(random, pool, table, f);
     let write = kind >= 30;
     if write && random.chance(1, 2) {
-        // Without a tag, so that one can be put in.
-        let at = if f[12..14] == [0x81, 0x00] { 16 } else { 12 };
-        f[at..at + 2].copy_from_slice(&[0x08, 0x00]);
+        unmark(f);
     }
     let frame = &f[..length];
     let (call, needed) = if write {
@@ -535,18 +580,12 @@ fn call<'a>(
         let network = network(random);
         (Call::Arrival { network, frame }, length.saturating_sub(6))
     };
-    let room = match random.below(16) {
-        0 => needed.saturating_sub(1),
-        1 => 0,
-        2 => needed,
-        _ => needed + random.below(12) as usize,
-    };
-    (call, room)
+    (call, [room(random, needed), 0])
 }
 
 // ---- what came up
 
-const CALLS: [&str; 8] = [
+const CALLS: [&str; 10] = [
     "arrival",
     "open",
     "close",
@@ -555,9 +594,11 @@ const CALLS: [&str; 8] = [
     "take a tag out",
     "write a tag",
     "batch",
+    "send",
+    "reset of a sender",
 ];
 /// The refusals that each call can give.
-const REFUSALS: [&[u8]; 8] = [
+const REFUSALS: [&[u8]; 10] = [
     &[1, 2, 3, 4, 5, 14, 6, 7, 8],
     &[1, 9, 10, 11],
     &[1, 12],
@@ -566,6 +607,8 @@ const REFUSALS: [&[u8]; 8] = [
     &[3, 4, 5, 8],
     &[3, 4, 13, 14, 8],
     &[1, 2, 15],
+    &[3, 4, 13, 14, 8],
+    &[],
 ];
 const COUNTERS: [&str; 8] = [
     "arrivals on network 0",
@@ -579,11 +622,12 @@ const COUNTERS: [&str; 8] = [
 ];
 
 /// What must come up with group sources, beside refusal 14.
-const GROUPS: [&str; 4] = [
+const GROUPS: [&str; 5] = [
     "an arrival without a tag",
     "a tagged frame for the tag writer",
     "a tag taken out",
     "an arrival for a key that no slot has",
+    "a tagged frame for a send",
 ];
 
 /// What must come up in batches, beside their refusals.
@@ -611,6 +655,99 @@ struct Batches {
     length_cut: u64,
     frame_cut: u64,
     network_before_count: u64,
+}
+
+/// The sizes that the outputs of a send have, beside what it needs.
+const SIZES: [&str; 4] = ["empty", "one byte too small", "of just the size", "larger"];
+/// The refusals of a send that come before 8.
+const BEFORE_ROOM: [u8; 4] = [3, 4, 13, 14];
+
+/// What must come up in sends, beside their refusals.
+#[derive(Default)]
+struct Sends {
+    /// By the size of the first output, then of the second, as [`SIZES`] has them, where the frame is not refused for itself.
+    sizes: [[u64; 4]; 4],
+    /// By [`BEFORE_ROOM`], where an output is too small too.
+    before_room: [u64; 4],
+    first_number: u64,
+    last_number: u64,
+    refused_at_last: u64,
+    with_vlan: u64,
+    longest: u64,
+    too_long_by_one: u64,
+    reset_from_0: u64,
+    reset_from_other: u64,
+}
+
+impl Sends {
+    /// A call, its answer and what it started from.
+    fn note(&mut self, call: &Call, answer: &Answer, given: Areas) {
+        match *call {
+            Call::Send { frame } => self.sent(frame, answer, given),
+            Call::ResetSender => {
+                self.reset_from_0 += u64::from(given.next == 0);
+                self.reset_from_other += u64::from(given.next != 0);
+            }
+            _ => {}
+        }
+    }
+
+    fn sent(&mut self, frame: &[u8], answer: &Answer, given: Areas) {
+        let needed = frame.len() + 6;
+        let rooms = given.outs.map(<[u8]>::len);
+        let refusal = match *answer {
+            Answer::Refused(n) => n,
+            _ => 0,
+        };
+        if let Some(place) = BEFORE_ROOM.iter().position(|&n| n == refusal) {
+            let small = rooms.iter().any(|&room| room < needed);
+            self.before_room[place] += u64::from(small);
+        } else {
+            let [first, second] = rooms.map(|room| match room {
+                0 => 0,
+                _ if room < needed => 1,
+                _ if room == needed => 2,
+                _ => 3,
+            });
+            self.sizes[first][second] += 1;
+        }
+        let at_last = given.next == 65535;
+        if refusal == 0 {
+            self.first_number += u64::from(given.next == 0);
+            self.last_number += u64::from(at_last);
+            self.with_vlan += u64::from(frame[12..14] == [0x81, 0x00]);
+            self.longest += u64::from(frame.len() == 1994);
+        } else {
+            self.refused_at_last += u64::from(at_last);
+            self.too_long_by_one += u64::from(frame.len() == 1995);
+        }
+    }
+
+    fn list(&self, list: &mut Vec<(String, u64)>) {
+        for (first, seen) in SIZES.iter().zip(self.sizes) {
+            for (second, n) in SIZES.iter().zip(seen) {
+                let what = format!("first output {}, second {}", first, second);
+                list.push((format!("in a send: {}", what), n));
+            }
+        }
+        for (refusal, n) in BEFORE_ROOM.iter().zip(self.before_room) {
+            let what = format!("{} where an output is too small too", refusal);
+            list.push((format!("in a send: {}", what), n));
+        }
+        for (what, n) in [
+            ("number 0", self.first_number),
+            ("number 65535", self.last_number),
+            ("a refusal where 65535 is next", self.refused_at_last),
+            ("a VLAN tag", self.with_vlan),
+            ("1994 bytes", self.longest),
+            ("1995 bytes", self.too_long_by_one),
+        ] {
+            list.push((format!("in a send: {}", what), n));
+        }
+        for (next, n) in [("0", self.reset_from_0), ("another", self.reset_from_other)] {
+            list.push((format!("a reset of a sender whose next is {}", next), n));
+        }
+    }
 }
 
 /// The ways in which n alone makes a record damaged.
@@ -825,8 +962,8 @@ impl Histories {
 
 /// How often each thing came up.
 struct Seen {
-    calls: [u64; 8],
-    refused: [[u64; 16]; 8],
+    calls: [u64; 10],
+    refused: [[u64; 16]; 10],
     /// By rule, then handed up, duplicate, rogue.
     verdicts: [[u64; 3]; 2],
     /// By window and difference, in vector streams without take-any.
@@ -839,9 +976,10 @@ struct Seen {
     ticked_reset: u64,
     ticked_damaged: u64,
     mended: u64,
-    groups: [u64; 4],
+    groups: [u64; 5],
     slots: [u64; 66],
     batches: Batches,
+    sends: Sends,
     early: Early,
     histories: Histories,
 }
@@ -863,9 +1001,10 @@ fn frames_of(count: usize, mut input: &[u8]) -> (Vec<&[u8]>, &[u8]) {
 /// The call's frame, if it has one, comes from a group.
 fn from_group(call: &Call) -> bool {
     match call {
-        Call::Arrival { frame, .. } | Call::TakeTag { frame } | Call::WriteTag { frame, .. } => {
-            frame.get(6).map_or(false, |first| first & 1 == 1)
-        }
+        Call::Arrival { frame, .. }
+        | Call::TakeTag { frame }
+        | Call::WriteTag { frame, .. }
+        | Call::Send { frame } => frame.get(6).map_or(false, |first| first & 1 == 1),
         _ => false,
     }
 }
@@ -880,6 +1019,8 @@ fn place(call: &Call) -> usize {
         Call::TakeTag { .. } => 5,
         Call::WriteTag { .. } => 6,
         Call::Batch { .. } => 7,
+        Call::Send { .. } => 8,
+        Call::ResetSender => 9,
     }
 }
 
@@ -930,7 +1071,7 @@ impl Batches {
     /// A frame that was answered 8. That changed nothing, so it can be tried again with enough room.
     fn note_no_room(&mut self, network: u8, frame: &[u8], after: &[Stream]) {
         let mut out = [0; Stream::FRAME_MOST];
-        match Product::new(after).call(Call::Arrival { network, frame }, &mut out) {
+        match Product::new(after).call(Call::Arrival { network, frame }, [&mut out, &mut []]) {
             Answer::HandedUp { .. } => self.no_room_up += 1,
             Answer::Duplicate { .. } => self.no_room_duplicate += 1,
             Answer::Rogue { .. } => self.no_room_rogue += 1,
@@ -993,7 +1134,7 @@ impl Batches {
 
 /// Is this record in use and damaged?
 fn is_damaged(s: Stream) -> bool {
-    let told = Product::new(&[s]).call(Call::Tick, &mut []);
+    let told = Product::new(&[s]).call(Call::Tick, [&mut [], &mut []]);
     matches!(told, Answer::Ticked { damaged: 1, .. })
 }
 
@@ -1146,8 +1287,8 @@ fn is_older(number: u16, s: &Stream) -> bool {
 impl Seen {
     fn new() -> Seen {
         Seen {
-            calls: [0; 8],
-            refused: [[0; 16]; 8],
+            calls: [0; 10],
+            refused: [[0; 16]; 10],
             verdicts: [[0; 3]; 2],
             differences: BTreeMap::new(),
             take_any: 0,
@@ -1158,24 +1299,20 @@ impl Seen {
             ticked_reset: 0,
             ticked_damaged: 0,
             mended: 0,
-            groups: [0; 4],
+            groups: [0; 5],
             slots: [0; 66],
             batches: Batches::default(),
+            sends: Sends::default(),
             early: Early::default(),
             histories: Histories::default(),
         }
     }
 
-    /// A call, its answer, the table before and after it, and the size of its output.
-    fn note(
-        &mut self,
-        call: &Call,
-        answer: &Answer,
-        before: &[Stream],
-        after: &[Stream],
-        room: usize,
-    ) {
+    /// A call, its answer, what it started from and what it left.
+    fn note(&mut self, call: &Call, answer: &Answer, given: Areas, left: Areas) {
         let kind = place(call);
+        self.sends.note(call, answer, given);
+        let (before, after, room) = (given.table, left.table, given.outs[0].len());
         self.early.note(call, answer, before, after);
         self.histories.note(call, answer, before, after);
         self.calls[kind] += 1;
@@ -1235,8 +1372,9 @@ impl Seen {
         }
         if from_group(call) {
             self.groups[0] += u64::from((kind, answer) == (0, &Answer::Refused(5)));
-            self.groups[1] += u64::from(*answer == Answer::Refused(13));
+            self.groups[1] += u64::from((kind, answer) == (6, &Answer::Refused(13)));
             self.groups[2] += u64::from(kind == 5 && matches!(answer, Answer::Tag { .. }));
+            self.groups[4] += u64::from((kind, answer) == (8, &Answer::Refused(13)));
         }
         // A counter that falls has wrapped, but where an open wrote zeros.
         if !matches!(call, Call::Open(_)) {
@@ -1308,6 +1446,7 @@ impl Seen {
             list.push((format!("{}, from a group", name), self.groups[n]));
         }
         self.batches.list(&mut list);
+        self.sends.list(&mut list);
         self.early.list(&mut list);
         self.histories.list(&mut list);
         for slots in [0, 1, 63, 64, 65] {
@@ -1353,6 +1492,48 @@ fn with_key(table: &[Stream], dest: u64, vlan: u16) -> impl Iterator<Item = &Str
 
 // ---- the run
 
+/// Makes the call on one side.
+fn made(side: &mut impl Side, call: Call, [out, second_out]: &mut [Vec<u8>; 2]) -> Answer {
+    side.call(call, [out, second_out])
+}
+
+/// A send with outputs of these sizes: its answer, the next number then, and the outputs.
+fn sent(side: &mut impl Side, frame: &[u8], rooms: [usize; 2]) -> (Answer, u16, [Vec<u8>; 2]) {
+    let mut outs = rooms.map(|room| vec![0; room]);
+    let answer = made(side, Call::Send { frame }, &mut outs);
+    (answer, side.next(), outs)
+}
+
+/// Sends in a row, from senders at first, and now and then one without room. Each frame's number is its index modulo 65536.
+fn send_in_a_row() -> Result<(), String> {
+    let (mut product, mut second) = (Product::new(&[]), Second::new(&[]));
+    let mut frame = [2, 0, 0, 0, 0, 1, 2, 0, 0, 0, 0, 2, 8, 0, 0, 0, 0, 0];
+    let length = frame.len() + 6;
+    for index in 0..IN_A_ROW {
+        frame[14..].copy_from_slice(&index.to_be_bytes());
+        let number = index as u16;
+        let mut wanted = Vec::new();
+        // At 65535 too.
+        if index % 1000 == 535 {
+            wanted.push((Answer::Refused(8), [length, length - 1]));
+        }
+        wanted.push((Answer::Tag { number, length }, [length, length + 1]));
+        for (answer, rooms) in wanted {
+            let a = sent(&mut product, &frame, rooms);
+            let b = sent(&mut second, &frame, rooms);
+            if a != b || a.0 != answer {
+                let what = format!("DIFFERENT at send {} in a row: {:?}", index, answer);
+                return Err(format!("{}\nproduct {:x?}\nsecond {:x?}", what, a, b));
+            }
+        }
+    }
+    println!(
+        "{} sends in a row: each number is the index modulo 65536",
+        IN_A_ROW
+    );
+    Ok(())
+}
+
 /// Runs so many calls on both sides. `kept` takes each of them, for another program.
 fn run(seed: u64, count: u64, mut kept: Option<&mut Vec<u8>>) -> Result<Seen, String> {
     let mut random = Random::new(seed);
@@ -1381,12 +1562,33 @@ fn run(seed: u64, count: u64, mut kept: Option<&mut Vec<u8>>) -> Result<Seen, St
             second.set(slot, s);
             before[slot] = s;
         }
-        let (call, room) = call(&mut random, &pool, &before, &mut f);
-        let from = random.below((pool.len() - room) as u64) as usize;
-        let start = &pool[from..from + room];
-        let (mut a, mut b) = (start.to_vec(), start.to_vec());
-        let (x, y) = (product.call(call, &mut a), second.call(call, &mut b));
+        // And the sender's owner its next number.
+        if random.chance(1, 32) {
+            let next = next(&mut random);
+            product.set_next(next);
+            second.set_next(next);
+        }
+        let (call, rooms) = call(&mut random, &pool, &before, &mut f);
+        let starts = rooms.map(|room| {
+            let from = random.below((pool.len() - room) as u64) as usize;
+            &pool[from..from + room]
+        });
+        let given = Areas {
+            table: &before,
+            outs: starts,
+            next: product.next(),
+        };
+        let (mut a, mut b) = (starts.map(<[u8]>::to_vec), starts.map(<[u8]>::to_vec));
+        let (x, y) = (
+            made(&mut product, call, &mut a),
+            made(&mut second, call, &mut b),
+        );
         let after: Vec<Stream> = (0..before.len()).map(|slot| product.record(slot)).collect();
+        let left = Areas {
+            table: &after,
+            outs: [&a[0], &a[1]],
+            next: product.next(),
+        };
         let wrong = if x != y {
             Some(String::from("the answers"))
         } else if let Some(slot) = (0..after.len()).find(|&slot| after[slot] != second.record(slot))
@@ -1398,44 +1600,39 @@ fn run(seed: u64, count: u64, mut kept: Option<&mut Vec<u8>>) -> Result<Seen, St
                 second.record(slot),
                 before[slot]
             ))
+        } else if left.next != second.next() {
+            Some(format!(
+                "the next numbers: product {}, second {}, before {}",
+                left.next,
+                second.next(),
+                given.next
+            ))
         } else if a != b {
             Some(format!(
                 "the outputs: product {:x?}\nsecond {:x?}\nbefore {:x?}",
-                a, b, start
+                a, b, starts
             ))
-        } else if matches!(x, Answer::Refused(_)) && (after != before || a != start) {
+        } else if matches!(x, Answer::Refused(_)) && given != left {
             Some(String::from("a refused call changed something"))
         } else {
             None
         };
         if let Some(wrong) = wrong {
             return Err(format!(
-                "DIFFERENT at seed {}, call {} (table of {} slots, output of {} bytes)\n{:x?}\nproduct {:?}, second {:?}\n{}",
+                "DIFFERENT at seed {}, call {} (table of {} slots, outputs of {:?} bytes)\n{:x?}\nproduct {:?}, second {:?}\n{}",
                 seed,
                 case,
                 before.len(),
-                room,
+                rooms,
                 call,
                 x,
                 y,
                 wrong
             ));
         }
-        seen.note(&call, &x, &before, &after, room);
+        seen.note(&call, &x, given, left);
         if let Some(kept) = kept.as_deref_mut() {
-            cases::add(
-                kept,
-                call,
-                Areas {
-                    table: &before,
-                    out: start,
-                },
-                &x,
-                Areas {
-                    table: &after,
-                    out: &a,
-                },
-            );
+            cases::add(kept, call, given, &x, left);
         }
         before = after;
     }
@@ -1443,6 +1640,7 @@ fn run(seed: u64, count: u64, mut kept: Option<&mut Vec<u8>>) -> Result<Seen, St
 }
 
 fn compare(seed: u64, count: u64) -> Result<(), String> {
+    send_in_a_row()?;
     let seen = run(seed, count, None)?;
     let list = seen.list();
     for (call, n) in CALLS.iter().zip(seen.calls) {
@@ -1466,7 +1664,7 @@ fn compare(seed: u64, count: u64) -> Result<(), String> {
         n
     );
     println!(
-        "{} random calls: answers, tables and outputs of product and second program equal",
+        "{} random calls: answers, tables, senders and outputs of product and second program equal",
         count
     );
     Ok(())

@@ -1,5 +1,5 @@
 //! A fixed list of calls that are run and not proved, with what each answers and changes: document 01, "Run but not proved",
-//! and the places where a slip is likely, orders 1, 3, 4 and 5 of document 02 among them.
+//! and the places where a slip is likely, orders 1 and 3 to 6 of document 02 among them.
 //!
 //!     vectors product    the list on the compiled product
 //!     vectors second     the list on the second program
@@ -293,18 +293,26 @@ impl<S: Side> List<S> {
 
     /// Makes the call with an output of so many bytes, and writes its line.
     fn call(&mut self, what: &str, call: Call, room: usize) {
-        let before = self.records();
-        let blank = vec![BLANK; room];
-        let mut out = blank.clone();
-        let answer = self.side.call(call, &mut out);
+        self.call_with(what, call, [room, 0]);
+    }
+
+    /// The same with two outputs.
+    fn call_with(&mut self, what: &str, call: Call, rooms: [usize; 2]) {
+        let (before, next) = (self.records(), self.side.next());
+        let blank = rooms.map(|room| vec![BLANK; room]);
+        let mut outs = blank.clone();
+        let [out, second_out] = &mut outs;
+        let answer = self.side.call(call, [out, second_out]);
         let after = self.records();
         let given = Areas {
             table: &before,
-            out: &blank,
+            outs: [&blank[0], &blank[1]],
+            next,
         };
         let left = Areas {
             table: &after,
-            out: &out,
+            outs: [&outs[0], &outs[1]],
+            next: self.side.next(),
         };
         cases::add(&mut self.cases, call, given, &answer, left);
         let mut changes = Vec::new();
@@ -319,14 +327,15 @@ impl<S: Side> List<S> {
                 changes.push(format!("slot {}: {}", slot, changed.join(", ")));
             }
         }
-        if let Some(first) = out.iter().position(|&b| b != BLANK) {
-            let end = out.iter().rposition(|&b| b != BLANK).unwrap() + 1;
-            changes.push(format!(
-                "output {}..{}: {}",
-                first,
-                end,
-                written(&out[first..end])
-            ));
+        if given.next != left.next {
+            changes.push(format!("next number {}>{}", given.next, left.next));
+        }
+        for (name, out) in ["output", "second output"].iter().zip(left.outs) {
+            if let Some(first) = out.iter().position(|&b| b != BLANK) {
+                let end = out.iter().rposition(|&b| b != BLANK).unwrap() + 1;
+                let bytes = written(&out[first..end]);
+                changes.push(format!("{} {}..{}: {}", name, first, end, bytes));
+            }
         }
         let changes = if changes.is_empty() {
             String::from("nothing changed")
@@ -371,6 +380,11 @@ impl<S: Side> List<S> {
             frames,
         };
         self.call(&what, call, room);
+    }
+
+    fn send(&mut self, what: &str, frame: &[u8], rooms: [usize; 2]) {
+        let what = format!("send, {}, outputs of {} and {}", what, rooms[0], rooms[1]);
+        self.call_with(&what, Call::Send { frame }, rooms);
     }
 
     // ---- the list
@@ -473,6 +487,8 @@ impl<S: Side> List<S> {
         let number = 258;
         let call = Call::WriteTag { frame, number };
         self.call(&format!("write a tag, {}", what), call, 2000);
+        self.side.set_next(number);
+        self.send(what, frame, [2000, 2000]);
     }
 
     fn sources(&mut self) {
@@ -811,6 +827,7 @@ impl<S: Side> List<S> {
                 Call::WriteTag { frame, number },
                 0,
             );
+            self.send(what, frame, [0, 0]);
         }
     }
 
@@ -1028,6 +1045,76 @@ impl<S: Side> List<S> {
             &packed(&frames),
             all,
         );
+    }
+
+    fn sends(&mut self) {
+        self.section("Sends: the next number, from a sender at first");
+        let ample = [60, 60];
+        let plain = frame(14, PLAIN);
+        let group = from_source(3, plain.clone());
+        self.table(&[]);
+        self.send("the first", &plain, ample);
+        self.send("the second", &plain, ample);
+        self.call("reset the sender", Call::ResetSender, 0);
+        self.call("reset it again", Call::ResetSender, 0);
+        self.send("after the reset", &plain, ample);
+        self.side.set_next(65534);
+        self.send("65534 is next", &plain, ample);
+        self.send("65535 is next, 13 bytes", &plain[..13], ample);
+        self.send("65535 is next, group source", &group, ample);
+        self.send("65535 is next", &plain, [20, 19]);
+        self.send("65535 is next", &plain, ample);
+        self.send("0 is next, tagged", &frame(20, tagged(7)), ample);
+        self.send("0 is next", &plain, [19, 20]);
+        self.send("0 is next", &plain, ample);
+        self.send("1 is next", &plain, ample);
+        self.side.set_next(65535);
+        self.call("reset where 65535 is next", Call::ResetSender, 0);
+
+        self.section("Sends: the two outputs, each of just the size, one byte too small, larger, or of no bytes");
+        self.side.set_next(258);
+        let vlan = Tags {
+            vlan: Some(5),
+            ..PLAIN
+        };
+        for (kind, length, tags) in [
+            ("plain", 14, PLAIN),
+            ("8100", 18, vlan),
+            ("plain", 1994, PLAIN),
+        ] {
+            let f = frame(length, tags);
+            let (just, less, more) = (length + 6, length + 5, length + 7);
+            let what = format!("{} bytes, {}", length, kind);
+            for rooms in [
+                [less, just],
+                [just, less],
+                [less, less],
+                [less, 3000],
+                [3000, less],
+                [0, just],
+                [just, 0],
+                [0, 0],
+                [just, just],
+                [just, more],
+                [3000, just],
+            ] {
+                self.send(&what, &f, rooms);
+            }
+        }
+
+        self.section("Sends: one output too small, and a fault that comes before");
+        for (what, f) in [
+            ("1995 bytes", frame(1995, PLAIN)),
+            ("13 bytes", frame(13, PLAIN)),
+            ("17 bytes, 8100", frame(17, vlan)),
+            ("14 bytes, F1C1", frame(14, tagged(7))),
+            ("group source", group),
+        ] {
+            let just = f.len() + 6;
+            self.send(what, &f, [just, just - 1]);
+            self.send(what, &f, [just - 1, just]);
+        }
+        self.send("14 bytes, plain", &plain, ample);
     }
 
     fn damage(&mut self) {
@@ -1453,6 +1540,7 @@ fn run<S: Side>() -> List<S> {
     list.wrap_run();
     list.older_than_the_first();
     list.batches();
+    list.sends();
     list
 }
 

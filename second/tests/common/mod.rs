@@ -117,6 +117,27 @@ pub fn untagged_to(destination: [u8; 6], tci: Option<u16>) -> Vec<u8> {
     frame
 }
 
+/// Do these two bytes stand at the place?
+pub fn at(frame: &[u8], place: usize, mark: [u8; 2]) -> bool {
+    frame.get(place..place + 2) == Some(&mark[..])
+}
+
+/// Where the type field of the frame is.
+pub fn type_place(frame: &[u8]) -> usize {
+    if at(frame, 12, [0x81, 0x00]) {
+        16
+    } else {
+        12
+    }
+}
+
+/// The frame with a tag, put together from its parts.
+pub fn with_tag(frame: &[u8], number: u16) -> Vec<u8> {
+    let (front, behind) = frame.split_at(type_place(frame));
+    let [high, low] = number.to_be_bytes();
+    [front, &[0xF1, 0xC1, 0, 0, high, low], behind].concat()
+}
+
 /// The frame with another first source byte.
 pub fn from_source(first: u8, frame: &[u8]) -> Vec<u8> {
     let mut frame = frame.to_vec();
