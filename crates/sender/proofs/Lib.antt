@@ -2,3 +2,4 @@
 pub mod Sends
 pub mod Laws
 pub mod Numbers
+pub mod Computed

@@ -19,7 +19,7 @@ use Rattle.frame.proofs.Writes.{wrote-is}
 use Rattle.frame.proofs.PutThenTake.{put-then-take}
 use Rattle.sender.specs.declared.Sender.{Sender}
 use Rattle.sender.specs.Sender.{Numbered, Sends, atFirst, following, resetOf, sendOf}
-use Rattle.sender.specs.Runs.{Call, sending, resetting, Side, MeetsSide, ran, Pair, pairOf, sent, nth, unbroken, Carries, SentFrom, SentAtFirst, SentAfterReset, SentInParts, NextRises, SameBytes, SidesNumber}
+use Rattle.sender.specs.Runs.{Call, sending, resetting, Side, MeetsSide, theSide, ran, Pair, pairOf, sent, nth, unbroken, Carries, SentFrom, SentAtFirst, SentAfterReset, SentInParts, NextRises, SameBytes, SidesNumber}
 use Rattle.sender.proofs.Laws.{Done, send-done-is, refused-keeps}
 
 -- ---- numbers
@@ -57,8 +57,7 @@ pair-carries s f out0 out1 a small d =
     let w = wrote-is f (s .next) (d .wrote) in
     let r = put-then-take f (s .next) g small (d .wrote) in
     let l : a .length ≡ length g = ap (λ x. x .length) (d .answer) in
-    let front : (out : List ℕ) → take (a .length) (overlay g out) ≡ tagged f (s .next) = λ out. overlay-front g out l ∙ w .same in
-    (
+    let front : (out : List ℕ) → take (a .length) (overlay g out) ≡ tagged f (s .next) = λ out. overlay-front g out l ∙ w .same in (
       record { given = f; copy0 = take (a .length) (sendOf s f out0 out1 .out0); copy1 = take (a .length) (sendOf s f out0 out1 .out1) },
       refl,
       record {
@@ -186,6 +185,10 @@ module _ (side : Side) (m : MeetsSide side) where
       let c0 : p .copy0 ≡ q .copy0 = a .copy0 ∙ t ∙ sym (b .copy0) in
       let c1 : p .copy1 ≡ q .copy1 = a .copy1 ∙ t ∙ sym (b .copy1) in
       λ i. record { given = g i; copy0 = c0 i; copy1 = c1 i }
+
+pub the-side-meets : MeetsSide theSide
+unfolding theSide
+the-side-meets = record { send = λ s f out0 out1. refl; reset = λ s. refl }
 
 pub sides-number : SidesNumber
 sides-number side m = record {

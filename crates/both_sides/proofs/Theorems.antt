@@ -1,0 +1,48 @@
+-- The list of theorems. Assumes nothing.
+use Rattle.demands.specs.Receiver.{Receiver, MeetsContract}
+use Rattle.demands.specs.Steps.{Machine, MeetsAll}
+use Rattle.demands.proofs.Told.{arrivals-recovered}
+use Rattle.demands.proofs.Theorems as demands
+use Rattle.sender.specs.Runs.{Side, MeetsSide}
+use Rattle.sender.proofs.Numbers.{the-side-meets}
+use Rattle.both_sides.specs.Demand3Sent.{PremisesMet, Demand3Sent, NeverTwiceSent, Demand3StepsSent}
+use Rattle.both_sides.specs.Theorems.{Both, Theorems}
+use Rattle.both_sides.proofs.Coded.{sender-meets}
+use Rattle.both_sides.proofs.Heard.{sent-are-numbered, sent-at-first-are-numbered}
+use Rattle.both_sides.proofs.Runs.{wrap-sent, premises-sent-needed}
+
+module _ {receive : Receiver} (k : MeetsContract receive) {side : Side} (m : MeetsSide side) where
+  premises-met : PremisesMet receive side
+  premises-met s calls t i gap later indices h = record {
+    vector = h .vector;
+    silent = h .silent;
+    lasts = h .lasts;
+    numbered = sent-are-numbered receive (arrivals-recovered k) side m s calls _ i later indices (h .from-sender);
+    near = h .near;
+  }
+
+  demand-3-sent : Demand3Sent receive side
+  demand-3-sent s calls t i gap later indices h = demands.demands k .demand-3 t i gap later _ (premises-met s calls t i gap later indices h)
+
+  never-twice-sent : NeverTwiceSent receive side
+  never-twice-sent s calls t i gap later indices h = demands.demands k .never-twice t i gap later _ (premises-met s calls t i gap later indices h)
+
+demand-3-steps-sent : {m : Machine} → MeetsAll m → {side : Side} → MeetsSide side → Demand3StepsSent m side
+demand-3-steps-sent k n s calls t i gap later indices h =
+    demands.step-demands k .demand-3-steps t i gap later _ (premises-met (k .receive) n s calls t i _ _ indices h)
+
+pub theorems : Theorems
+theorems = record {
+  both = λ receive k side m. record {
+    sent-are-numbered = sent-are-numbered receive (arrivals-recovered k) side m;
+    sent-at-first-are-numbered = sent-at-first-are-numbered receive (arrivals-recovered k) side m;
+    premises-met = premises-met k m;
+    demand-3-sent = demand-3-sent k m;
+    never-twice-sent = never-twice-sent k m;
+  };
+  steps = λ m k side n. demand-3-steps-sent k n;
+  met = the-side-meets;
+  sender-meets = sender-meets;
+  wrap-sent = wrap-sent;
+  premises-sent-needed = premises-sent-needed;
+}

@@ -1,0 +1,5 @@
+pub mod Code
+pub mod Copies
+pub mod Demand3Sent
+pub mod Examples
+pub mod Theorems

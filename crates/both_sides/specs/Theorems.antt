@@ -1,0 +1,28 @@
+-- What this crate proves, as one list. Assumes nothing.
+use Rattle.demands.specs.Receiver.{Receiver, MeetsContract}
+use Rattle.demands.specs.Steps.{Machine, MeetsAll}
+use Rattle.sender.specs.Runs.{Side, MeetsSide, theSide}
+use Rattle.both_sides.specs.Code.{SenderMeets}
+use Rattle.both_sides.specs.Copies.{SentAreNumbered, SentAtFirstAreNumbered}
+use Rattle.both_sides.specs.Demand3Sent.{PremisesMet, Demand3Sent, NeverTwiceSent, Demand3StepsSent}
+use Rattle.both_sides.specs.Examples.{WrapSent, PremisesSentNeeded}
+
+-- Of a receiver and a sending side.
+pub record Both (receive : Receiver) (side : Side) : Type 0 where
+  pub sent-are-numbered : SentAreNumbered receive side
+  pub sent-at-first-are-numbered : SentAtFirstAreNumbered receive side
+  pub premises-met : PremisesMet receive side
+  pub demand-3-sent : Demand3Sent receive side
+  pub never-twice-sent : NeverTwiceSent receive side
+
+pub record Theorems : Type 2 where
+  -- Of every receiver and every sending side that meet their contracts,
+  pub both : (receive : Receiver) → MeetsContract receive → (side : Side) → MeetsSide side → Both receive side
+  -- and of every receiver with the batch beside it;
+  pub steps : (m : Machine) → MeetsAll m → (side : Side) → MeetsSide side → Demand3StepsSent m side
+  -- there is a sending side that meets it, and the code of the sender meets it.
+  pub met : MeetsSide theSide
+  pub sender-meets : SenderMeets
+  -- The premises can be met, by a run over the wrap, and each that is new is needed.
+  pub wrap-sent : WrapSent
+  pub premises-sent-needed : PremisesSentNeeded
