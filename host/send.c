@@ -1,5 +1,5 @@
-// send: the frames of a stream on two network interfaces, tagged by the proved writer, with losses and skew; or of many
-// streams by the clock. Each frame carries its index, so that a test can tell which came through.
+// send: the frames of a stream on two network interfaces, numbered and tagged by the proved sender, with losses and skew; or of
+// many streams by the clock. Each frame carries its index, so that a test can tell which came through.
 #include "clock.h"
 #include "host.h"
 #include "nippitsun.h"
@@ -28,8 +28,10 @@ static const char usage[] =
     "usage: send [OPTION].. INTERFACE0 INTERFACE1\n"
     "  --dest DEST    destination address in hex (020000000001)\n"
     "  --vlan ID      put a VLAN tag in; none without this option\n"
-    "  --first N      the first index (0); the number of a frame is its index modulo 65536\n"
+    "  --first N      the first index (0); the sender begins with N modulo 65536 as its number\n"
     "  --count N      indices to send (1000)\n"
+    "  --restart N    after every N indices the sender is reset: the next frame has number 0, and indices go on; and\n"
+    "    --silent MS  nothing is sent for MS milliseconds before that (0)\n"
     "  --size N       bytes of a frame before the tag is put in (60)\n"
     "  --network N    send on network N alone\n"
     "  --skew N       either network is ahead of the other by up to N indices (16)\n"
@@ -44,10 +46,15 @@ static const char usage[] =
 struct plan {
     uint8_t dest[ADDRESS];
     int vlan, lossless, alone; // alone: the only network; -1: both
-    uint64_t first, indices, skew, seed, streams, unequal;
-    int64_t every, apart;
+    uint64_t first, indices, restart, skew, seed, streams, unequal; // restart: indices from one reset of the sender to the next
+    int64_t every, apart, silent;
     size_t size;
 };
+
+static void sleep_for(int64_t nanoseconds)
+{
+    nanosleep(&(struct timespec){nanoseconds / SECOND, nanoseconds % SECOND}, NULL);
+}
 
 // One step of xorshift. The seed is never 0.
 static uint64_t draw(uint64_t *state)
@@ -91,77 +98,116 @@ static size_t make_frame(uint8_t *frame, const uint8_t *dest, int vlan, size_t s
 static int ports[NETWORKS];
 static uint64_t sent[NETWORKS];
 
-// Sends an index on a network, but for the networks that are left out.
-static void send_one(const struct plan *p, int network, int vlan, uint64_t index)
+// By how many nanoseconds a copy went out late, at most: a machine that is busy holds the sender up.
+static int64_t latest;
+
+// One for each stream.
+static nippitsun_sender senders[NIPPITSUN_SLOTS_MOST];
+
+// The copies that wait for their network: place k is in room k modulo rooms.
+static uint8_t *waiting;
+static uint64_t rooms;
+
+static size_t tagged_length(const struct plan *p)
+{
+    return p->size + NIPPITSUN_TAG_LENGTH;
+}
+
+// Room for as many copies as can wait at once, so far as one network, or the first copies, can be ahead.
+static void make_room(const struct plan *p)
+{
+    // By the clock a first copy goes out while it is due before the oldest that waits. Due times are cut to whole nanoseconds.
+    rooms = p->every == 0 ? p->skew : ((uint64_t)p->apart + 1) * p->streams / (uint64_t)p->every + 1;
+    // None waits over a restart.
+    if (rooms > p->restart * p->streams) rooms = p->restart * p->streams;
+    waiting = calloc(rooms, tagged_length(p));
+    if (waiting == NULL) refuse("no memory for %" PRIu64 " copies that wait for their network", rooms);
+}
+
+// The copy of a place for a network: place k is index k / streams of stream k modulo streams. When it is asked for first, one
+// call makes both copies, and the other network's waits. The answer stands until the next call.
+static const uint8_t *copy_for(const struct plan *p, int network, uint64_t place, int is_first)
+{
+    static uint8_t now[NIPPITSUN_FRAME_MOST];
+    uint8_t *later = waiting + place % rooms * tagged_length(p);
+    if (!is_first) return later;
+    uint64_t stream = place % p->streams, index = p->first + place / p->streams;
+    uint8_t plain[NIPPITSUN_UNTAGGED_MOST];
+    size_t index_at = make_frame(plain, p->dest, p->vlan < 0 ? -1 : p->vlan + (int)stream, p->size);
+    for (int i = 0; i < INDEX_BYTES; i++) plain[index_at + i] = (uint8_t)(index >> 8 * (INDEX_BYTES - 1 - i));
+    uint8_t *out0 = network == 0 ? now : later, *out1 = network == 0 ? later : now;
+    nippitsun_tag_answer a = nippitsun_send(&senders[stream], plain, p->size, out0, tagged_length(p), out1, tagged_length(p));
+    if (a.refusal != 0) refuse("tag: %u, %s", a.refusal, refusal_words(a.refusal));
+    return now;
+}
+
+// Sends a copy on a network, but for the networks that are left out.
+static void send_copy(const struct plan *p, int network, const uint8_t *copy)
 {
     if (p->alone >= 0 && p->alone != network) return;
-    uint8_t plain[NIPPITSUN_UNTAGGED_MOST], tagged[NIPPITSUN_FRAME_MOST];
-    size_t index_at = make_frame(plain, p->dest, vlan, p->size);
-    for (int i = 0; i < INDEX_BYTES; i++) plain[index_at + i] = (uint8_t)(index >> 8 * (INDEX_BYTES - 1 - i));
-    nippitsun_tag_answer a = nippitsun_write_tag(plain, p->size, (uint16_t)index, tagged, sizeof tagged);
-    if (a.refusal != 0) refuse("tag: %u, %s", a.refusal, refusal_words(a.refusal));
     // A full queue is waited for: losses are chosen, not met.
-    while (send(ports[network], tagged, a.length, 0) < 0) {
+    while (send(ports[network], copy, tagged_length(p), 0) < 0) {
         if (errno != ENOBUFS && errno != EAGAIN && errno != EINTR) fail("send");
-        nanosleep(&(struct timespec){0, PAUSE}, NULL);
+        sleep_for(PAUSE);
     }
     sent[network]++;
 }
 
-static void send_by_chance(const struct plan *p)
+// Sends the indices from `from` on, and ends before `to`.
+static void send_by_chance(const struct plan *p, uint64_t from, uint64_t to)
 {
-    uint64_t next[NETWORKS] = {0, 0}, since_pause = 0, state = p->seed;
-    while (next[0] < p->indices || next[1] < p->indices) {
+    uint64_t next[NETWORKS] = {from, from}, since_pause = 0, state = p->seed;
+    while (next[0] < to || next[1] < to) {
         int network = (int)(draw(&state) >> 32 & 1);
         uint64_t other = next[1 - network];
-        if (next[network] == p->indices || (next[network] > other && next[network] - other >= p->skew)) network = 1 - network;
+        if (next[network] == to || (next[network] > other && next[network] - other >= p->skew)) network = 1 - network;
         uint64_t index = next[network]++;
+        const uint8_t *copy = copy_for(p, network, index, index >= next[1 - network]);
         if (!p->lossless && is_lost(p->seed, network, index)) continue;
-        send_one(p, network, p->vlan, p->first + index);
+        send_copy(p, network, copy);
         if (++since_pause == BETWEEN) {
             since_pause = 0;
-            nanosleep(&(struct timespec){0, PAUSE}, NULL);
+            sleep_for(PAUSE);
         }
     }
 }
 
-// Copy by copy: place k of the first copies and of the second ones is index k / streams of stream k modulo streams. Answers
-// how late a copy went out, in nanoseconds: a machine that is busy holds the sender up.
-static int64_t send_by_clock(const struct plan *p)
+// The same, copy by copy: the first copies place by place, and the second ones behind them.
+static void send_by_clock(const struct plan *p, uint64_t from, uint64_t to)
 {
     // Before all other programs, where that is allowed: what is held up here is no delay of the networks.
     sched_setscheduler(0, SCHED_FIFO, &(struct sched_param){.sched_priority = 10});
-    uint64_t places = p->indices * p->streams, at[2] = {0, 0};
-    int64_t start = clock_now(), latest = 0;
-    while (at[0] < places || at[1] < places) {
+    uint64_t begin = from * p->streams, end = to * p->streams, at[2] = {begin, begin};
+    int64_t start = clock_now();
+    while (at[0] < end || at[1] < end) {
         int64_t due[2];
         for (int copy = 0; copy < 2; copy++)
-            due[copy] = start + (int64_t)at[copy] * p->every / (int64_t)p->streams + (copy == 0 ? 0 : p->apart);
-        int copy = at[0] == places || (at[1] < at[0] && due[1] <= due[0]);
+            due[copy] = start + (int64_t)(at[copy] - begin) * p->every / (int64_t)p->streams + (copy == 0 ? 0 : p->apart);
+        int copy = at[0] == end || (at[1] < at[0] && due[1] <= due[0]);
         int64_t now = clock_now();
         if (due[copy] > now) {
-            int64_t pause = due[copy] - now;
-            nanosleep(&(struct timespec){pause / SECOND, pause % SECOND}, NULL);
+            sleep_for(due[copy] - now);
             continue;
         }
         if (now - due[copy] > latest) latest = now - due[copy];
         uint64_t place = at[copy]++, index = place / p->streams;
         // Streams begin on different networks, so that at any time each network has first copies.
         int network = (int)((index + place % p->streams + (uint64_t)copy) & 1);
+        const uint8_t *frame = copy_for(p, network, place, copy == 0);
         if (network == 0 && p->unequal != 0 && index % p->unequal == p->unequal - 1) continue;
-        send_one(p, network, p->vlan < 0 ? -1 : p->vlan + (int)(place % p->streams), p->first + index);
+        send_copy(p, network, frame);
     }
-    return latest;
 }
 
 int main(int count, char **words)
 {
     static const struct option options[] = {
         {"dest", required_argument, NULL, 'd'},    {"vlan", required_argument, NULL, 'v'},    {"first", required_argument, NULL, 'f'},
-        {"count", required_argument, NULL, 'c'},   {"size", required_argument, NULL, 'z'},    {"network", required_argument, NULL, 'w'},
-        {"skew", required_argument, NULL, 'k'},    {"lossless", no_argument, NULL, 'n'},      {"seed", required_argument, NULL, 's'},
-        {"every", required_argument, NULL, 'e'},   {"apart", required_argument, NULL, 'a'},   {"streams", required_argument, NULL, 'm'},
-        {"unequal", required_argument, NULL, 'u'}, {"help", no_argument, NULL, 'h'},          {NULL, 0, NULL, 0},
+        {"count", required_argument, NULL, 'c'},   {"restart", required_argument, NULL, 'r'}, {"silent", required_argument, NULL, 'q'},
+        {"size", required_argument, NULL, 'z'},    {"network", required_argument, NULL, 'w'}, {"skew", required_argument, NULL, 'k'},
+        {"lossless", no_argument, NULL, 'n'},      {"seed", required_argument, NULL, 's'},    {"every", required_argument, NULL, 'e'},
+        {"apart", required_argument, NULL, 'a'},   {"streams", required_argument, NULL, 'm'}, {"unequal", required_argument, NULL, 'u'},
+        {"help", no_argument, NULL, 'h'},          {NULL, 0, NULL, 0},
     };
     const uint64_t hour = UINT64_C(3600000000);
     struct plan p = {{2, 0, 0, 0, 0, 1}, .vlan = -1, .alone = -1, .indices = 1000, .skew = 16, .seed = 1, .streams = 1, .size = 60};
@@ -171,6 +217,8 @@ int main(int count, char **words)
         case 'v': p.vlan = (int)read_number("VLAN id", optarg, 0, 4095); break;
         case 'f': p.first = read_number("first", optarg, 0, INT64_MAX); break;
         case 'c': p.indices = read_number("count", optarg, 1, INT32_MAX); break;
+        case 'r': p.restart = read_number("restart", optarg, 1, INT32_MAX); break;
+        case 'q': p.silent = (int64_t)read_number("silent", optarg, 0, hour / 1000) * MILLISECOND; break;
         case 'z': p.size = read_number("size", optarg, LONGEST_HEAD + INDEX_BYTES, NIPPITSUN_UNTAGGED_MOST); break;
         case 'w': p.alone = (int)read_number("network", optarg, 0, NETWORKS - 1); break;
         case 'k': p.skew = read_number("skew", optarg, 1, 65535); break;
@@ -186,13 +234,24 @@ int main(int count, char **words)
     if (count - optind != NETWORKS) say_usage(usage, 0);
     if (p.every == 0 && (p.apart != 0 || p.streams != 1 || p.unequal != 0)) refuse("--apart, --streams and --unequal go with --every");
     if (p.streams > 1 && (p.vlan < 0 || p.vlan + (int)p.streams - 1 > NIPPITSUN_VLAN_MOST)) refuse("--streams needs --vlan, and room for as many ids");
+    if (p.restart == 0 && p.silent != 0) refuse("--silent goes with --restart");
+    if (p.restart >= p.indices) refuse("--restart %" PRIu64 " is never reached: --count is %" PRIu64, p.restart, p.indices);
+    if (p.restart == 0) p.restart = p.indices;
+    make_room(&p);
     // The network that is left out need not be there.
     for (int i = 0; i < NETWORKS; i++)
         if (p.alone < 0 || p.alone == i) ports[i] = open_sender(words[optind + i]);
 
-    int64_t latest = 0;
-    if (p.every == 0) send_by_chance(&p);
-    else latest = send_by_clock(&p);
+    for (uint64_t i = 0; i < p.streams; i++) senders[i].next = (uint16_t)p.first;
+    for (uint64_t from = 0, to; from < p.indices; from = to) {
+        to = p.indices - from < p.restart ? p.indices : from + p.restart;
+        if (from > 0) {
+            sleep_for(p.silent);
+            for (uint64_t i = 0; i < p.streams; i++) nippitsun_reset_sender(&senders[i]);
+        }
+        if (p.every == 0) send_by_chance(&p, from, to);
+        else send_by_clock(&p, from, to);
+    }
     // Of each stream; all have the same.
     printf("indices %" PRIu64 " sent0 %" PRIu64 " sent1 %" PRIu64 " late %" PRId64 "\n", p.indices, sent[0] / p.streams, sent[1] / p.streams, latest / 1000);
     return 0;

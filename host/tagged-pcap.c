@@ -1,6 +1,7 @@
 // tagged-pcap: frames on standard input, each with the number for its tag; a capture of the tagged frames on standard output.
-// A record of the input is the number and the frame's length, two bytes each, high byte first, and the frame.
-// checks/tshark lets tshark read the tags that the proved writer has written here.
+// A record of the input is the number and the frame's length, two bytes each, high byte first, and the frame. Or a sender numbers
+// the frames, and both copies are in the capture.
+// checks/tshark lets tshark read the tags that the proved writer and the proved sender have written here.
 #include "host.h"
 #include "nippitsun.h"
 
@@ -18,14 +19,29 @@ static void put(uint32_t number)
     fwrite(&number, sizeof number, 1, stdout);
 }
 
+// The time stamp is the place in the file, in microseconds.
+static void put_frame(const uint8_t *frame, size_t length)
+{
+    static uint32_t place;
+    put(place / 1000000);
+    put(place % 1000000);
+    put((uint32_t)length);
+    put((uint32_t)length);
+    fwrite(frame, 1, length, stdout);
+    place++;
+}
+
 static const char usage[] =
-    "usage: tagged-pcap <RECORDS >CAPTURE\n"
+    "usage: tagged-pcap [--sender N] <RECORDS >CAPTURE\n"
     "  a record is the number for the tag and the frame's length, two bytes each, high byte first, and the frame\n"
-    "  --help   print this text\n";
+    "  --sender N  a sender numbers the frames from N on: a record has no number, and both copies are written\n"
+    "  --help      print this text\n";
 
 int main(int count, char **words)
 {
-    if (count > 1) say_usage(usage, count == 2 && strcmp(words[1], "--help") == 0);
+    int by_sender = count == 3 && strcmp(words[1], "--sender") == 0;
+    if (count > 1 && !by_sender) say_usage(usage, count == 2 && strcmp(words[1], "--help") == 0);
+    nippitsun_sender sender = {by_sender ? (uint16_t)read_number("number", words[2], 0, UINT16_MAX) : 0};
 
     // pcap with microseconds, version 2.4, no limit on the length that matters here, Ethernet.
     put(0xA1B2C3D4);
@@ -35,20 +51,16 @@ int main(int count, char **words)
     put(65535);
     put(1);
 
-    uint8_t head[4], frame[NIPPITSUN_UNTAGGED_MOST], tagged[NIPPITSUN_FRAME_MOST];
-    uint32_t records = 0;
-    while (fread(head, sizeof head, 1, stdin) == 1) {
-        unsigned number = two_bytes(head), length = two_bytes(head + 2);
-        if (length > sizeof frame || fread(frame, 1, length, stdin) != length) refuse("record %u is cut or too long", records + 1);
-        nippitsun_tag_answer a = nippitsun_write_tag(frame, length, (uint16_t)number, tagged, sizeof tagged);
-        if (a.refusal != 0) refuse("record %u: %u, %s", records + 1, a.refusal, refusal_words(a.refusal));
-        // The time stamp is the place in the file, in microseconds.
-        put(records / 1000000);
-        put(records % 1000000);
-        put((uint32_t)a.length);
-        put((uint32_t)a.length);
-        fwrite(tagged, 1, a.length, stdout);
-        records++;
+    // The number, if there is one, and the length.
+    uint8_t head[4], *length_at = by_sender ? head : head + 2;
+    uint8_t frame[NIPPITSUN_UNTAGGED_MOST], tagged[NETWORKS][NIPPITSUN_FRAME_MOST];
+    for (unsigned record = 1; fread(head, by_sender ? 2 : 4, 1, stdin) == 1; record++) {
+        unsigned length = two_bytes(length_at);
+        if (length > sizeof frame || fread(frame, 1, length, stdin) != length) refuse("record %u is cut or too long", record);
+        nippitsun_tag_answer a = by_sender ? nippitsun_send(&sender, frame, length, tagged[0], sizeof tagged[0], tagged[1], sizeof tagged[1])
+                                           : nippitsun_write_tag(frame, length, (uint16_t)two_bytes(head), tagged[0], sizeof tagged[0]);
+        if (a.refusal != 0) refuse("record %u: %u, %s", record, a.refusal, refusal_words(a.refusal));
+        for (int copy = 0; copy < (by_sender ? NETWORKS : 1); copy++) put_frame(tagged[copy], a.length);
     }
     if (fflush(stdout) != 0) fail("standard output");
     return 0;
