@@ -4,7 +4,8 @@ use Rattle.demands.specs.Steps.{Machine, MeetsAll}
 use Rattle.demands.proofs.Told.{arrivals-recovered}
 use Rattle.demands.proofs.Theorems as demands
 use Rattle.sender.specs.Runs.{Side, MeetsSide}
-use Rattle.sender.proofs.Numbers.{the-side-meets}
+use Rattle.sender.proofs.Numbers.{the-side-meets, sides-number}
+use Rattle.sender.proofs.Computed.{ruled-out}
 use Rattle.both_sides.specs.Demand3Sent.{PremisesMet, Demand3Sent, NeverTwiceSent, Demand3StepsSent}
 use Rattle.both_sides.specs.Theorems.{Both, Theorems}
 use Rattle.both_sides.proofs.Coded.{sender-meets}
@@ -33,6 +34,8 @@ demand-3-steps-sent k n s calls t i gap later indices h =
 
 pub theorems : Theorems
 theorems = record {
+  sides-number = sides-number;
+  ruled-out = ruled-out;
   both = λ receive k side m. record {
     sent-are-numbered = sent-are-numbered receive (arrivals-recovered k) side m;
     sent-at-first-are-numbered = sent-at-first-are-numbered receive (arrivals-recovered k) side m;

@@ -1,7 +1,8 @@
--- What this crate proves, as one list. Assumes nothing.
+-- What is proved of the sending side, alone and together with the receiver, as one list. Assumes nothing.
 use Rattle.demands.specs.Receiver.{Receiver, MeetsContract}
 use Rattle.demands.specs.Steps.{Machine, MeetsAll}
-use Rattle.sender.specs.Runs.{Side, MeetsSide, theSide}
+use Rattle.sender.specs.Runs.{Side, MeetsSide, theSide, SidesNumber}
+use Rattle.sender.specs.Wrong.{RuledOut}
 use Rattle.both_sides.specs.Code.{SenderMeets}
 use Rattle.both_sides.specs.Copies.{SentAreNumbered, SentAtFirstAreNumbered}
 use Rattle.both_sides.specs.Demand3Sent.{PremisesMet, Demand3Sent, NeverTwiceSent, Demand3StepsSent}
@@ -16,7 +17,11 @@ pub record Both (receive : Receiver) (side : Side) : Type 0 where
   pub never-twice-sent : NeverTwiceSent receive side
 
 pub record Theorems : Type 2 where
-  -- Of every receiver and every sending side that meet their contracts,
+  -- Frames sent without a reset carry their index modulo 65536, of every sending side that meets the order, and senders that look
+  -- right fail;
+  pub sides-number : SidesNumber
+  pub ruled-out : RuledOut
+  -- of every receiver and every sending side that meet their contracts,
   pub both : (receive : Receiver) → MeetsContract receive → (side : Side) → MeetsSide side → Both receive side
   -- and of every receiver with the batch beside it;
   pub steps : (m : Machine) → MeetsAll m → (side : Side) → MeetsSide side → Demand3StepsSent m side

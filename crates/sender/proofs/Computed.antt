@@ -1,12 +1,14 @@
 -- The runs with numbers compute. Assumes nothing.
-use mathlib.Core.Path.{_≡_, refl, ap}
-use Prim.Native.Nat.{ℕ}
+use mathlib.Core.Path.{refl, ap}
 use native.Mathlib.Omega.{arith}
-use mathlib.Core.List.{List}
+use mathlib.Core.List.{[], _∷_}
+use lib.Dec.{lit≤}
 use Rattle.frame.specs.Frame.{groupSource, hasVlan, vlanOf, typeAt, isTagged, headShort, numberIn, placeOf, putAt, tagAt, writeOf}
 use Rattle.frame.specs.Bytes.{overlay}
-use Rattle.sender.specs.Sender.{following, sendInto, sendOf}
-use Rattle.sender.specs.Runs.{theSide, ran, pairOf, sent, unbroken}
+use Rattle.frame.specs.TagCalls.{writeInto, writeTag}
+use Rattle.sender.specs.Sender.{Sends, atFirst, following, sendInto, sendOf}
+use Rattle.sender.specs.Runs.{theSide, ran, pairOf, sent, nth, unbroken}
+use Rattle.sender.specs.Wrong.{risen, risesOnRefusal, secondGetsNext, firstTooSoon, wrapsToOne, RuledOut}
 use Rattle.sender.specs.Example.{plain, numbered, pair, room0, room1, into, near, overWrap, reflected, cut, padded, WrapSends, RefusesEach, SentPremisesNeeded}
 
 -- One name for all that they compute with.
@@ -27,4 +29,13 @@ unfolding computing
 sent-premises-needed = record {
   reset = (refl, refl, λ c. let e = ap numberIn (c .copy0) in omega (arith, e));
   wide = (refl, λ c. let e = ap numberIn (c .copy0) in omega (arith, e));
+}
+
+pub ruled-out : RuledOut
+unfolding computing nth writeTag writeInto risen risesOnRefusal secondGetsNext firstTooSoon wrapsToOne
+ruled-out = record {
+  rises-on-refusal = λ h. let e = ap numberIn (h atFirst (into 19 20 ∷ into 20 20 ∷ []) 0 (pair 1) (lit≤ tt) refl refl .copy0) in omega (arith, e);
+  second-gets-next = λ h. let e = ap numberIn (h atFirst (into 20 20 ∷ []) 0 (record { given = plain; copy0 = numbered 0; copy1 = numbered 1 }) (lit≤ tt) refl refl .copy1) in omega (arith, e);
+  first-too-soon = λ h. let e = ap (λ (r : Sends). numberIn (r .out0)) (h near plain (room0 20) (room1 19) 8 refl) in omega (arith, e);
+  wraps-to-one = λ h. let e = ap numberIn (h near (into 20 20 ∷ into 20 20 ∷ into 20 20 ∷ []) 2 (pair 1) (lit≤ tt) refl refl .copy0) in omega (arith, e);
 }

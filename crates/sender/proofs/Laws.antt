@@ -72,7 +72,7 @@ send-first s f out0 out1 = go (ltb untaggedMost (length f)) (headShort f) refl (
 pub send-refused-exactly : SendRefusedExactly
 send-refused-exactly s f out0 out1 n = rw (send-first s f out0 out1) (first-exactly Numbered (sendChecks f out0 out1) (record { number = s .next; length = length f + 6 }) n)
 
-pub refused-keeps : RefusedKeeps
+pub refused-keeps : RefusedKeeps sendOf
 unfolding sendOf sendInto
 refused-keeps s f out0 out1 n e = go (writeOf f (s .next)) e
   where

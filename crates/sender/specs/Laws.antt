@@ -1,20 +1,17 @@
 -- Document 02, order 6: what else holds of one send, as statements. Assumes nothing.
-use Prim.Native.Nat.{ℕ, _<_}
+use Prim.Native.Nat.{ℕ}
 use mathlib.Core.Path.{_≡_}
 use mathlib.Core.List.{List}
-use lib.ListN.{length, take}
 use Rattle.refusal.specs.Checks.Said.{refused, answers}
-use Rattle.frame.specs.Bytes.{overlay}
-use Rattle.frame.specs.Frame.{Tag, destOf, vlanOf, typeAt, readOf, untagged, tagged}
-use Rattle.frame.specs.TagCalls.{writeTag, takeTag}
+use Rattle.frame.specs.TagCalls.{writeTag}
 use Rattle.frame.specs.Laws.{Telling}
 use Rattle.sender.specs.declared.Sender.{Sender}
 use Rattle.sender.specs.declared.Sending.{Sending}
 use Rattle.sender.specs.Sender.{Numbered, Sends, refuses, following, sendOf, saidSent, comesTo}
 
 -- "or to neither. A refused frame uses up no number": the sender and every byte of both outputs stay.
-abbrev pub RefusedKeeps : Type 0
-RefusedKeeps = (s : Sender) (f out0 out1 : List ℕ) (n : ℕ) → sendOf s f out0 out1 .said ≡ refused n → sendOf s f out0 out1 ≡ refuses s out0 out1 n
+abbrev pub RefusedKeeps : (send : Sender → (f out0 out1 : List ℕ) → Sends) → Type 0
+RefusedKeeps send = (s : Sender) (f out0 out1 : List ℕ) (n : ℕ) → send s f out0 out1 .said ≡ refused n → send s f out0 out1 ≡ refuses s out0 out1 n
 
 -- A send that is answered is two tags written with the next number, one into each output; and that number is used up.
 pub record TwoWrites (s : Sender) (f out0 out1 : List ℕ) (a : Numbered) : Type 0 where

@@ -3,3 +3,4 @@ pub mod Refusals
 pub mod Laws
 pub mod Runs
 pub mod Example
+pub mod Wrong
