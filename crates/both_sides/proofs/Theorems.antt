@@ -1,16 +1,25 @@
 -- The list of theorems. Assumes nothing.
+use mathlib.Core.Path.{sym, ap, _∙_}
 use Rattle.demands.specs.Receiver.{Receiver, MeetsContract}
 use Rattle.demands.specs.Steps.{Machine, MeetsAll}
 use Rattle.demands.proofs.Told.{arrivals-recovered}
 use Rattle.demands.proofs.Theorems as demands
 use Rattle.sender.specs.Runs.{Side, MeetsSide}
+use Rattle.sender.proofs.Laws.{send-refused-exactly, refused-keeps}
 use Rattle.sender.proofs.Numbers.{the-side-meets, sides-number}
 use Rattle.sender.proofs.Computed.{ruled-out}
+use Rattle.both_sides.specs.Demand1Sent.{Demand1Sent}
 use Rattle.both_sides.specs.Demand3Sent.{PremisesMet, Demand3Sent, NeverTwiceSent, Demand3StepsSent}
 use Rattle.both_sides.specs.Theorems.{Both, Theorems}
 use Rattle.both_sides.proofs.Coded.{sender-meets}
 use Rattle.both_sides.proofs.Heard.{sent-are-numbered, sent-at-first-are-numbered}
 use Rattle.both_sides.proofs.Runs.{wrap-sent, premises-sent-needed}
+
+demand-1-sent : {side : Side} → MeetsSide side → Demand1Sent side
+demand-1-sent m = record {
+  number = λ s f out0 out1 n. rw (m .send s f out0 out1) (send-refused-exactly s f out0 out1 n);
+  keeps = λ s f out0 out1 n e. m .send s f out0 out1 ∙ refused-keeps s f out0 out1 n (ap (λ r. r .said) (sym (m .send s f out0 out1)) ∙ e);
+}
 
 module _ {receive : Receiver} (k : MeetsContract receive) {side : Side} (m : MeetsSide side) where
   premises-met : PremisesMet receive side
@@ -35,6 +44,7 @@ demand-3-steps-sent k n s calls t i gap later indices h =
 pub theorems : Theorems
 theorems = record {
   sides-number = sides-number;
+  demand-1-sent = λ side m. demand-1-sent m;
   ruled-out = ruled-out;
   both = λ receive k side m. record {
     sent-are-numbered = sent-are-numbered receive (arrivals-recovered k) side m;

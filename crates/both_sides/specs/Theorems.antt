@@ -4,6 +4,7 @@ use Rattle.demands.specs.Steps.{Machine, MeetsAll}
 use Rattle.sender.specs.Runs.{Side, MeetsSide, theSide, SidesNumber}
 use Rattle.sender.specs.Wrong.{RuledOut}
 use Rattle.both_sides.specs.Code.{SenderMeets}
+use Rattle.both_sides.specs.Demand1Sent.{Demand1Sent}
 use Rattle.both_sides.specs.Copies.{SentAreNumbered, SentAtFirstAreNumbered}
 use Rattle.both_sides.specs.Demand3Sent.{PremisesMet, Demand3Sent, NeverTwiceSent, Demand3StepsSent}
 use Rattle.both_sides.specs.Examples.{WrapSent, PremisesSentNeeded}
@@ -17,9 +18,10 @@ pub record Both (receive : Receiver) (side : Side) : Type 0 where
   pub never-twice-sent : NeverTwiceSent receive side
 
 pub record Theorems : Type 2 where
-  -- Frames sent without a reset carry their index modulo 65536, of every sending side that meets the order, and senders that look
-  -- right fail;
+  -- Frames sent without a reset carry their index modulo 65536, of every sending side that meets the order, and what it refuses
+  -- changes nothing; senders that look right fail;
   pub sides-number : SidesNumber
+  pub demand-1-sent : (side : Side) → MeetsSide side → Demand1Sent side
   pub ruled-out : RuledOut
   -- of every receiver and every sending side that meet their contracts,
   pub both : (receive : Receiver) → MeetsContract receive → (side : Side) → MeetsSide side → Both receive side
