@@ -1,32 +1,30 @@
 -- What a stream hears of a sender's frames are the indices of the sends, modulo 65536. Assumes nothing.
 use mathlib.Core.Path.{_≡_, refl, sym, ap, ap₂, _∙_}
-use Prim.Native.Nat.{ℕ, _+_, _%_, _<_}
+use Prim.Native.Nat.{ℕ, _+_, _<_}
 use native.Mathlib.Omega.{arith}
 use mathlib.Core.Logic.{_⊎_, inl, inr}
 use mathlib.Core.Bool.{Bool, true, false}
-use mathlib.Core.Option.{some}
 use mathlib.Core.List.{List, [], _∷_, _++_, map}
 use lib.Dec.{eqb}
-use borrow.Author.Tests.{eqb-true}
 use Rattle.refusal.specs.Checks.{Said}
 use Rattle.refusal.specs.Checks.Said.{refused, answers}
 use Rattle.record.specs.Words.{if_then_else_}
-use Rattle.frame.specs.Frame.{numberIn, readOf, tagged}
+use Rattle.frame.specs.Frame.{numberIn, tagged}
 use Rattle.frame.proofs.Heads.{tag-of}
 use Rattle.stream.specs.Decisions.{Verdict}
 use Rattle.calls.specs.Table.{Table}
-use Rattle.calls.specs.Calls.{Call, arriving, opening, closing, resetting, ticking, Answer, placed, done, swept, Result}
+use Rattle.calls.specs.Calls.{Call, arriving, opening, closing, resetting, ticking, Answer, placed, done, swept}
 use Rattle.calls.specs.Calls as calls
-use Rattle.demands.specs.Receiver.{Receiver, MeetsContract}
-use Rattle.demands.specs.Seen.{Seen, arrived, tick, ended, nothing, told, heard, answered, seenOf, seen, log, numbers}
+use Rattle.demands.specs.Receiver.{Receiver}
+use Rattle.demands.specs.Seen.{Seen, arrived, tick, ended, nothing, told, answered, seenOf, seen, log, numbers}
 use Rattle.demands.specs.Demand2.{ArrivalsRecovered}
 use Rattle.demands.specs.Demand3.{numberOf}
 use Rattle.sender.specs.declared.Sender.{Sender}
 use Rattle.sender.specs.Sender.{atFirst}
 use Rattle.sender.specs.Runs as sends
-use Rattle.sender.specs.Runs.{Side, MeetsSide, Pair, sent, nth, unbroken, Carries}
+use Rattle.sender.specs.Runs.{Side, MeetsSide, Pair, sent, unbroken, Carries}
 use Rattle.sender.proofs.Numbers.{sent-from}
-use Rattle.both_sides.specs.Copies.{frameOf, isArrival, framesHeard, CopyOf, CopiesOf, FromSender, countedFrom, SentAreNumbered, SentAtFirstAreNumbered}
+use Rattle.both_sides.specs.Copies.{frameOf, isArrival, framesHeard, CopiesOf, countedFrom, SentAreNumbered, SentAtFirstAreNumbered}
 
 -- ---- one call
 

@@ -10,7 +10,7 @@ use Rattle.sender.proofs.Numbers.{the-side-meets, sides-number}
 use Rattle.sender.proofs.Computed.{ruled-out}
 use Rattle.both_sides.specs.Demand1Sent.{Demand1Sent}
 use Rattle.both_sides.specs.Demand3Sent.{PremisesMet, Demand3Sent, NeverTwiceSent, Demand3StepsSent}
-use Rattle.both_sides.specs.Theorems.{Both, Theorems}
+use Rattle.both_sides.specs.Theorems.{Theorems}
 use Rattle.both_sides.proofs.Coded.{sender-meets}
 use Rattle.both_sides.proofs.Heard.{sent-are-numbered, sent-at-first-are-numbered}
 use Rattle.both_sides.proofs.Runs.{wrap-sent, premises-sent-needed}

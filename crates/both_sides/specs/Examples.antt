@@ -1,8 +1,8 @@
 -- Against vacuity, and against premises that are too weak: runs with numbers, of the sending side and of the receiver that the
 -- definitions give. Assumes nothing.
-use Prim.Native.Nat.{ℕ, _<_}
+use Prim.Native.Nat.{ℕ}
 use mathlib.Core.Path.{_≡_}
-use mathlib.Core.Bool.{true, false}
+use mathlib.Core.Bool.{false}
 use mathlib.Core.List.{List, [], _∷_, map}
 use lib.ListN.{replicate}
 use Rattle.stream.specs.Decisions.{up, duplicate}

@@ -19,7 +19,7 @@ use Rattle.frame.specs.TagCalls.{Outcome, takeTag, takeFrom, writeInto, 
 use Rattle.frame.specs.declared.Header.{Header}
 use Rattle.frame.specs.declared.TagRead.{TagRead}
 use Rattle.frame.specs.declared.TagRead.the-variants.{Refused, Tagged}
-use Rattle.frame.proofs.Heads.{head-whole, head-room, HeadIs, tag-is}
+use Rattle.frame.proofs.Heads.{head-whole, head-room, tag-is}
 
 -- ---- where a type field can stand
 

@@ -7,7 +7,6 @@ use mathlib.Core.Bool.{Bool, true, false, cond, _||_}
 use mathlib.Core.List.{List}
 use lib.ListN.{length}
 use lib.Dec.{ltb}
-use borrow.Author.Tests.{ltb-false}
 use Rattle.refusal.specs.Checks.{Said, firstOf}
 use Rattle.refusal.specs.Checks.Said.{refused, answers}
 use Rattle.refusal.specs.Numbers.{LONG, SHORT, ROOM, TAGGED, GROUP}
@@ -19,12 +18,10 @@ use Rattle.frame.specs.TagCalls.{Outcome, writeInto, writeTag}
 use Rattle.frame.proofs.Heads.{head-room}
 use Rattle.frame.proofs.Writes.{tag-length}
 use Rattle.sender.specs.declared.Sender.{Sender}
-use Rattle.sender.specs.declared.Sending.{Sending}
-use Rattle.sender.specs.declared.Sent.{Sent}
 use Rattle.sender.specs.declared.Sent.the-variants.{Refused, Out}
-use Rattle.sender.specs.Sender.{Numbered, Sends, following, refuses, sendInto, sendOf, saidSent, comesTo}
+use Rattle.sender.specs.Sender.{Numbered, Sends, following, refuses, sendInto, sendOf}
 use Rattle.sender.specs.Refusals.{sendChecks, SendRefusedExactly}
-use Rattle.sender.specs.Laws.{RefusedKeeps, TwoWrites, SendIsTwoWrites, SentTells, Coincide}
+use Rattle.sender.specs.Laws.{RefusedKeeps, SendIsTwoWrites, SentTells, Coincide}
 
 -- ---- what is picked by the room of both outputs
 

@@ -1,24 +1,23 @@
 -- Frames sent without a reset carry their index modulo 65536. Assumes nothing.
 use mathlib.Core.Path.{_≡_, refl, sym, ap, ap₂, subst, _∙_}
-use Prim.Native.Nat.{ℕ, zero, suc, _+_, _%_, _≤_, _<_}
+use Prim.Native.Nat.{ℕ, zero, suc, _+_, _%_, _<_}
 use native.Mathlib.Omega.{arith}
 use native.Mathlib.Numerals.{add-one}
 use native.Mathlib.Decide.{decLt}
 use mathlib.Core.Logic.{_⊎_, inl, inr}
-use mathlib.Core.Bool.{true, false}
-use mathlib.Core.Option.{Option, none, some}
+use mathlib.Core.Option.{some}
 use mathlib.Core.List.{List, [], _∷_, _++_, append-assoc}
 use lib.ListN.{length, take}
 use borrow.Author.Tests.{eq-eqb, ne-eqb}
 use Rattle.refusal.specs.Checks.{Said}
 use Rattle.refusal.specs.Checks.Said.{refused, answers}
 use Rattle.frame.specs.Bytes.{overlay}
-use Rattle.frame.specs.Frame.{tagged, writeOf}
+use Rattle.frame.specs.Frame.{tagged}
 use Rattle.frame.proofs.Bytes.{overlay-front}
 use Rattle.frame.proofs.Writes.{wrote-is}
 use Rattle.frame.proofs.PutThenTake.{put-then-take}
 use Rattle.sender.specs.declared.Sender.{Sender}
-use Rattle.sender.specs.Sender.{Numbered, Sends, atFirst, following, resetOf, sendOf}
+use Rattle.sender.specs.Sender.{Numbered, Sends, atFirst, following, sendOf}
 use Rattle.sender.specs.Runs.{Call, sending, resetting, Side, MeetsSide, theSide, ran, Pair, pairOf, sent, nth, unbroken, Carries, SentFrom, SentAtFirst, SentAfterReset, SentInParts, NextRises, SameBytes, SidesNumber}
 use Rattle.sender.proofs.Laws.{Done, send-done-is, refused-keeps}
 

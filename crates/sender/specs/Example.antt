@@ -7,7 +7,7 @@ use mathlib.Core.List.{List, [], _∷_, _++_}
 use lib.ListN.{replicate}
 use Rattle.refusal.specs.Numbers.{LONG, SHORT, ROOM, TAGGED, GROUP}
 use Rattle.sender.specs.declared.Sender.{Sender}
-use Rattle.sender.specs.Sender.{Sends, atFirst, refuses, sendOf}
+use Rattle.sender.specs.Sender.{atFirst, refuses, sendOf}
 use Rattle.sender.specs.Runs.{Call, sending, resetting, theSide, ran, Pair, sent, unbroken, Carries}
 
 -- A frame of 14 bytes with no VLAN tag, and what it is with a number in its tag.

@@ -1,7 +1,5 @@
 -- Document 02, order 6: "Two customers have written bad senders." Senders that look right, each as a sending side, and what each
 -- of them fails. Assumes nothing.
-use Prim.Native.Nat.{ℕ}
-use mathlib.Core.List.{List}
 use lib.Dec.{eqb}
 use Rattle.refusal.specs.Checks.{Said}
 use Rattle.refusal.specs.Checks.Said.{refused, answers}

@@ -1,11 +1,8 @@
 -- `sender::send` meets its contract: at each return a law says what the call comes to. Assumes nothing.
 use mathlib.Core.Path.{_≡_, sym, ap, _∙_}
-use Prim.Native.Nat.{ℕ}
 use Rattle.refusal.specs.Checks.Said.{answers}
 use Rattle.frame.specs.Frame.{placeOf}
 use Rattle.frame.specs.TagCalls.{saidPlace}
-use Rattle.sender.specs.declared.Sending.{Sending}
-use Rattle.sender.specs.Sender.{comesTo}
 use Rattle.sender.proofs.Sends.{send-refused, send-small0, send-small1, send-done}
 use borrow.Author.Needs.{needs}
 use Rattle.sender.proofs.send.Statement.{statement}
