@@ -36,7 +36,7 @@ pub fn sends(cases: u64) -> Result<u64, String> {
                 0 => dice.next() as u16,
                 _ => 65535 - dice.below(3) as u16,
             };
-            t = s.clone();
+            t.next = s.next;
         }
         let f = frame(&mut dice, &pool);
         let mut outs = [(); 2].map(|_| output(&mut dice, &pool, f.len()));

@@ -6,7 +6,8 @@ use crate::refusal::Refusal;
 /// A sender stream: it makes a pair of each frame, one for each network, with the next number in both.
 ///
 /// One sender for each stream: for all frames to one destination and VLAN id, and for no others. A receiver follows the numbers
-/// of each such key by themselves. The default is a sender at first, and every value is a sender.
+/// of each such key by themselves. The default is a sender at first, and every value is a sender. It is not `Clone`: two of one
+/// count would give two frames one number.
 ///
 /// ```
 /// use nippitsun::{Receiver, Refusal, Sender, Settings, Stream, Verdict};
@@ -42,7 +43,7 @@ use crate::refusal::Refusal;
 /// # Ok::<(), Refusal>(())
 /// ```
 #[repr(C)]
-#[derive(Clone, Debug, Default, PartialEq, Eq)]
+#[derive(Debug, Default, PartialEq, Eq)]
 pub struct Sender {
     /// The number that the next frame gets: 0 at first and after a reset, and 0 again after 65535.
     pub next: u16,

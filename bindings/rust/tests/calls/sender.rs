@@ -41,7 +41,7 @@ fn send(sender: &mut Sender, frame: &[u8], rooms: [usize; 2]) -> Result<(u16, Ve
 
     let mut outs = rooms.map(|room| vec![0xA5; room]);
     let [out0, out1] = &mut outs;
-    let mut again = sender.clone();
+    let mut again = Sender { next: sender.next };
     let sent = sender.send(frame, out0, out1);
     assert_eq!(sent, written.map(|length| Sent { number, length }));
     assert_eq!(outs, want);
