@@ -1,6 +1,6 @@
 -- What a stream hears of a sender's frames are the indices of the sends, modulo 65536. Assumes nothing.
 use mathlib.Core.Path.{_≡_, refl, sym, ap, ap₂, _∙_}
-use Prim.Native.Nat.{ℕ, _+_, _<_}
+use Prim.Native.Nat.{ℕ, _+_}
 use native.Mathlib.Omega.{arith}
 use mathlib.Core.Logic.{_⊎_, inl, inr}
 use mathlib.Core.Bool.{Bool, true, false}
@@ -22,7 +22,7 @@ use Rattle.demands.specs.Demand3.{numberOf}
 use Rattle.sender.specs.declared.Sender.{Sender}
 use Rattle.sender.specs.Sender.{atFirst}
 use Rattle.sender.specs.Runs as sends
-use Rattle.sender.specs.Runs.{Side, MeetsSide, Pair, sent, unbroken, Carries}
+use Rattle.sender.specs.Runs.{Side, MeetsSide, Pair, sent, WithoutReset, Carries}
 use Rattle.sender.proofs.Numbers.{sent-from}
 use Rattle.both_sides.specs.Copies.{frameOf, isArrival, framesHeard, CopiesOf, countedFrom, SentAreNumbered, SentAtFirstAreNumbered}
 
@@ -99,19 +99,19 @@ copy-number p n c f x = ap numberIn (go x) ∙ sym (tag-of (tagged (p .given) n)
     go (inl e) = e ∙ c .copy0
     go (inr e) = e ∙ c .copy1
 
-module _ (side : Side) (m : MeetsSide side) (s : Sender) (calls : List sends.Call) (small : s .next < 65536) (whole : unbroken calls ≡ true) where
+module _ (side : Side) (m : MeetsSide side) (s : Sender) (calls : List sends.Call) (w : WithoutReset s calls) where
   copies-numbers : (ks : List ℕ) (fs : List (List ℕ)) → CopiesOf (sent side s calls) ks fs → map numberIn fs ≡ map numberOf (countedFrom s ks)
   unfolding CopiesOf
   copies-numbers [] [] x = refl
   copies-numbers [] (f ∷ fs) x = absurd x
   copies-numbers (k ∷ ks) [] x = absurd x
   copies-numbers (k ∷ ks) (f ∷ fs) ((p, q, e), rest) =
-      ap₂ (λ (n : ℕ) (ns : List ℕ). n ∷ ns) (copy-number p (numberOf (s .next + k)) (sent-from side m s calls k p small whole q) f e) (copies-numbers ks fs rest)
+      ap₂ (λ (n : ℕ) (ns : List ℕ). n ∷ ns) (copy-number p (numberOf (s .next + k)) (sent-from side m s calls k p w q) f e) (copies-numbers ks fs rest)
 
 module _ (receive : Receiver) (recovered : ArrivalsRecovered receive) (side : Side) (m : MeetsSide side) where
   pub sent-are-numbered : SentAreNumbered receive side
   sent-are-numbered s calls t i later indices h =
-      heard-numbers receive recovered i t later ∙ copies-numbers side m s calls (h .sixteen) (h .whole) indices _ (h .copies)
+      heard-numbers receive recovered i t later ∙ copies-numbers side m s calls (h .sends) indices _ (h .copies)
 
   pub sent-at-first-are-numbered : SentAtFirstAreNumbered receive side
   sent-at-first-are-numbered calls t i later indices h = sent-are-numbered atFirst calls t i later indices h ∙ ap (map numberOf) (plain indices)

@@ -22,8 +22,7 @@ wrap-sent = record {
     silent = record { lawful = refl; long = lit≤ tt; calm = refl };
     lasts = refl;
     from-sender = record {
-      sixteen = lit≤ tt;
-      whole = refl;
+      sends = record { sixteen = lit≤ tt; whole = refl };
       copies = ((_, refl, inl refl), ((_, refl, inr refl), ((_, refl, inr refl), ((_, refl, inl refl), ((_, refl, inr refl), ((_, refl, inl refl), tt))))));
     };
     near = refl;

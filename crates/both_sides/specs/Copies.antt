@@ -1,6 +1,6 @@
 -- Document 02, order 6: "frames sent without a reset carry their index modulo 65536, demand 3's first premise". What it means
 -- that a stream's arrivals are frames that a sender sent, and that they are then numbered as demand 3 asks. Assumes nothing.
-use Prim.Native.Nat.{ℕ, _+_, _<_}
+use Prim.Native.Nat.{ℕ, _+_}
 use mathlib.Core.Path.{_≡_}
 use mathlib.Core.Logic.{_⊎_}
 use mathlib.Core.Bool.{Bool, true, false}
@@ -15,7 +15,7 @@ use Rattle.demands.specs.Demand3.{numberOf}
 use Rattle.sender.specs.declared.Sender.{Sender}
 use Rattle.sender.specs.Sender.{atFirst}
 use Rattle.sender.specs.Runs as sends
-use Rattle.sender.specs.Runs.{Side, Pair, sent, nth, unbroken}
+use Rattle.sender.specs.Runs.{Side, Pair, sent, nth, WithoutReset}
 
 -- ---- the frames that a stream heard
 
@@ -56,8 +56,7 @@ CopiesOf pairs (k ∷ ks) (f ∷ fs) = CopyOf pairs k f × CopiesOf pairs ks fs
 
 -- What the stream in slot i heard in a run is what a sender sent, without a reset, from a next number on.
 pub record FromSender (receive : Receiver) (side : Side) (s : Sender) (calls : List sends.Call) (t : Table) (i : ℕ) (later : List Call) (indices : List ℕ) : Type 0 where
-  pub sixteen : s .next < 65536
-  pub whole : unbroken calls ≡ true
+  pub sends : WithoutReset s calls
   pub copies : CopiesOf (sent side s calls) indices (framesHeard receive i t later)
 
 -- The indices in the count that began at 0: the k-th of these sends is its (next + k)-th.

@@ -1,4 +1,5 @@
--- Demand 3 with our sender: its first premise is no premise any more. Assumes nothing.
+-- Demand 3 with our sender: its first premise, `numbered`, follows where the frames are copies of what that sender sent. Assumes
+-- nothing.
 use Prim.Native.Nat.{ℕ}
 use mathlib.Core.Path.{_≡_}
 use mathlib.Core.Bool.{true}

@@ -1,4 +1,5 @@
--- What is proved of the sending side, alone and together with the receiver, as one list. Assumes nothing.
+-- What is proved of runs of the sending side, alone and together with the receiver, as one list. (Laws of one send: `Laws` of
+-- `sender`.) Assumes nothing.
 use Rattle.demands.specs.Receiver.{Receiver, MeetsContract}
 use Rattle.demands.specs.Steps.{Machine, MeetsAll}
 use Rattle.sender.specs.Runs.{Side, MeetsSide, theSide, SidesNumber}
@@ -18,16 +19,17 @@ pub record Both (receive : Receiver) (side : Side) : Type 0 where
   pub never-twice-sent : NeverTwiceSent receive side
 
 pub record Theorems : Type 2 where
-  -- Frames sent without a reset carry their index modulo 65536, of every sending side that meets the order, and what it refuses
-  -- changes nothing; senders that look right fail;
+  -- Of every sending side that meets the order: frames sent without a reset carry their index modulo 65536, and what is refused
+  -- changes nothing.
   pub sides-number : SidesNumber
   pub demand-1-sent : (side : Side) → MeetsSide side → Demand1Sent side
+  -- Senders that look right fail.
   pub ruled-out : RuledOut
-  -- of every receiver and every sending side that meet their contracts,
+  -- Of every receiver that meets the contract and every sending side that meets the order.
   pub both : (receive : Receiver) → MeetsContract receive → (side : Side) → MeetsSide side → Both receive side
-  -- and of every receiver with the batch beside it;
+  -- The same of a receiver with the batch beside it.
   pub steps : (m : Machine) → MeetsAll m → (side : Side) → MeetsSide side → Demand3StepsSent m side
-  -- there is a sending side that meets it, and the code of the sender meets it.
+  -- There is a sending side that meets the order, and the code of the sender meets it.
   pub met : MeetsSide theSide
   pub sender-meets : SenderMeets
   -- The premises can be met, by a run over the wrap, and each that is new is needed.

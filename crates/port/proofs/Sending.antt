@@ -11,7 +11,7 @@ use Rattle.sender.specs.Sender.{Numbered, sendOf, saidSent, comesTo}
 use Rattle.sender.specs.Refusals.{sendChecks}
 use Rattle.sender.proofs.Laws.{send-refused-exactly}
 use Rattle.port.specs.declared.TagAnswer.{TagAnswer}
-use Rattle.port.specs.Sending.{tellSent, senderAt, SendsInC, SentTold}
+use Rattle.port.specs.Sending.{tellSent, senderAt, SendsInC, SendsCoincide, SentTold}
 
 -- a send that meets the order is told
 pub sends-told : {m : ℕ} {f out0 out1 bytes0 bytes1 : List ℕ} (r : Sending) {told : TagAnswer}
@@ -19,10 +19,13 @@ pub sends-told : {m : ℕ} {f out0 out1 bytes0 bytes1 : List ℕ} (r : Sending) 
     → SendsInC m f out0 out1 told (r .sender .next) bytes0 bytes1
 sends-told r e t = record {
   said = t ∙ ap (λ x. tellSent (x .said)) e;
-  next = ap (λ x. x .sender .next) e;
+  number = ap (λ x. x .sender .next) e;
   first = ap (λ x. x .out0) e;
   second = ap (λ x. x .out1) e;
 }
+
+pub sends-coincide : SendsCoincide
+sends-coincide m f out0 out1 a b k l x0 x1 y0 y1 p q = (p .said ∙ sym (q .said), p .number ∙ sym (q .number), p .first ∙ sym (q .first), p .second ∙ sym (q .second))
 
 -- what was told as a refusal was not told as an answer
 sent-told : (x y : Said Numbered) → (x ≡ refused 0 → ⊥) → (y ≡ refused 0 → ⊥) → tellSent x ≡ tellSent y → x ≡ y

@@ -19,11 +19,17 @@ senderAt next = record { next = next }
 
 -- The contract of the exported send: what order 6 says of the call is told, and the next number and both outputs are those that
 -- it gives.
-pub record SendsInC (m : ℕ) (f out0 out1 : List ℕ) (told : TagAnswer) (left : ℕ) (bytes0 bytes1 : List ℕ) : Type 0 where
-  pub said : told ≡ tellSent (sendOf (senderAt m) f out0 out1 .said)
-  pub next : left ≡ sendOf (senderAt m) f out0 out1 .sender .next
-  pub first : bytes0 ≡ sendOf (senderAt m) f out0 out1 .out0
-  pub second : bytes1 ≡ sendOf (senderAt m) f out0 out1 .out1
+pub record SendsInC (next : ℕ) (f out0 out1 : List ℕ) (told : TagAnswer) (nextThen : ℕ) (bytes0 bytes1 : List ℕ) : Type 0 where
+  pub said : told ≡ tellSent (sendOf (senderAt next) f out0 out1 .said)
+  pub number : nextThen ≡ sendOf (senderAt next) f out0 out1 .sender .next
+  pub first : bytes0 ≡ sendOf (senderAt next) f out0 out1 .out0
+  pub second : bytes1 ≡ sendOf (senderAt next) f out0 out1 .out1
+
+-- Two outcomes that meet it coincide.
+abbrev pub SendsCoincide : Type 0
+SendsCoincide =
+    (m : ℕ) (f out0 out1 : List ℕ) (a b : TagAnswer) (k l : ℕ) (x0 x1 y0 y1 : List ℕ)
+    → SendsInC m f out0 out1 a k x0 x1 → SendsInC m f out0 out1 b l y0 y1 → (a ≡ b) × (k ≡ l) × (x0 ≡ y0) × (x1 ≡ y1)
 
 -- Nothing is lost: sends that are told alike said the same.
 abbrev pub SentTold : Type 0

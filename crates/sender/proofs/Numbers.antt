@@ -5,6 +5,7 @@ use native.Mathlib.Omega.{arith}
 use native.Mathlib.Numerals.{add-one}
 use native.Mathlib.Decide.{decLt}
 use mathlib.Core.Logic.{_⊎_, inl, inr}
+use mathlib.Core.Bool.{true}
 use mathlib.Core.Option.{some}
 use mathlib.Core.List.{List, [], _∷_, _++_, append-assoc}
 use lib.ListN.{length, take}
@@ -115,38 +116,46 @@ not-found : {A : Type 0} (k : ℕ) {p : A} → nth [] k ≡ some p → ⊥
 unfolding nth
 not-found k e = let z : _≡_ {A = ℕ} 0 1 = cc in omega arith
 
+-- a reset breaks a run
+broken : (cs : List Call) → unbroken (resetting ∷ cs) ≡ true → ⊥
+unfolding unbroken
+broken cs u = let z : _≡_ {A = ℕ} 0 1 = cc in omega arith
+
 module _ (side : Side) (m : MeetsSide side) where
   pub sent-from : SentFrom side
   unfolding sent unbroken
-  sent-from s [] k p small u e = absurd (not-found k e)
-  sent-from s (resetting ∷ cs) k p small u e = absurd (let z : _≡_ {A = ℕ} 0 1 = cc in omega arith)
-  sent-from s (sending f out0 out1 ∷ cs) k p small u e = go (λ t j b w. sent-from t cs j p b u w) (step side m s f out0 out1 cs small)
+  sent-from s [] k p w e = absurd (not-found k e)
+  sent-from s (resetting ∷ cs) k p w e = absurd (broken cs (w .whole))
+  sent-from s (sending f out0 out1 ∷ cs) k p w e =
+      go (λ t j b h. sent-from t cs j p (record { sixteen = b; whole = w .whole }) h) (step side m s f out0 out1 cs (w .sixteen))
     where
       Rest : Type 0
       Rest = (t : Sender) (j : ℕ) → t .next < 65536 → nth (sent side t cs) j ≡ some p → Carries p ((t .next + j) % 65536)
 
       behind : Rest → (p₀ : Pair) (t : Sender) → Carries p₀ (s .next) → t .next ≡ (s .next + 1) % 65536
           → ((k ≡ 0) × (p₀ ≡ p)) ⊎ ((j : ℕ) × (k ≡ j + 1) × (nth (sent side t cs) j ≡ some p)) → Carries p ((s .next + k) % 65536)
-      behind rest p₀ t c n (inl (z, w)) =
+      behind rest p₀ t c n (inl (z, e)) =
+          let b = w .sixteen in
           let h : s .next ≡ (s .next + k) % 65536 = omega arith in
-          subst (λ (x : ℕ). Carries p x) h (subst (λ (x : Pair). Carries x (s .next)) w c)
-      behind rest p₀ t c n (inr (j, z, w)) =
+          subst (λ (x : ℕ). Carries p x) h (subst (λ (x : Pair). Carries x (s .next)) e c)
+      behind rest p₀ t c n (inr (j, z, e)) =
           let h : (t .next + j) % 65536 ≡ (s .next + k) % 65536 = omega arith in
-          subst (λ (x : ℕ). Carries p x) h (rest t j (omega arith) w)
+          subst (λ (x : ℕ). Carries p x) h (rest t j (omega arith) e)
 
       go : Rest → Step side s (sending f out0 out1) cs → Carries p ((s .next + k) % 65536)
-      go rest (same q r) = rest s k small (ap (λ (l : List Pair). nth l k) (sym q) ∙ e)
+      go rest (same q r) = rest s k (w .sixteen) (ap (λ (l : List Pair). nth l k) (sym q) ∙ e)
       go rest (more p₀ t c n q r) = behind rest p₀ t c n (found p₀ (sent side t cs) k (ap (λ (l : List Pair). nth l k) (sym q) ∙ e))
 
   pub next-rises : NextRises side
   unfolding sent ran unbroken
-  next-rises s [] small u = omega arith
-  next-rises s (resetting ∷ cs) small u = absurd (let z : _≡_ {A = ℕ} 0 1 = cc in omega arith)
-  next-rises s (sending f out0 out1 ∷ cs) small u = go (λ t b. next-rises t cs b u) (step side m s f out0 out1 cs small)
+  next-rises s [] w = let b = w .sixteen in omega arith
+  next-rises s (resetting ∷ cs) w = absurd (broken cs (w .whole))
+  next-rises s (sending f out0 out1 ∷ cs) w =
+      go (λ t b. next-rises t cs (record { sixteen = b; whole = w .whole })) (step side m s f out0 out1 cs (w .sixteen))
     where
       go : ((t : Sender) → t .next < 65536 → ran side t cs .next ≡ (t .next + length (sent side t cs)) % 65536) → Step side s (sending f out0 out1) cs
           → ran side s (sending f out0 out1 ∷ cs) .next ≡ (s .next + length (sent side s (sending f out0 out1 ∷ cs))) % 65536
-      go rest (same q r) = ap (λ (x : Sender). x .next) r ∙ rest s small ∙ ap (λ (l : List Pair). (s .next + length l) % 65536) (sym q)
+      go rest (same q r) = ap (λ (x : Sender). x .next) r ∙ rest s (w .sixteen) ∙ ap (λ (l : List Pair). (s .next + length l) % 65536) (sym q)
       go rest (more p t c n q r) =
           let h = rest t (omega arith) in
           let l : length (sent side s (sending f out0 out1 ∷ cs)) ≡ length (sent side t cs) + 1 = ap length q ∙ sym (add-one _) in
@@ -154,7 +163,7 @@ module _ (side : Side) (m : MeetsSide side) where
           ap (λ (x : Sender). x .next) r ∙ h ∙ z
 
   pub sent-at-first : SentAtFirst side
-  sent-at-first calls k p u e = subst (λ (x : ℕ). Carries p x) (omega arith) (sent-from atFirst calls k p (omega arith) u e)
+  sent-at-first calls k p u e = subst (λ (x : ℕ). Carries p x) (omega arith) (sent-from atFirst calls k p (record { sixteen = omega arith; whole = u }) e)
 
   -- behind a reset the sender is one at first
   reset-at-first : (s : Sender) (before : List Call) → ran side s (before ++ resetting ∷ []) ≡ atFirst
@@ -176,9 +185,9 @@ module _ (side : Side) (m : MeetsSide side) where
   sent-in-parts s (resetting ∷ cs) after = sent-in-parts (side .reset s) cs after
 
   pub same-bytes : SameBytes side
-  same-bytes s calls k p q small u e d g =
-      let a = sent-from s calls k p small u e in
-      let b = sent-from s calls (k + 65536) q small u d in
+  same-bytes s calls k p q w e d g =
+      let a = sent-from s calls k p w e in
+      let b = sent-from s calls (k + 65536) q w d in
       let n : (s .next + k) % 65536 ≡ (s .next + (k + 65536)) % 65536 = omega arith in
       let t : tagged (p .given) ((s .next + k) % 65536) ≡ tagged (q .given) ((s .next + (k + 65536)) % 65536) = ap₂ tagged g n in
       let c0 : p .copy0 ≡ q .copy0 = a .copy0 ∙ t ∙ sym (b .copy0) in

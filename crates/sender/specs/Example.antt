@@ -2,13 +2,14 @@
 -- Assumes nothing.
 use Prim.Native.Nat.{ℕ, _/_, _%_}
 use mathlib.Core.Path.{_≡_}
-use mathlib.Core.Bool.{true, false}
+use mathlib.Core.Bool.{false}
 use mathlib.Core.List.{List, [], _∷_, _++_}
 use lib.ListN.{replicate}
+use Rattle.refusal.specs.Checks.Said.{answers}
 use Rattle.refusal.specs.Numbers.{LONG, SHORT, ROOM, TAGGED, GROUP}
 use Rattle.sender.specs.declared.Sender.{Sender}
 use Rattle.sender.specs.Sender.{atFirst, refuses, sendOf}
-use Rattle.sender.specs.Runs.{Call, sending, resetting, theSide, ran, Pair, sent, unbroken, Carries}
+use Rattle.sender.specs.Runs.{Call, sending, resetting, theSide, ran, Pair, sent, unbroken, WithoutReset, Carries}
 
 -- A frame of 14 bytes with no VLAN tag, and what it is with a number in its tag.
 unfoldable pub plain : List ℕ
@@ -50,17 +51,23 @@ overWrap =
     ∷ []
 
 pub record WrapSends : Type 0 where
-  pub whole : unbroken overWrap ≡ true
+  pub premises : WithoutReset near overWrap
   pub sent : sent theSide near overWrap ≡ pair 65534 ∷ pair 65535 ∷ pair 0 ∷ pair 1 ∷ []
   pub left : ran theSide near overWrap ≡ record { next = 2 }
-  -- bytes behind the frame keep their values, and the two outputs need not have the same length
+  -- the number and the length are told, bytes behind the frame keep their values, and the two outputs need not have the same
+  -- length
+  pub told : sendOf near plain (room0 21) (room1 24) .said ≡ answers (record { number = 65534; length = 20 })
   pub behind : (sendOf near plain (room0 21) (room1 24) .out0 ≡ numbered 65534 ++ room0 1) × (sendOf near plain (room0 21) (room1 24) .out1 ≡ numbered 65534 ++ room1 4)
 
 -- ---- each refusal, and its place among them
 
--- a frame with a group source, one that is short behind 8100, and one of 1994 bytes and more
+-- A frame with a group source; one with a group source that carries a tag, and one that is short behind 8100; and a frame of 14
+-- bytes and more.
 unfoldable pub reflected : List ℕ
 reflected = 2 ∷ 0 ∷ 0 ∷ 0 ∷ 0 ∷ 1 ∷ 3 ∷ 0 ∷ 0 ∷ 0 ∷ 0 ∷ 9 ∷ 8 ∷ 0 ∷ []
+
+unfoldable pub twofold : List ℕ
+twofold = 2 ∷ 0 ∷ 0 ∷ 0 ∷ 0 ∷ 1 ∷ 3 ∷ 0 ∷ 0 ∷ 0 ∷ 0 ∷ 9 ∷ 0xF1 ∷ 0xC1 ∷ 0 ∷ 0 ∷ 0 ∷ 7 ∷ 8 ∷ 0 ∷ []
 
 unfoldable pub cut : List ℕ
 cut = 2 ∷ 0 ∷ 0 ∷ 0 ∷ 0 ∷ 1 ∷ 3 ∷ 0 ∷ 0 ∷ 0 ∷ 0 ∷ 9 ∷ 0x81 ∷ 0 ∷ 0 ∷ 1 ∷ 8 ∷ []
@@ -75,6 +82,8 @@ pub record RefusesEach : Type 0 where
   pub long : Refused (padded 1981) (room0 0) (room1 2001) LONG
   pub short : Refused cut (room0 0) (room1 40) SHORT
   pub tagged : Refused (numbered 3) (room0 40) (room1 0) TAGGED
+  pub tagged-before-group : Refused twofold (room0 40) (room1 40) TAGGED
+  pub long-before-both : Refused (twofold ++ replicate 1975 0) (room0 2001) (room1 2001) LONG
   pub group : Refused reflected (room0 40) (room1 0) GROUP
   pub first : Refused plain (room0 19) (room1 20) ROOM
   pub second : Refused plain (room0 20) (room1 19) ROOM
@@ -83,7 +92,9 @@ pub record RefusesEach : Type 0 where
 -- ---- the premises
 
 pub record SentPremisesNeeded : Type 0 where
+  -- the greatest next number meets them, and carries itself
+  pub widest : WithoutReset (record { next = 65535 }) (into 20 20 ∷ []) × (sent theSide (record { next = 65535 }) (into 20 20 ∷ []) ≡ pair 65535 ∷ [])
   -- with a reset between them both carry 0
   pub reset : (unbroken (into 20 20 ∷ resetting ∷ into 20 20 ∷ []) ≡ false) × (sent theSide atFirst (into 20 20 ∷ resetting ∷ into 20 20 ∷ []) ≡ pair 0 ∷ pair 0 ∷ []) × (Carries (pair 0) 1 → ⊥)
-  -- a next number of more than 16 bits, which no sender has
+  -- one more, which no sender has
   pub wide : (sent theSide (record { next = 65536 }) (into 20 20 ∷ []) ≡ pair 65536 ∷ []) × (Carries (pair 65536) 0 → ⊥)

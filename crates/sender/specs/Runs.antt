@@ -67,7 +67,7 @@ nth (x ∷ xs) (suc k) = nth xs k
 
 -- ---- their numbers
 
--- "without a reset"
+-- no call is a reset
 unfoldable pub unbroken : List Call → Bool
 unbroken [] = true
 unbroken (sending f out0 out1 ∷ cs) = unbroken cs
@@ -82,19 +82,23 @@ pub record Carries (p : Pair) (n : ℕ) : Type 0 where
       ≡ answers (record { header = record { dest = destOf (p .given); vlan = vlanOf (p .given); at = typeAt (p .given); tagged = true }; number = n })
   pub bare : untagged (tagged (p .given) n) ≡ p .given
 
--- "Frames sent without a reset carry their index modulo 65536": from any next number, the k-th frame that was sent, refused ones
--- not counted, carries it plus k. (A next number has 16 bits.)
+-- "Frames sent without a reset", from a sender on: its next number has 16 bits, as each value of the code's type has.
+pub record WithoutReset (s : Sender) (calls : List Call) : Type 0 where
+  pub sixteen : s .next < 65536
+  pub whole : unbroken calls ≡ true
+
+-- They "carry their index modulo 65536": the k-th frame that was sent, refused ones not counted, carries the next number plus k.
 abbrev pub SentFrom : Side → Type 0
 SentFrom side =
-    (s : Sender) (calls : List Call) (k : ℕ) (p : Pair) → s .next < 65536 → unbroken calls ≡ true
+    (s : Sender) (calls : List Call) (k : ℕ) (p : Pair) → WithoutReset s calls
     → nth (sent side s calls) k ≡ some p → Carries p ((s .next + k) % 65536)
 
--- From a sender at first it carries k,
+-- So from a sender at first it carries k,
 abbrev pub SentAtFirst : Side → Type 0
 SentAtFirst side =
     (calls : List Call) (k : ℕ) (p : Pair) → unbroken calls ≡ true → nth (sent side atFirst calls) k ≡ some p → Carries p (k % 65536)
 
--- and so from each reset on.
+-- and from each reset on.
 abbrev pub SentAfterReset : Side → Type 0
 SentAfterReset side =
     (s : Sender) (before after : List Call) (k : ℕ) (p : Pair) → unbroken after ≡ true
@@ -105,16 +109,16 @@ abbrev pub SentInParts : Side → Type 0
 SentInParts side =
     (s : Sender) (before after : List Call) → sent side s (before ++ after) ≡ sent side s before ++ sent side (ran side s before) after
 
--- "A refused frame uses up no number": the next number has risen by as many as were sent.
+-- "A refused frame uses up no number": the next number has risen by as many as were sent, modulo 65536.
 abbrev pub NextRises : Side → Type 0
 NextRises side =
-    (s : Sender) (calls : List Call) → s .next < 65536 → unbroken calls ≡ true
+    (s : Sender) (calls : List Call) → WithoutReset s calls
     → ran side s calls .next ≡ (s .next + length (sent side s calls)) % 65536
 
 -- Sends that are 65536 apart carry one number: of the same frame they are the same bytes.
 abbrev pub SameBytes : Side → Type 0
 SameBytes side =
-    (s : Sender) (calls : List Call) (k : ℕ) (p q : Pair) → s .next < 65536 → unbroken calls ≡ true
+    (s : Sender) (calls : List Call) (k : ℕ) (p q : Pair) → WithoutReset s calls
     → nth (sent side s calls) k ≡ some p → nth (sent side s calls) (k + 65536) ≡ some q → p .given ≡ q .given → p ≡ q
 
 -- All of it, of every sending side that meets the order.

@@ -14,7 +14,7 @@ use Rattle.frame.specs.Frame.{writeOf}
 use Rattle.sender.specs.declared.Sender.{Sender}
 use Rattle.sender.specs.declared.Sending.{Sending}
 use Rattle.sender.specs.declared.Sent.{Sent}
-use Rattle.sender.specs.declared.Sent.the-variants as sent
+use Rattle.sender.specs.declared.Sent.the-variants as cases
 
 -- "A sender stream has a next number, 0 at first
 abbrev pub atFirst : Sender
@@ -62,8 +62,8 @@ sendOf s f out0 out1 = sendInto s out0 out1 (writeOf f (s .next))
 
 -- What each case of the answer says: the paper's number, or the values;
 abbrev pub saidSent : Sent → Said Numbered
-saidSent (sent.Refused n) = refused n
-saidSent (sent.Out n l) = answers (record { number = n; length = l })
+saidSent (cases.Refused n) = refused n
+saidSent (cases.Out n l) = answers (record { number = n; length = l })
 
 -- and what the code's call comes to.
 abbrev pub comesTo : Sending → (out0 out1 : List ℕ) → Sends
