@@ -64,6 +64,13 @@ enum nippitsun_rule {
     NIPPITSUN_RULE_MATCH = 2
 };
 
+/* The trailer of a PRP line (document 02, order 7): the line's setting says which kind is in use. A call takes every byte: 0 is
+ * the first edition, and every other value is 2012. */
+enum nippitsun_prp {
+    NIPPITSUN_PRP_FIRST = 0, /* 4 bytes: number, LAN and size */
+    NIPPITSUN_PRP_2012 = 1   /* 6 bytes: the same, then 88FB */
+};
+
 /* The verdict on an arrival. */
 enum nippitsun_verdict {
     NIPPITSUN_VERDICT_NONE = 0, /* the call was refused; or, in a batch, the frame was refused or not reached */
@@ -72,8 +79,8 @@ enum nippitsun_verdict {
     NIPPITSUN_VERDICT_ROGUE = 3
 };
 
-/* Why a call was refused (document 01, "Calls and the order of checks"; 14 is of order 1, 15 of order 3). Where several hold,
- * a call answers the first in its own order, which stands beside its declaration. */
+/* Why a call was refused (document 01, "Calls and the order of checks"; 14 is of order 1, 15 of order 3, 16 of order
+ * 7). Where several hold, a call answers the first in its own order, which stands beside its declaration. */
 enum nippitsun_refusal {
     NIPPITSUN_REFUSED_NOT = 0,
     NIPPITSUN_REFUSED_TABLE = 1,    /* the table has more than 64 slots */
@@ -90,7 +97,8 @@ enum nippitsun_refusal {
     NIPPITSUN_REFUSED_SLOT = 12,    /* slot beyond the table or free */
     NIPPITSUN_REFUSED_TAGGED = 13,  /* the frame already carries F1C1 */
     NIPPITSUN_REFUSED_GROUP = 14,   /* group source address: the lowest bit of the first source byte is set */
-    NIPPITSUN_REFUSED_BATCH = 15    /* a batch: count above 32, or lengths that run past the buffer */
+    NIPPITSUN_REFUSED_BATCH = 15,   /* a batch: count above 32, or lengths that run past the buffer */
+    NIPPITSUN_REFUSED_TRAILER = 16  /* no trailer of the set kind with a fitting size and a LAN of A or B */
 };
 
 /* ---- the stream record
@@ -175,6 +183,14 @@ typedef struct nippitsun_tag_answer {
     uint16_t number; /* the number in the tag */
     uint8_t refusal;
 } nippitsun_tag_answer;
+
+/* Of a turn from PRP or to PRP. */
+typedef struct nippitsun_prp_answer {
+    size_t length;   /* bytes written to the output */
+    uint16_t number; /* the number in the trailer and in the tag */
+    uint8_t network; /* 0 is LAN A, 1 is LAN B */
+    uint8_t refusal;
+} nippitsun_prp_answer;
 
 /* ---- the calls on a table. Refusals are given in the order in which they stand here. */
 
@@ -266,7 +282,29 @@ nippitsun_tag_answer nippitsun_send(nippitsun_sender *NIPPITSUN_APART sender, co
  * handed up or by call. Until then they may take what is sent for duplicates or rogues, which are not handed up. */
 void nippitsun_reset_sender(nippitsun_sender *sender);
 
-/* ---- the layout, as the crates record, calls, batch, port, port_tick and sender have it */
+/* ---- PRP lines (document 02, order 7), with no table
+ *
+ * A PRP frame ends in a trailer: the number in 16 bits, LAN in 4 bits (A or B hex), the size in 12 bits, and 88FB with the kind of
+ * 2012. The size counts the bytes after the type field, the trailer's too. `kind` is a value of enum nippitsun_prp. */
+
+/* Turns a PRP frame into a tagged one: takes the trailer off, puts a tag with the trailer's number in at the type field, and
+ * writes the tagged frame to the start of the output; the bytes after it keep their values. The answer tells the network that
+ * LAN gives (A is 0), the number and the length. Give the tagged frame to nippitsun_arrival with that network.
+ * Refusals 3 (the tagged frame would have more than NIPPITSUN_FRAME_MOST bytes), 4 (shorter than its header and trailer
+ * together), 13, 16, 8. Any source is taken. The output must hold frame_bytes + 6 bytes less the trailer; NIPPITSUN_FRAME_MOST
+ * bytes are always enough. */
+nippitsun_prp_answer nippitsun_from_prp(const uint8_t *NIPPITSUN_APART frame, size_t frame_bytes, uint8_t kind,
+                                        uint8_t *NIPPITSUN_APART out, size_t out_bytes);
+
+/* Turns a tagged frame into a PRP frame for a network: takes the tag out, puts a trailer of the kind behind the frame, with the
+ * tag's number and the LAN of the network (0 is A), and writes it to the start of the output; the bytes after it keep their
+ * values. The answer tells the network, the number and the length.
+ * Refusals 2, 3, 4, 5, 4 again (the frame without its tag is short), 8. Any source is taken. The output must hold frame_bytes - 6
+ * bytes and the trailer; NIPPITSUN_FRAME_MOST bytes are always enough. */
+nippitsun_prp_answer nippitsun_to_prp(const uint8_t *NIPPITSUN_APART frame, size_t frame_bytes, uint8_t network, uint8_t kind,
+                                      uint8_t *NIPPITSUN_APART out, size_t out_bytes);
+
+/* ---- the layout, as the crates record, calls, batch, port, port_tick, port_prp and sender have it */
 
 #define NIPPITSUN_TYPE(type, size, aligned) \
     NIPPITSUN_ASSERT(sizeof(type) == (size) && NIPPITSUN_ALIGNOF(type) == (aligned), "layout of " #type)
@@ -327,6 +365,12 @@ NIPPITSUN_TYPE(nippitsun_tag_answer, 16, 8);
 NIPPITSUN_FIELD(nippitsun_tag_answer, length, 0, 8);
 NIPPITSUN_FIELD(nippitsun_tag_answer, number, 8, 2);
 NIPPITSUN_FIELD(nippitsun_tag_answer, refusal, 10, 1);
+
+NIPPITSUN_TYPE(nippitsun_prp_answer, 16, 8);
+NIPPITSUN_FIELD(nippitsun_prp_answer, length, 0, 8);
+NIPPITSUN_FIELD(nippitsun_prp_answer, number, 8, 2);
+NIPPITSUN_FIELD(nippitsun_prp_answer, network, 10, 1);
+NIPPITSUN_FIELD(nippitsun_prp_answer, refusal, 11, 1);
 
 NIPPITSUN_TYPE(nippitsun_sender, 2, 2);
 NIPPITSUN_FIELD(nippitsun_sender, next, 0, 2);

@@ -75,6 +75,20 @@ pub struct TagAnswer {
     pub refusal: u8,
 }
 
+/// What a turn from PRP or to PRP answers. Where it is refused, `refusal` is the number and the rest is 0.
+#[repr(C)]
+#[derive(Clone, Copy, Debug, Default, PartialEq, Eq)]
+pub struct PrpAnswer {
+    /// Bytes written to the output.
+    pub length: usize,
+    /// The number in the trailer and in the tag.
+    pub number: u16,
+    /// 0 is LAN A, 1 is LAN B.
+    pub network: u8,
+    /// 0, or why the call was refused.
+    pub refusal: u8,
+}
+
 /// Most frames in a batch.
 pub const FRAMES_MOST: usize = 32;
 
@@ -90,6 +104,7 @@ const _: () = assert!(size_of::<BatchAnswer>() == 784 && align_of::<BatchAnswer>
 const _: () = assert!(size_of::<SlotAnswer>() == 16 && align_of::<SlotAnswer>() == 8);
 const _: () = assert!(size_of::<TickAnswer>() == 24 && align_of::<TickAnswer>() == 8);
 const _: () = assert!(size_of::<TagAnswer>() == 16 && align_of::<TagAnswer>() == 8);
+const _: () = assert!(size_of::<PrpAnswer>() == 16 && align_of::<PrpAnswer>() == 8);
 const _: () = assert!(size_of::<Sender>() == 2 && align_of::<Sender>() == 2);
 
 // A slice crosses as a pointer and a number of elements. bindings/check holds these to the crates port and port_*.
@@ -148,6 +163,21 @@ extern "C" {
         out1_len: usize,
     ) -> TagAnswer;
     fn nippitsun_reset_sender(sender: *mut Sender);
+    fn nippitsun_from_prp(
+        frame: *const u8,
+        frame_len: usize,
+        kind: u8,
+        out: *mut u8,
+        out_len: usize,
+    ) -> PrpAnswer;
+    fn nippitsun_to_prp(
+        frame: *const u8,
+        frame_len: usize,
+        network: u8,
+        kind: u8,
+        out: *mut u8,
+        out_len: usize,
+    ) -> PrpAnswer;
 }
 
 /// Arrival.
@@ -288,4 +318,22 @@ pub fn send(sender: &mut Sender, frame: &[u8], out0: &mut [u8], out1: &mut [u8])
 pub fn reset_sender(sender: &mut Sender) {
     // SAFETY: a `&mut` sender, borrowed until the call ends.
     unsafe { nippitsun_reset_sender(sender) }
+}
+
+/// From PRP.
+#[inline(always)]
+pub fn from_prp(frame: &[u8], kind: u8, out: &mut [u8]) -> PrpAnswer {
+    let (out, out_len) = (out.as_mut_ptr(), out.len());
+    // SAFETY: two slices, one of them `&mut`, so they are whole and lie apart; they are borrowed until the call ends. Any `kind`
+    // is taken.
+    unsafe { nippitsun_from_prp(frame.as_ptr(), frame.len(), kind, out, out_len) }
+}
+
+/// To PRP.
+#[inline(always)]
+pub fn to_prp(frame: &[u8], network: u8, kind: u8, out: &mut [u8]) -> PrpAnswer {
+    let (out, out_len) = (out.as_mut_ptr(), out.len());
+    // SAFETY: two slices, one of them `&mut`, so they are whole and lie apart; they are borrowed until the call ends. Any
+    // `network` and `kind` are taken.
+    unsafe { nippitsun_to_prp(frame.as_ptr(), frame.len(), network, kind, out, out_len) }
 }

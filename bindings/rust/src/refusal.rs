@@ -4,7 +4,7 @@ use std::fmt;
 
 macro_rules! refusals {
     ($($(#[doc = $what:literal])+ $name:ident = $number:literal, $says:literal;)+) => {
-        /// Why a call was refused (document 01, "Calls and the order of checks"; 14 is of order 1, 15 of order 3). A refused
+        /// Why a call was refused (document 01, "Calls and the order of checks"; 14 is of order 1, 15 of order 3, 16 of order 7). A refused
         /// call changes nothing.
         #[derive(Clone, Copy, Debug, PartialEq, Eq, Hash, PartialOrd, Ord)]
         #[repr(u8)]
@@ -65,6 +65,8 @@ refusals! {
     Group = 14, "group source address";
     /// A batch has more than 32 frames, or lengths that run past its buffer.
     Batch = 15, "count above 32, or lengths that run past the buffer";
+    /// There is no trailer of the set kind with a fitting size and a LAN of A or B.
+    Trailer = 16, "no trailer of the set kind with a fitting size and a LAN of A or B";
 }
 
 impl Refusal {

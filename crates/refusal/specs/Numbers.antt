@@ -61,3 +61,7 @@ GROUP = 14
 -- count above 32, or lengths that run past the buffer (order 3)
 abbrev pub BATCH : ℕ
 BATCH = 15
+
+-- no trailer of the set kind with a fitting size and a LAN of A or B (order 7)
+abbrev pub TRAILER : ℕ
+TRAILER = 16

@@ -45,3 +45,6 @@ pub const GROUP: u8 = 14;
 
 // Count above 32, or lengths that run past the buffer (order 3).
 pub const BATCH: u8 = 15;
+
+// No trailer of the set kind with a fitting size and a LAN of A or B (order 7).
+pub const TRAILER: u8 = 16;
