@@ -51,7 +51,7 @@ pub enum Written {
 }
 
 // A byte as a wider number; the contract keeps that it is below 256.
-fn wide(x: u8) -> u32
+pub fn wide(x: u8) -> u32
     ensures { λ r. ⌜ (r ≡ x) × (r < 256) ⌝ }
 {
     x as u32

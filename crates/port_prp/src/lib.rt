@@ -1,7 +1,6 @@
 // PRP lines for C (document 02, order 7). A library of its own, as batch and tick have: so no other call's code changes.
 ghost use mathlib.Core.Path.{_≡_};
-ghost use Rattle.prp.specs.Prp.{trailerOf, fromPrp, toPrp};
-ghost use Rattle.prp.specs.Said.{saidTurned};
+ghost use Rattle.prp.specs.Prp.{trailerOf, fromPrp, toPrp, saidTurned};
 ghost use Rattle.port_prp.specs.Lines.{lineOf, tellTurned};
 use prp::Kind;
 use prp::Turned;

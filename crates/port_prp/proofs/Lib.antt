@@ -1,0 +1,2 @@
+-- Nothing is lost in what a turn tells.
+pub mod Lines

@@ -1,0 +1,3 @@
+-- What the definitions come to by the code's tests, and the laws of the two calls.
+pub mod Trailers
+pub mod Turns

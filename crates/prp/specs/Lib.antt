@@ -1,0 +1,2 @@
+pub mod Prp
+pub mod Refusals

@@ -1,0 +1,198 @@
+// PRP lines (document 02, order 7): a frame with a trailer is turned into one with a tag, and back.
+ghost use mathlib.Core.Path.{_≡_};
+ghost use mathlib.Core.List.{List};
+ghost use Prim.Native.Nat.{_+_, _≤_, _<_};
+ghost use lib.ListN.{length, drop};
+ghost use Rattle.frame.specs.Bytes.{word, overlay};
+ghost use Rattle.frame.specs.Frame.{typeAt, cutAt};
+ghost use Rattle.prp.specs.Prp.{trailerOf, widthOf, endAt, same, isLan, wears, lanOf, twoWords, trailerBytes, fromPrp, toPrp, saidTurned};
+use frame::Head;
+use frame::TagRead;
+use record::Stream;
+
+// A line's kind of trailer: the first edition's, or that of 2012.
+pub enum Kind {
+    First,
+    Of2012,
+}
+
+// A turn: network, number, and how many bytes were written. Or the number of its refusal.
+pub enum Turned {
+    Refused(u8),
+    Out(u8, u16, usize),
+}
+
+// How many bytes a trailer has.
+fn width(kind: Kind) -> usize
+    ensures { λ r. ⌜ r ≡ widthOf (trailerOf kind) ⌝ }
+{
+    match kind {
+        Kind::First => 4,
+        Kind::Of2012 => 6,
+    }
+}
+
+// The two bytes at a place, high byte first.
+fn word_at(frame: &[u8], at: usize) -> u16
+    requires { ⌜ at + 2 ≤ length (now frame) ⌝ }
+    ensures { λ r. ⌜ r ≡ word (now (frame .entry)) at ⌝ }
+{
+    (frame::wide(frame[at]) * 256 + frame::wide(frame[at + 1])) as u16
+}
+
+// Is this LAN A or B?
+fn is_lan(lan: u16) -> bool
+    ensures { λ r. ⌜ r ≡ isLan lan ⌝ }
+{
+    if lan == 0xA {
+        return true;
+    }
+    lan == 0xB
+}
+
+// Does a frame end in the last bytes of this kind?
+fn ends_so(frame: &[u8], kind: Kind) -> bool
+    requires { ⌜ widthOf (trailerOf kind) ≤ length (now frame) ⌝ }
+    ensures { λ r. ⌜ r ≡ same (drop (endAt (trailerOf kind) (now (frame .entry)) + 4) (now (frame .entry))) (trailerOf kind .last) ⌝ }
+{
+    match kind {
+        Kind::First => true,
+        Kind::Of2012 => {
+            let n = frame.len();
+            if frame[n - 2] != 0x88 {
+                return false;
+            }
+            frame[n - 1] == 0xFB
+        }
+    }
+}
+
+// Does a frame with its type field at a place have a trailer of this kind, with a fitting size and a LAN of A or B?
+fn has_trailer(frame: &[u8], at: usize, kind: Kind) -> bool
+    requires { ⌜ at ≡ typeAt (now frame) ⌝ }
+    requires { ⌜ at + 2 + widthOf (trailerOf kind) ≤ length (now frame) ⌝ }
+    ensures { λ r. ⌜ r ≡ wears (trailerOf kind) (now (frame .entry)) ⌝ }
+{
+    let n = frame.len();
+    let end = n - width(kind);
+    let both = word_at(frame, end + 2);
+    if !is_lan(both / 4096) {
+        return false;
+    }
+    if (both % 4096) as usize != n - (at + 2) {
+        return false;
+    }
+    ends_so(frame, kind)
+}
+
+// From PRP: the tagged frame, at the start of out.
+pub fn from_prp(frame: &[u8], kind: Kind, out: &mut [u8]) -> Turned
+    ensures { λ r. ⌜ saidTurned r ≡ fromPrp (trailerOf kind) (now (frame .entry)) (now (out .entry)) .said ⌝ }
+    ensures { λ _. ⌜ now (out .exit) ≡ fromPrp (trailerOf kind) (now (frame .entry)) (now (out .entry)) .bytes ⌝ }
+{
+    let w = width(kind);
+    if frame.len() > Stream::UNTAGGED_MOST + w {
+        return Turned::Refused(refusal::LONG);
+    }
+    if frame.len() < 14 + w {
+        return Turned::Refused(refusal::SHORT);
+    }
+    let end = frame.len() - w;
+    let Head::Whole(h) = frame::read_head(&frame[..end]) else {
+        return Turned::Refused(refusal::SHORT);
+    };
+    if h.tagged {
+        return Turned::Refused(refusal::TAGGED);
+    }
+    let at = h.at;
+    if !has_trailer(frame, at, kind) {
+        return Turned::Refused(refusal::TRAILER);
+    }
+    let len = end + 6;
+    if out.len() < len {
+        return Turned::Refused(refusal::ROOM);
+    }
+    let number = word_at(frame, end);
+    let network = (word_at(frame, end + 2) / 4096 - 0xA) as u8;
+    frame::write_with(&frame[..end], at, number, out);
+    Turned::Out(network, number, len)
+}
+
+// The last bytes of a trailer, at the start of dst.
+fn write_last(kind: Kind, dst: &mut [u8])
+    requires { ⌜ length (trailerOf kind .last) ≤ length (now dst) ⌝ }
+    ensures { λ _. ⌜ now (dst .exit) ≡ overlay (trailerOf kind .last) (now (dst .entry)) ⌝ }
+{
+    match kind {
+        Kind::First => {}
+        Kind::Of2012 => {
+            dst[0] = 0x88;
+            dst[1] = 0xFB;
+        }
+    }
+}
+
+// The four bytes before them.
+fn write_words(number: u16, both: u16, dst: &mut [u8])
+    requires { ⌜ 4 ≤ length (now dst) ⌝ }
+    ensures { λ _. ⌜ now (dst .exit) ≡ overlay (twoWords number both) (now (dst .entry)) ⌝ }
+{
+    dst[0] = (number / 256) as u8;
+    dst[1] = (number % 256) as u8;
+    dst[2] = (both / 256) as u8;
+    dst[3] = (both % 256) as u8;
+}
+
+// A trailer, at the start of dst.
+fn write_trailer(kind: Kind, number: u16, network: u8, size: usize, dst: &mut [u8])
+    requires { ⌜ network ≤ 1 ⌝ }
+    requires { ⌜ size < 4096 ⌝ }
+    requires { ⌜ 4 + length (trailerOf kind .last) ≤ length (now dst) ⌝ }
+    ensures { λ _. ⌜ now (dst .exit) ≡ overlay (trailerBytes (trailerOf kind) number (lanOf network) size) (now (dst .entry)) ⌝ }
+{
+    let both = (0xA + network as usize) * 4096 + size;
+    write_words(number, both as u16, dst);
+    write_last(kind, &mut dst[4..]);
+}
+
+// Where the type field is once the tag at a place is taken out: 8100 may come to stand at 12.
+fn type_without(frame: &[u8], at: usize) -> usize
+    requires { ⌜ at ≡ typeAt (now frame) ⌝ }
+    requires { ⌜ at + 8 ≤ length (now frame) ⌝ }
+    ensures { λ r. ⌜ r ≡ typeAt (cutAt (now (frame .entry)) at) ⌝ }
+{
+    if at == 16 {
+        return 16;
+    }
+    if word_at(frame, at + 6) == 0x8100 {
+        return 16;
+    }
+    at
+}
+
+// To PRP: the frame without its tag and with a trailer, at the start of out.
+pub fn to_prp(frame: &[u8], network: u8, kind: Kind, out: &mut [u8]) -> Turned
+    ensures { λ r. ⌜ saidTurned r ≡ toPrp (trailerOf kind) network (now (frame .entry)) (now (out .entry)) .said ⌝ }
+    ensures { λ _. ⌜ now (out .exit) ≡ toPrp (trailerOf kind) network (now (frame .entry)) (now (out .entry)) .bytes ⌝ }
+{
+    if network > 1 {
+        return Turned::Refused(refusal::NETWORK);
+    }
+    let got = frame::read_tag(frame);
+    let TagRead::Tagged(h, number) = got else {
+        return Turned::Refused(frame::refusal_of(got));
+    };
+    let at = h.at;
+    let bare = frame.len() - 6;
+    let head = type_without(frame, at) + 2;
+    if bare < head {
+        return Turned::Refused(refusal::SHORT);
+    }
+    let len = bare + width(kind);
+    if out.len() < len {
+        return Turned::Refused(refusal::ROOM);
+    }
+    frame::write_without(frame, at, out);
+    write_trailer(kind, number, network, len - head, &mut out[bare..]);
+    Turned::Out(network, number, len)
+}
