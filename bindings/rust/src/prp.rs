@@ -1,12 +1,16 @@
 //! PRP lines: a frame with PRP's trailer turned into one with the redundancy tag, and back. No table is needed.
 //!
-//! A PRP frame ends in a trailer: the number in 16 bits, LAN in 4 bits (A or B hex), the size in 12 bits, and 88FB with the kind
-//! of 2012. The size counts the bytes after the type field, the trailer's too.
+//! A frame of a PRP line has no tag. It ends in a trailer, high bytes first: the number in 16 bits, LAN in 4 bits (A or B hex), the
+//! size in 12 bits, and 88FB if the [kind](Kind) is that of 2012. The size counts the bytes after the type field, the trailer's
+//! too.
 
 use crate::archive;
 use crate::refusal::Refusal;
 
-/// The trailer of a PRP line: the line's setting says which kind is in use. No frame is taken as both.
+/// The kind of trailer on a PRP line: it is set for the line, and no frame is taken as both.
+///
+/// The first edition's is told from other bytes by LAN and size alone: where a frame without a trailer ends in random bytes, one of
+/// 32768 is taken for one.
 #[derive(Clone, Copy, Debug, PartialEq, Eq, Hash)]
 #[repr(u8)]
 pub enum Kind {
@@ -41,8 +45,8 @@ pub struct Turned {
 /// network that LAN gives: it is the one of the frame's [arrival](crate::Receiver::arrival).
 ///
 /// Refusals 3 (the tagged frame would have more than 2000 bytes), 4 (shorter than its header and trailer together), 13, 16, 8 in
-/// this order: any source is taken. The output must hold `frame.len() + 6 - kind.width()` bytes, and
-/// [`Stream::FRAME_MOST`](crate::Stream::FRAME_MOST) bytes are always enough.
+/// this order. Any source is taken, but an arrival then refuses a group's. The output must hold `frame.len() + 6 - kind.width()`
+/// bytes, and [`Stream::FRAME_MOST`](crate::Stream::FRAME_MOST) bytes are always enough.
 ///
 /// ```
 /// use nippitsun::prp::{self, Kind, Turned};
@@ -84,10 +88,12 @@ pub fn from(frame: &[u8], kind: Kind, out: &mut [u8]) -> Result<Turned, Refusal>
 }
 
 /// Turns a tagged frame into a PRP frame for a network, with the tag's number and the LAN of the network, and writes it to the
-/// start of the output.
+/// start of the output. What [`from`] wrote becomes the PRP frame that it was, with the same kind and the network that was told.
 ///
-/// Refusals 2, 3, 4, 5, then 4 again (the frame without its tag is short), 8 in this order: any source is taken. The output must
-/// hold `frame.len() - 6 + kind.width()` bytes, and [`Stream::FRAME_MOST`](crate::Stream::FRAME_MOST) bytes are always enough.
+/// Refusals 2, 3, 4, 5, then 4 again (the frame without its tag is short: 8100 then stands at 12, and fewer than 18 bytes are
+/// left), 8 in this order. Any source is taken, and any type behind the tag: if that is F1C1, [`from`] refuses what comes of it
+/// with 13. The output must hold `frame.len() - 6 + kind.width()` bytes, and [`Stream::FRAME_MOST`](crate::Stream::FRAME_MOST)
+/// bytes are always enough.
 ///
 /// ```
 /// use nippitsun::prp::{self, Kind, Turned};
