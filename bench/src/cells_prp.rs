@@ -23,12 +23,13 @@ impl Sum for PrpAnswer {
     }
 }
 
-/// Makes this call for each turn. It tells what is summed of the answer. The result is so long.
+/// A frame, its kind of trailer, and the length of what it is turned into.
+type Turn<'a> = (&'a [u8], u8, usize);
+
+/// Makes this call for each turn. It tells what is summed of the answer.
 fn turning(
     call: impl Fn(&[u8], u8, &mut [u8]) -> u64 + 'static,
-    given: &[u8],
-    kind: u8,
-    result: usize,
+    (given, kind, result): Turn,
 ) -> Work {
     let size = given.len();
     let mut room = Box::new(Room {
@@ -78,42 +79,24 @@ pub fn turns() -> Group {
     ] {
         for size in [64, 256, 1500] {
             let [line, tagged] = pair(size, vlan, kind);
+            let from = (&line[..], kind, tagged.len());
             cells.push(Cell {
                 name: format!("prp-from-{}{}", size, with),
                 each: 1,
                 works: vec![
-                    turning(
-                        |f, k, o| proved::from_prp(f, k, o).sum(),
-                        &line,
-                        kind,
-                        tagged.len(),
-                    ),
-                    turning(
-                        |f, k, o| plain::from_prp(f, k, o).sum(),
-                        &line,
-                        kind,
-                        tagged.len(),
-                    ),
-                    turning(copied, &line, kind, size),
+                    turning(|f, k, o| proved::from_prp(f, k, o).sum(), from),
+                    turning(|f, k, o| plain::from_prp(f, k, o).sum(), from),
+                    turning(copied, from),
                 ],
             });
+            let to = (&tagged[..], kind, size);
             cells.push(Cell {
                 name: format!("prp-to-{}{}", size, with),
                 each: 1,
                 works: vec![
-                    turning(
-                        |f, k, o| proved::to_prp(f, NETWORK, k, o).sum(),
-                        &tagged,
-                        kind,
-                        size,
-                    ),
-                    turning(
-                        |f, k, o| plain::to_prp(f, NETWORK, k, o).sum(),
-                        &tagged,
-                        kind,
-                        size,
-                    ),
-                    turning(copied, &tagged, kind, size),
+                    turning(|f, k, o| proved::to_prp(f, NETWORK, k, o).sum(), to),
+                    turning(|f, k, o| plain::to_prp(f, NETWORK, k, o).sum(), to),
+                    turning(copied, to),
                 ],
             });
         }
