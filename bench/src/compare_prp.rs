@@ -19,7 +19,8 @@ fn is_at(f: &[u8], at: usize, bytes: [u8; 2]) -> bool {
     f.get(at..at + 2) == Some(&bytes)
 }
 
-/// A random frame with a trailer of this width behind it, most often one that fits. Most often it has no tag.
+/// A random frame with a trailer of this width behind it, most often one that fits. Most often it has no tag. Rarely it is shorter
+/// than a trailer.
 fn line(dice: &mut Dice, pool: &[u8], width: usize) -> Vec<u8> {
     let mut f = frame(dice, pool);
     let at = if is_at(&f, 12, [0x81, 0x00]) { 16 } else { 12 };
@@ -40,10 +41,14 @@ fn line(dice: &mut Dice, pool: &[u8], width: usize) -> Vec<u8> {
     let mut trailer = [dice.next() as u16, lan << 12 | size & 0xFFF, 0x88FB]
         .map(u16::to_be_bytes)
         .concat();
+    // A bit of LAN, size or 88FB.
     if dice.one_in(12) {
-        trailer[4 + dice.below(2) as usize] ^= 1 << dice.below(8);
+        trailer[2 + dice.below(4) as usize] ^= 1 << dice.below(8);
     }
     f.extend_from_slice(&trailer[..width]);
+    if dice.one_in(60) {
+        f.truncate(dice.below(8) as usize);
+    }
     f
 }
 
@@ -68,7 +73,7 @@ pub fn turns(cases: u64) -> Result<u64, String> {
     for case in 0..cases {
         let (kind, width) = setting(&mut dice);
         let f = line(&mut dice, &pool, width);
-        let out = output(&mut dice, &pool, f.len() + 6 - width);
+        let out = output(&mut dice, &pool, (f.len() + 6).saturating_sub(width));
         let a = both(
             out,
             |out| proved::from_prp(&f, kind, out),
