@@ -1,14 +1,14 @@
 //! What is timed and counted: each cell is the same calls on several sides.
 use crate::cells_arrivals::Sum;
 use crate::record::{State, Stream, TagAnswer};
-use crate::{cells_arrivals, cells_batches, cells_sends, plain, proved};
+use crate::{cells_arrivals, cells_batches, cells_prp, cells_sends, plain, proved};
 
 /// Makes so many calls and gives a sum of what they answered.
 pub type Work = Box<dyn FnMut(u64) -> u64>;
 
 pub struct Cell {
     pub name: String,
-    /// How many decisions, tag calls, sends, arrivals or frames one call is.
+    /// How many decisions, tag calls, sends, turns, arrivals or frames one call is.
     pub each: u64,
     /// The work of each of the group's sides.
     pub works: Vec<Work>,
@@ -275,13 +275,14 @@ fn decisions() -> Group {
 }
 
 /// The arrivals first: they are the one table.
-pub fn all() -> [Group; 6] {
+pub fn all() -> [Group; 7] {
     [
         cells_arrivals::arrivals(),
         cells_arrivals::windows(),
         cells_batches::batches(),
         tags(),
         cells_sends::sends(),
+        cells_prp::turns(),
         decisions(),
     ]
 }

@@ -5,13 +5,13 @@ use crate::compare::{all_seen, frame, wrong, Dice};
 use crate::record::Sender;
 use crate::{plain, proved};
 
-/// An output: most often with room for the tagged frame, often with just that.
-fn output(dice: &mut Dice, pool: &[u8], length: usize) -> Vec<u8> {
+/// An output: most often with room for a result of this length, often with just that.
+pub fn output(dice: &mut Dice, pool: &[u8], result: usize) -> Vec<u8> {
     let room = match dice.below(8) {
-        0 => length + 5,
+        0 => result.saturating_sub(1),
         1 => dice.below(2100) as usize,
-        2 => length + 6 + dice.below(40) as usize,
-        3..=5 => length + 6,
+        2 => result + dice.below(40) as usize,
+        3..=5 => result,
         _ => 2100,
     };
     let from = dice.below((pool.len() - room) as u64) as usize;
@@ -39,7 +39,7 @@ pub fn sends(cases: u64) -> Result<u64, String> {
             t.next = s.next;
         }
         let f = frame(&mut dice, &pool);
-        let mut outs = [(); 2].map(|_| output(&mut dice, &pool, f.len()));
+        let mut outs = [(); 2].map(|_| output(&mut dice, &pool, f.len() + 6));
         let mut others = outs.clone();
         let lacks = |n: usize| (others[n].len() < f.len() + 6) as usize;
         let lack = lacks(0) + 2 * lacks(1);

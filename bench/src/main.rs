@@ -7,10 +7,12 @@
 mod cells;
 mod cells_arrivals;
 mod cells_batches;
+mod cells_prp;
 mod cells_sends;
 mod compare;
 mod compare_arrivals;
 mod compare_batches;
+mod compare_prp;
 mod compare_sends;
 mod plain;
 mod proved;
@@ -55,6 +57,11 @@ fn compared() -> Result<(), String> {
     println!("{} tag calls and {} decisions and rows of them on random inputs: answers, records and output bytes equal", tags, decisions);
     let sends = compare_sends::sends(300_000)?;
     println!("{} sends of random frames, with resets between: answers, next numbers and the bytes of both outputs equal", sends);
+    let turns = compare_prp::turns(300_000)?;
+    println!(
+        "{} turns of random frames from PRP and to PRP: answers and output bytes equal",
+        turns
+    );
     let arrivals = compare_arrivals::arrivals(400_000)?;
     println!("{} arrivals on random tables, beside two plain arrivals: answers, records and output bytes equal", arrivals);
     let batches = compare_batches::batches(40_000)?;
@@ -107,6 +114,7 @@ fn tables(counts: &str, names: &[&str]) -> Result<(), String> {
         table::batches,
         table::tags,
         table::sends,
+        table::turns,
         table::decisions,
     ]) {
         let mut cells = std::mem::take(&mut group.cells);

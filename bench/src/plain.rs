@@ -1,8 +1,8 @@
 //! The plain side: the same calls in safe Rust, written from documents 01 and 02 alone. Each is kept a call of its own, as the
-//! archive's are, so that both sides pay for one; tag calls, sends and decisions have C's convention, by which the answer comes
-//! back in registers.
+//! archive's are, so that both sides pay for one; tag calls, sends, turns of PRP frames and decisions have C's convention, by
+//! which the answer comes back in registers.
 use crate::record::{
-    ArrivalAnswer, BatchAnswer, Decided, Sender, Stream, TagAnswer, DAMAGED, DUPLICATE,
+    ArrivalAnswer, BatchAnswer, Decided, PrpAnswer, Sender, Stream, TagAnswer, DAMAGED, DUPLICATE,
     FRAMES_MOST, HANDED_UP, ROGUE,
 };
 
@@ -12,6 +12,8 @@ const UNTAGGED_MOST: usize = 1994;
 const WINDOW_MOST: u16 = 512;
 const VLAN_TAG: u16 = 0x8100;
 const TAG: u16 = 0xF1C1;
+/// What the trailer of 2012 ends in.
+const SUFFIX: u16 = 0x88FB;
 const TABLE: u8 = 1;
 const NETWORK: u8 = 2;
 const LONG: u8 = 3;
@@ -23,6 +25,7 @@ pub const ROOM: u8 = 8;
 const TAGGED: u8 = 13;
 const GROUP: u8 = 14;
 const BATCH: u8 = 15;
+const TRAILER: u8 = 16;
 
 /// The first byte of the source; its lowest bit marks a group.
 const SOURCE: usize = 6;
@@ -179,6 +182,111 @@ pub extern "C" fn send(
         Some(12) => sent(sender, frame, 12, out0, out1),
         Some(_) => sent(sender, frame, 16, out0, out1),
         None => refused(SHORT),
+    }
+}
+
+fn not_turned(refusal: u8) -> PrpAnswer {
+    PrpAnswer {
+        refusal,
+        ..PrpAnswer::default()
+    }
+}
+
+/// The turn from PRP behind 3 and 4.
+#[inline(always)]
+fn from_line(frame: &[u8], at: usize, width: usize, out: &mut [u8]) -> PrpAnswer {
+    if word(frame, at) == TAG {
+        return not_turned(TAGGED);
+    }
+    let (bare, trailer) = frame.split_at(frame.len() - width);
+    let lan_and_size = word(trailer, 2);
+    // LAN A and LAN B differ in this bit alone.
+    let fits = lan_and_size & !0x1000 == 0xA000 | (frame.len() - at - 2) as u16;
+    if !fits || width == 6 && word(trailer, 4) != SUFFIX {
+        return not_turned(TRAILER);
+    }
+    if out.len() < bare.len() + 6 {
+        return not_turned(ROOM);
+    }
+    let told = written(bare, at, word(trailer, 0), out);
+    PrpAnswer {
+        length: told.length,
+        number: told.number,
+        network: (lan_and_size >> 12 & 1) as u8,
+        refusal: 0,
+    }
+}
+
+// With the place and the width as constants from here on, no check of the frame's bounds is left. This makes the plain side
+// faster.
+#[inline(never)]
+#[allow(improper_ctypes_definitions)]
+pub extern "C" fn from_prp(frame: &[u8], kind: u8, out: &mut [u8]) -> PrpAnswer {
+    let width = if kind == 0 { 4 } else { 6 };
+    if frame.len() > UNTAGGED_MOST + width {
+        return not_turned(LONG);
+    }
+    match (type_place(frame), kind) {
+        (Some(12), 0) if frame.len() >= 14 + 4 => from_line(frame, 12, 4, out),
+        (Some(12), 1..) if frame.len() >= 14 + 6 => from_line(frame, 12, 6, out),
+        (Some(16), 0) if frame.len() >= 18 + 4 => from_line(frame, 16, 4, out),
+        (Some(16), 1..) if frame.len() >= 18 + 6 => from_line(frame, 16, 6, out),
+        _ => not_turned(SHORT),
+    }
+}
+
+/// The turn to PRP behind 2, 3 and the first 4.
+#[inline(always)]
+fn to_line(frame: &[u8], at: usize, network: u8, width: usize, out: &mut [u8]) -> PrpAnswer {
+    if word(frame, at) != TAG {
+        return not_turned(UNTAGGED);
+    }
+    if frame.len() < at + 8 {
+        return not_turned(SHORT);
+    }
+    let length = frame.len() - 6;
+    let mut header = at + 2;
+    // What stood behind the tag is at 12 then.
+    if at == 12 && word(frame, 18) == VLAN_TAG {
+        header = 18;
+    }
+    if length < header {
+        return not_turned(SHORT);
+    }
+    if out.len() < length + width {
+        return not_turned(ROOM);
+    }
+    let (start, trailer) = out[..length + width].split_at_mut(length);
+    let number = taken(frame, at, start).number;
+    let lan_and_size = 0xA000 | (network as u16) << 12 | (length + width - header) as u16;
+    trailer[..2].copy_from_slice(&number.to_be_bytes());
+    trailer[2..4].copy_from_slice(&lan_and_size.to_be_bytes());
+    if width == 6 {
+        trailer[4..].copy_from_slice(&SUFFIX.to_be_bytes());
+    }
+    PrpAnswer {
+        length: length + width,
+        number,
+        network,
+        refusal: 0,
+    }
+}
+
+#[inline(never)]
+#[allow(improper_ctypes_definitions)]
+pub extern "C" fn to_prp(frame: &[u8], network: u8, kind: u8, out: &mut [u8]) -> PrpAnswer {
+    if network > 1 {
+        return not_turned(NETWORK);
+    }
+    if frame.len() > FRAME_MOST {
+        return not_turned(LONG);
+    }
+    match (type_place(frame), kind) {
+        (Some(12), 0) => to_line(frame, 12, network, 4, out),
+        (Some(12), 1..) => to_line(frame, 12, network, 6, out),
+        (Some(_), 0) => to_line(frame, 16, network, 4, out),
+        (Some(_), 1..) => to_line(frame, 16, network, 6, out),
+        (None, _) => not_turned(SHORT),
     }
 }
 

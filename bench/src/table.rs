@@ -1,7 +1,7 @@
 //! The tables, at most 120 columns wide, one row a cell.
 use std::collections::HashMap;
 
-/// The places of an arrival's sides. A tag call, a send and a decision have the first two as well.
+/// The places of an arrival's sides. A tag call, a send, a turn and a decision have the first two as well.
 const PRODUCT: usize = 0;
 const PLAIN: usize = 1;
 const SECOND: usize = 2;
@@ -296,6 +296,12 @@ pub fn sends(rows: &[Row], aim: f64) {
     small("sends", rows, &["product", "plain", "memcpy"]);
     println!("plain: Rust written for speed. memcpy: the frame's bytes copied to both outputs, nothing else.");
     tell_aim(&ratios(rows.iter(), PLAIN), "the plain send", aim);
+}
+
+pub fn turns(rows: &[Row], aim: f64) {
+    small("PRP frames", rows, &["product", "plain", "memcpy"]);
+    println!("The size is the PRP frame's. plain: Rust written for speed. memcpy: the frame's bytes copied, nothing else.");
+    tell_aim(&ratios(rows.iter(), PLAIN), "the plain turn", aim);
 }
 
 pub fn decisions(rows: &[Row], aim: f64) {

@@ -1,7 +1,8 @@
-/* Nippitsun for C and C++: a receiver for frames that arrive on two networks, the redundancy tag in and out, and a sender.
+/* Nippitsun for C and C++: a receiver for frames that arrive on two networks, the redundancy tag in and out, a sender, and the
+ * frames of PRP lines turned into tagged ones and back.
  *
  * The calls are the exported functions of the crates `port` and `port_*`, proved to do what document 01 says, with orders 1, 3,
- * 4, 5 and 6 of document 02 (order 2 changes no answer). This header is written by hand: bindings/c/test.c holds it to the
+ * 4, 5, 6 and 7 of document 02 (order 2 changes no answer). This header is written by hand: bindings/c/test.c holds it to the
  * compiled code, and bindings/check to the sources. C11 or C++11, x86-64; link with libport.a, which is called libnippitsun.a
  * once it is installed (docs/LINKING.md).
  *
@@ -28,9 +29,9 @@
 #include <stddef.h>
 #include <stdint.h>
 
-#define NIPPITSUN_VERSION "0.7.0"
+#define NIPPITSUN_VERSION "0.8.0"
 #define NIPPITSUN_VERSION_MAJOR 0
-#define NIPPITSUN_VERSION_MINOR 7
+#define NIPPITSUN_VERSION_MINOR 8
 #define NIPPITSUN_VERSION_PATCH 0
 
 #ifdef __cplusplus
@@ -64,11 +65,11 @@ enum nippitsun_rule {
     NIPPITSUN_RULE_MATCH = 2
 };
 
-/* The trailer of a PRP line (document 02, order 7): the line's setting says which kind is in use. A call takes every byte: 0 is
- * the first edition, and every other value is 2012. */
+/* The kind of trailer on a PRP line (document 02, order 7): it is set for the line, and no frame is taken as both. A call takes
+ * every byte: 0 is the first edition, and every other value is 2012. */
 enum nippitsun_prp {
-    NIPPITSUN_PRP_FIRST = 0, /* 4 bytes: number, LAN and size */
-    NIPPITSUN_PRP_2012 = 1   /* 6 bytes: the same, then 88FB */
+    NIPPITSUN_PRP_FIRST = 0, /* the first edition's, 4 bytes: number, LAN and size */
+    NIPPITSUN_PRP_2012 = 1   /* that of 2012, 6 bytes: the same, then 88FB */
 };
 
 /* The verdict on an arrival. */
@@ -284,23 +285,31 @@ void nippitsun_reset_sender(nippitsun_sender *sender);
 
 /* ---- PRP lines (document 02, order 7), with no table
  *
- * A PRP frame ends in a trailer: the number in 16 bits, LAN in 4 bits (A or B hex), the size in 12 bits, and 88FB with the kind of
- * 2012. The size counts the bytes after the type field, the trailer's too. `kind` is a value of enum nippitsun_prp. */
+ * A frame of a PRP line has no tag. It ends in a trailer, high bytes first: the number in 16 bits, LAN in 4 bits (A or B hex), the
+ * size in 12 bits, and 88FB if the kind is that of 2012. The size counts the bytes after the type field, the trailer's too. The
+ * type field stands at 12, and at 16 where 8100 stands at 12.
+ *
+ * `kind` is a value of enum nippitsun_prp, the line's setting. With the wrong one no frame of the line is taken, and most are
+ * refused with 16. The first edition's trailer is told from other bytes by LAN and size alone: where a frame without a trailer ends
+ * in random bytes, one of 32768 is taken for one. */
 
 /* Turns a PRP frame into a tagged one: takes the trailer off, puts a tag with the trailer's number in at the type field, and
- * writes the tagged frame to the start of the output; the bytes after it keep their values. The answer tells the network that
- * LAN gives (A is 0), the number and the length. Give the tagged frame to nippitsun_arrival with that network.
- * Refusals 3 (the tagged frame would have more than NIPPITSUN_FRAME_MOST bytes), 4 (shorter than its header and trailer
- * together), 13, 16, 8. Any source is taken. The output must hold frame_bytes + 6 bytes less the trailer; NIPPITSUN_FRAME_MOST
- * bytes are always enough. */
+ * writes the tagged frame to the start of the output; the bytes after it keep their values. The answer tells the number, the
+ * length, and the network that LAN gives: A is 0, B is 1. nippitsun_arrival takes the tagged frame with that network.
+ * Refusals 3 (the tagged frame would have more than NIPPITSUN_FRAME_MOST bytes: above 1998 bytes with the first edition, above
+ * 2000 with 2012), 4 (shorter than its header and trailer together), 13, 16, 8. Any source is taken, but an arrival then refuses a
+ * group's. The output must hold frame_bytes + 6 bytes less the trailer's; NIPPITSUN_FRAME_MOST bytes are always enough. */
 nippitsun_prp_answer nippitsun_from_prp(const uint8_t *NIPPITSUN_APART frame, size_t frame_bytes, uint8_t kind,
                                         uint8_t *NIPPITSUN_APART out, size_t out_bytes);
 
-/* Turns a tagged frame into a PRP frame for a network: takes the tag out, puts a trailer of the kind behind the frame, with the
- * tag's number and the LAN of the network (0 is A), and writes it to the start of the output; the bytes after it keep their
- * values. The answer tells the network, the number and the length.
- * Refusals 2, 3, 4, 5, 4 again (the frame without its tag is short), 8. Any source is taken. The output must hold frame_bytes - 6
- * bytes and the trailer; NIPPITSUN_FRAME_MOST bytes are always enough. */
+/* Turns a tagged frame into a PRP frame for a network: takes the tag out, puts a trailer of this kind behind the frame, with the
+ * tag's number and the network's LAN (0 is A, 1 is B), and writes it to the start of the output; the bytes after it keep their
+ * values. The answer tells the number, the length, and the network again. What nippitsun_from_prp wrote becomes the PRP frame
+ * that it was, with the same kind and the network that was told. To send on two PRP lines, turn the one output of nippitsun_send
+ * for network 0 and the other for network 1.
+ * Refusals 2, 3, 4, 5, 4 again (the frame without its tag is short: 8100 then stands at 12, and fewer than 18 bytes are left), 8.
+ * Any source is taken, and any type behind the tag: if that is F1C1, nippitsun_from_prp refuses what comes of it with 13. The
+ * output must hold frame_bytes - 6 bytes and the trailer; NIPPITSUN_FRAME_MOST bytes are always enough. */
 nippitsun_prp_answer nippitsun_to_prp(const uint8_t *NIPPITSUN_APART frame, size_t frame_bytes, uint8_t network, uint8_t kind,
                                       uint8_t *NIPPITSUN_APART out, size_t out_bytes);
 

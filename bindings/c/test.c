@@ -1,6 +1,7 @@
 /* Holds nippitsun.h to the compiled calls: every function, verdict and refusal number, and every field of a record in both
  * directions. A refused call must leave every byte of table, sender and outputs as it was, and answer 0 but for the number. A
- * batch must do what single arrivals in turn do, and a send what the tag writer does.
+ * batch must do what single arrivals in turn do, a send what the tag writer does, and a turn from PRP or to PRP what the tag
+ * writer or reader does with the trailer off or on.
  *
  * All areas are blocks of the heap of their exact size, so that bindings/c/memcheck sees an access behind their end. */
 #include "nippitsun.h"
@@ -209,6 +210,78 @@ static void sender_reset(void) {
     begin();
     nippitsun_reset_sender(sender);
     CHECK(sender->next == 0 && table_same() && out_same_from(0) && twin_same_from(0));
+}
+
+/* Bytes of a trailer of this kind, and of a frame's header: 8100 at 12 makes it longer by four. */
+static size_t width_of(uint8_t kind) { return kind == NIPPITSUN_PRP_FIRST ? 4 : 6; }
+static size_t header_of(const uint8_t *frame) { return frame[12] == 0x81 && frame[13] == 0x00 ? 18 : 14; }
+
+/* Writes the trailer of a PRP frame of n bytes at its end. */
+static void write_trailer(uint8_t *frame, size_t n, uint8_t kind, unsigned lan, uint16_t number) {
+    const size_t size = n - header_of(frame);
+    const uint8_t trailer[6] = {(uint8_t)(number >> 8), (uint8_t)number, (uint8_t)(lan << 4 | size >> 8), (uint8_t)size, 0x88, 0xFB};
+    copy(frame + n - width_of(kind), trailer, width_of(kind));
+}
+
+static int same_turn(nippitsun_prp_answer a, nippitsun_prp_answer b) {
+    return a.length == b.length && a.number == b.number && a.network == b.network && a.refusal == b.refusal;
+}
+
+static int only_output_changed(void) { return table_same() && sender->next == sender_before.next && twin_same_from(0); }
+
+/* Order 7 with the tag writer: it has what stands before the trailer, and any source. 16 comes before 8. */
+static nippitsun_prp_answer from_line(const uint8_t *frame, size_t n, uint8_t kind) {
+    uint8_t *f = block(n), *tagged_frame = block(NIPPITSUN_FRAME_MOST);
+    copy(f, frame, n);
+    begin();
+    nippitsun_prp_answer a = nippitsun_from_prp(f, n, kind, out, room), want = {0};
+    end(a.refusal);
+    CHECK(equal(f, frame, n) && only_output_changed());
+    size_t bare = n < width_of(kind) ? 0 : n - width_of(kind);
+    uint16_t number = bare ? (uint16_t)(frame[bare] << 8 | frame[bare + 1]) : 0;
+    if (bare > 6) f[6] &= 0xFE;
+    nippitsun_tag_answer t = nippitsun_write_tag(f, bare, number, tagged_frame, NIPPITSUN_FRAME_MOST);
+    want.refusal = t.refusal;
+    if (t.refusal == NIPPITSUN_REFUSED_NOT) {
+        tagged_frame[6] = f[6] = frame[6];
+        want.refusal = NIPPITSUN_REFUSED_TRAILER;
+        for (uint8_t network = 0; network < 2; network++) {
+            write_trailer(f, n, kind, 0xAu + network, number);
+            if (!equal(f, frame, n)) continue;
+            if (room < t.length) want.refusal = NIPPITSUN_REFUSED_ROOM;
+            else want = (nippitsun_prp_answer){.length = t.length, .number = number, .network = network};
+        }
+    }
+    copy(out_before, tagged_frame, want.length);
+    CHECK(same_turn(a, want) && out_same_from(0));
+    free(f);
+    free(tagged_frame);
+    return a;
+}
+
+/* Order 7 with the tag reader: what it writes must not be short, and the trailer stands behind it. */
+static nippitsun_prp_answer to_line(const uint8_t *frame, size_t n, uint8_t network, uint8_t kind) {
+    uint8_t *f = block(n), *line = block(NIPPITSUN_FRAME_MOST);
+    copy(f, frame, n);
+    begin();
+    nippitsun_prp_answer a = nippitsun_to_prp(f, n, network, kind, out, room), want = {0};
+    end(a.refusal);
+    CHECK(equal(f, frame, n) && only_output_changed());
+    nippitsun_tag_answer t = nippitsun_take_tag(f, n, line, NIPPITSUN_FRAME_MOST);
+    size_t length = t.length + width_of(kind);
+    if (network > 1) want.refusal = NIPPITSUN_REFUSED_NETWORK;
+    else if (t.refusal) want.refusal = t.refusal;
+    else if (t.length < header_of(line)) want.refusal = NIPPITSUN_REFUSED_SHORT;
+    else if (room < length) want.refusal = NIPPITSUN_REFUSED_ROOM;
+    else {
+        write_trailer(line, length, kind, 0xAu + network, t.number);
+        want = (nippitsun_prp_answer){.length = length, .number = t.number, .network = network};
+    }
+    copy(out_before, line, want.length);
+    CHECK(same_turn(a, want) && out_same_from(0));
+    free(f);
+    free(line);
+    return a;
 }
 
 /* ---- records, field by field */
@@ -1264,10 +1337,322 @@ static void sent_and_received(void) {
     CHECK(arrive(0, on_network[0], a.length).verdict == NIPPITSUN_VERDICT_HANDED_UP);
 }
 
+/* ---- PRP lines (document 02, order 7) */
+
+static const uint8_t kinds[2] = {NIPPITSUN_PRP_FIRST, NIPPITSUN_PRP_2012};
+
+/* The frame just made, of n bytes, with a trailer behind it. */
+static const uint8_t *line_of(uint8_t kind, unsigned lan, uint16_t number, size_t n, const uint8_t *made) {
+    write_trailer(frame_bytes, n + width_of(kind), kind, lan, number);
+    return made;
+}
+
+/* The same frame byte by byte: as it is on each line, and with its tag. */
+static void turns(void) {
+    static const uint8_t head[12] = {2, 3, 4, 5, 6, 7, 2, 9, 9, 9, 9, 1}, vlan[4] = {0x81, 0x00, 0xA1, 0x23};
+    static const uint8_t rest[5] = {0x08, 0x00, 0xC1, 0xC2, 0xC3}, tag[6] = {0xF1, 0xC1, 0, 0, 0xAB, 0xCD};
+    static const uint8_t first[4] = {0xAB, 0xCD, 0xA0, 7}, of_2012[6] = {0xAB, 0xCD, 0xA0, 9, 0x88, 0xFB};
+    make_table(1);
+    for (unsigned i = 0; i < 8; i++) {
+        uint8_t kind = kinds[i & 1], network = (uint8_t)(i >> 1 & 1), line[40], with_tag[40];
+        size_t width = width_of(kind), at = i & 4 ? 16 : 12, line_bytes = at + 5 + width, with_tag_bytes = at + 11;
+        copy(line, head, 12);
+        copy(line + 12, vlan, at - 12);
+        copy(with_tag, line, at);
+        copy(line + at, rest, 5);
+        copy(line + at + 5, kind == NIPPITSUN_PRP_FIRST ? first : of_2012, width);
+        if (network) line[at + 7] = 0xB0;
+        copy(with_tag + at, tag, 6);
+        copy(with_tag + at + 6, rest, 5);
+
+        make_outs(50, 9);
+        nippitsun_prp_answer a = from_line(line, line_bytes, kind);
+        CHECK(a.refusal == 0 && a.network == network && a.number == 0xABCD && a.length == with_tag_bytes);
+        CHECK(equal(out, with_tag, with_tag_bytes));
+        a = to_line(with_tag, with_tag_bytes, network, kind);
+        CHECK(a.refusal == 0 && a.network == network && a.number == 0xABCD && a.length == line_bytes);
+        CHECK(equal(out, line, line_bytes));
+        /* The reserved bytes of a tag are not on the line. */
+        with_tag[at + 2] = 0xEE;
+        with_tag[at + 3] = 0xDD;
+        a = to_line(with_tag, with_tag_bytes, network, kind);
+        CHECK(a.refusal == 0 && equal(out, line, line_bytes));
+    }
+
+    /* Frame and output in one block, at odd addresses: the bytes around them keep their values too. */
+    for (unsigned i = 0; i < 2; i++) {
+        size_t width = width_of(kinds[i]), n = 60 + width;
+        make_outs(200, 200);
+        copy(out + 51, line_of(kinds[i], 0xB, 7, 60, untagged(60)), n);
+        copy(twin, out, 200);
+        nippitsun_prp_answer a = nippitsun_from_prp(out + 51, n, kinds[i], out + 51 + n, 66);
+        CHECK(a.refusal == 0 && a.network == 1 && a.number == 7 && a.length == 66);
+        CHECK(nippitsun_write_tag(frame_bytes, 60, 7, twin + 51 + n, 66).length == 66 && equal(out, twin, 200));
+        fill(out + 51, n, 99);
+        a = nippitsun_to_prp(out + 51 + n, 66, 1, kinds[i], out + 51, n);
+        CHECK(a.refusal == 0 && a.length == n && equal(out, twin, 200));
+    }
+}
+
+/* From PRP: 3, 4, 13, 16, 8. To PRP: 2, 3, 4, 5, 4 again, 8. Each with all the later ones wrong too, and then with room. */
+static void refused_turns(void) {
+    make_table(0);
+    for (unsigned i = 0; i < 2; i++) {
+        uint8_t kind = kinds[i];
+        size_t width = width_of(kind), most = 1994 + width;
+        static const size_t rooms[] = {0, 1, 17, NIPPITSUN_FRAME_MOST + 100};
+        for (size_t j = 0; j < sizeof rooms / sizeof *rooms; j++) {
+            make_outs(rooms[j], 9);
+            uint8_t room_refusal = room < 100 ? NIPPITSUN_REFUSED_ROOM : NIPPITSUN_REFUSED_NOT;
+            CHECK(from_line(tagged(2100, 0, 1), 2100, kind).refusal == NIPPITSUN_REFUSED_LONG);
+            CHECK(from_line(tagged(most + 1, 0, 1), most + 1, kind).refusal == NIPPITSUN_REFUSED_LONG);
+            CHECK(from_line(tagged(most + 1, 5, 1), most + 1, kind).refusal == NIPPITSUN_REFUSED_LONG);
+            CHECK(from_line(tagged(13 + width, 0, 1), 13 + width, kind).refusal == NIPPITSUN_REFUSED_SHORT);
+            CHECK(from_line(tagged(17 + width, 5, 1), 17 + width, kind).refusal == NIPPITSUN_REFUSED_SHORT);
+            CHECK(from_line(tagged(14 + width, 0, 1), 14 + width, kind).refusal == NIPPITSUN_REFUSED_TAGGED);
+            CHECK(from_line(tagged(18 + width, 5, 1), 18 + width, kind).refusal == NIPPITSUN_REFUSED_TAGGED);
+            CHECK(from_line(tagged(most, 0, 1), most, kind).refusal == NIPPITSUN_REFUSED_TAGGED);
+            CHECK(from_line(line_of(kind, 0xA, 7, 60, tagged(60, 5, 1)), 60 + width, kind).refusal == NIPPITSUN_REFUSED_TAGGED);
+            CHECK(from_line(untagged(60), 60, kind).refusal == NIPPITSUN_REFUSED_TRAILER);
+            CHECK(from_line(typed(12, 0x8100, untagged(60)), 60, kind).refusal == NIPPITSUN_REFUSED_TRAILER);
+            CHECK(from_line(untagged(most), most, kind).refusal == NIPPITSUN_REFUSED_TRAILER);
+            CHECK(from_line(line_of(kind, 0xB, 7, 60, untagged(60)), 60 + width, kind).refusal == room_refusal);
+            CHECK(from_line(line_of(kind, 0xA, 7, 60, typed(12, 0x8100, untagged(60))), 60 + width, kind).refusal == room_refusal);
+
+            CHECK(to_line(untagged(2001), 2001, 2, kind).refusal == NIPPITSUN_REFUSED_NETWORK);
+            CHECK(to_line(untagged(3), 3, 255, kind).refusal == NIPPITSUN_REFUSED_NETWORK);
+            CHECK(to_line(untagged(2001), 2001, 0, kind).refusal == NIPPITSUN_REFUSED_LONG);
+            CHECK(to_line(tagged(2001, 5, 1), 2001, 1, kind).refusal == NIPPITSUN_REFUSED_LONG);
+            CHECK(to_line(untagged(13), 13, 0, kind).refusal == NIPPITSUN_REFUSED_SHORT);
+            CHECK(to_line(typed(12, 0x8100, untagged(17)), 17, 1, kind).refusal == NIPPITSUN_REFUSED_SHORT);
+            CHECK(to_line(untagged(14), 14, 0, kind).refusal == NIPPITSUN_REFUSED_UNTAGGED);
+            CHECK(to_line(untagged(19), 19, 1, kind).refusal == NIPPITSUN_REFUSED_UNTAGGED);
+            CHECK(to_line(typed(12, 0x8100, untagged(23)), 23, 0, kind).refusal == NIPPITSUN_REFUSED_UNTAGGED);
+            CHECK(to_line(untagged(60), 60, 1, kind).refusal == NIPPITSUN_REFUSED_UNTAGGED);
+            CHECK(to_line(tagged(19, 0, 1), 19, 0, kind).refusal == NIPPITSUN_REFUSED_SHORT);
+            CHECK(to_line(tagged(23, 5, 1), 23, 1, kind).refusal == NIPPITSUN_REFUSED_SHORT);
+            /* The second 4: without its tag the frame has a VLAN tag, and no type behind it. */
+            CHECK(to_line(typed(18, 0x8100, tagged(20, 0, 1)), 20, 0, kind).refusal == NIPPITSUN_REFUSED_SHORT);
+            CHECK(to_line(typed(18, 0x8100, tagged(23, 0, 1)), 23, 1, kind).refusal == NIPPITSUN_REFUSED_SHORT);
+            CHECK(to_line(typed(18, 0x8100, tagged(24, 0, 1)), 24, 0, kind).refusal == room_refusal);
+            CHECK(to_line(typed(22, 0x8100, tagged(24, 5, 1)), 24, 1, kind).refusal == room_refusal);
+            CHECK(to_line(tagged(60, 0, 1), 60, 0, kind).refusal == room_refusal);
+            CHECK(to_line(tagged(NIPPITSUN_FRAME_MOST, 5, 1), NIPPITSUN_FRAME_MOST, 1, kind).refusal == room_refusal);
+        }
+    }
+}
+
+/* Every length about the shortest and the longest, behind a VLAN tag too, into outputs that just hold the result, have a byte
+ * more, and lack one. No result is longer than 2000 bytes. */
+static void turned_lengths(void) {
+    make_table(0);
+    for (unsigned i = 0; i < 4; i++)
+        for (size_t n = 0; n < 2010; n = n == 40 ? 1980 : n + 1) {
+            uint8_t kind = kinds[i & 1];
+            size_t width = width_of(kind), header = i & 2 ? 18 : 14, result = n + 6 - width;
+            unsigned refusal = n > (kind == NIPPITSUN_PRP_FIRST ? 1998 : 2000) ? NIPPITSUN_REFUSED_LONG
+                             : n < header + width ? NIPPITSUN_REFUSED_SHORT
+                                                  : NIPPITSUN_REFUSED_NOT;
+            untagged(n);
+            if (header == 18) typed(12, 0x8100, frame_bytes);
+            if (n >= header + width) line_of(kind, 0xB, 7, n - width, frame_bytes);
+            make_outs(refusal ? 100 : result, 9);
+            nippitsun_prp_answer a = from_line(frame_bytes, n, kind);
+            CHECK(a.refusal == refusal && a.length == (refusal ? 0 : result) && a.length <= NIPPITSUN_FRAME_MOST);
+            if (refusal) continue;
+            make_out(result - 1);
+            CHECK(from_line(frame_bytes, n, kind).refusal == NIPPITSUN_REFUSED_ROOM);
+            make_out(result + 1);
+            CHECK(from_line(frame_bytes, n, kind).length == result);
+        }
+    for (unsigned i = 0; i < 4; i++)
+        for (size_t n = 0; n < 2010; n = n == 40 ? 1980 : n + 1) {
+            uint8_t kind = kinds[i & 1];
+            size_t result = n - 6 + width_of(kind);
+            unsigned refusal = n > NIPPITSUN_FRAME_MOST    ? NIPPITSUN_REFUSED_LONG
+                             : n < (i & 2 ? 24u : 20u) ? NIPPITSUN_REFUSED_SHORT
+                                                       : NIPPITSUN_REFUSED_NOT;
+            tagged(n, i & 2 ? 5 : 0, 7);
+            make_outs(refusal ? 100 : result, 9);
+            nippitsun_prp_answer a = to_line(frame_bytes, n, 1, kind);
+            CHECK(a.refusal == refusal && a.length == (refusal ? 0 : result) && a.length <= NIPPITSUN_FRAME_MOST);
+            if (refusal) continue;
+            make_out(result - 1);
+            CHECK(to_line(frame_bytes, n, 1, kind).refusal == NIPPITSUN_REFUSED_ROOM);
+            make_out(result + 1);
+            CHECK(to_line(frame_bytes, n, 1, kind).length == result);
+        }
+
+    /* The longest of each kind, and one byte more. What comes of the longest has 2000 bytes. */
+    static const struct { uint8_t kind; size_t n; unsigned refusal; } longest[] = {
+        {NIPPITSUN_PRP_FIRST, 1997, 0}, {NIPPITSUN_PRP_FIRST, 1998, 0}, {NIPPITSUN_PRP_FIRST, 1999, 3},
+        {NIPPITSUN_PRP_FIRST, 2000, 3}, {NIPPITSUN_PRP_FIRST, 2001, 3}, {NIPPITSUN_PRP_2012, 1997, 0},
+        {NIPPITSUN_PRP_2012, 1998, 0},  {NIPPITSUN_PRP_2012, 1999, 0},  {NIPPITSUN_PRP_2012, 2000, 0},
+        {NIPPITSUN_PRP_2012, 2001, 3},
+    };
+    make_out(NIPPITSUN_FRAME_MOST);
+    for (size_t i = 0; i < sizeof longest / sizeof *longest; i++) {
+        uint8_t kind = longest[i].kind;
+        size_t n = longest[i].n, bare = n - width_of(kind);
+        nippitsun_prp_answer a = from_line(line_of(kind, 0xA, 7, bare, untagged(bare)), n, kind);
+        CHECK(a.refusal == longest[i].refusal && a.length == (a.refusal ? 0 : bare + 6));
+    }
+}
+
+/* A trailer in each way that is not one: every LAN with the fitting size and those beside it, every size with LAN A and B, every
+ * bit of 88FB. No frame has a trailer of both kinds. */
+static void trailers(void) {
+    make_table(0);
+    make_outs(100, 9);
+    for (unsigned i = 0; i < 4; i++) {
+        uint8_t kind = kinds[i & 1];
+        size_t n = 60 + width_of(kind), fitting = n - (i & 2 ? 18 : 14);
+        for (unsigned lan = 0; lan < 16; lan++)
+            for (unsigned size = 0; size < 4096; size++) {
+                int is_lan = lan == 0xA || lan == 0xB, is_one = is_lan && size == fitting;
+                if (!is_lan && size + 1 < fitting) size = (unsigned)fitting - 1;
+                if (!is_lan && size > fitting + 1) size = 4095;
+                untagged(60);
+                if (i & 2) typed(12, 0x8100, frame_bytes);
+                typed(62, lan << 12 | size, line_of(kind, lan, 7, 60, frame_bytes));
+                nippitsun_prp_answer a = from_line(frame_bytes, n, kind);
+                CHECK(a.refusal == (is_one ? NIPPITSUN_REFUSED_NOT : NIPPITSUN_REFUSED_TRAILER));
+                CHECK(a.network == (is_one && lan == 0xB));
+            }
+        /* With the other setting. */
+        untagged(60);
+        if (i & 2) typed(12, 0x8100, frame_bytes);
+        CHECK(from_line(line_of(kind, 0xA, 7, 60, frame_bytes), n, kinds[1 - (i & 1)]).refusal == NIPPITSUN_REFUSED_TRAILER);
+    }
+    for (unsigned bit = 0; bit < 16; bit++) {
+        typed(64, 0x88FBu ^ 1u << bit, line_of(NIPPITSUN_PRP_2012, 0xA, 7, 60, untagged(60)));
+        CHECK(from_line(frame_bytes, 66, NIPPITSUN_PRP_2012).refusal == NIPPITSUN_REFUSED_TRAILER);
+    }
+    CHECK(from_line(line_of(NIPPITSUN_PRP_2012, 0xA, 7, 60, untagged(60)), 66, NIPPITSUN_PRP_2012).refusal == NIPPITSUN_REFUSED_NOT);
+}
+
+/* Every value of each byte that a turn is given: the kind, the network, and the source's first. */
+static void turned_bytes(void) {
+    make_table(0);
+    make_outs(100, 9);
+    for (unsigned byte = 0; byte < 256; byte++) {
+        /* 0 is the first edition, and every other value is 2012: no value is refused. */
+        uint8_t kind = (uint8_t)byte, other = byte ? NIPPITSUN_PRP_FIRST : NIPPITSUN_PRP_2012;
+        size_t n = byte ? 66 : 64;
+        CHECK(from_line(line_of(kind, 0xB, 7, 60, untagged(60)), n, kind).length == 66);
+        CHECK(from_line(line_of(other, 0xB, 7, 60, untagged(60)), 130 - n, kind).refusal == NIPPITSUN_REFUSED_TRAILER);
+        CHECK(to_line(tagged(66, 0, 7), 66, 1, kind).length == n);
+        CHECK((out[64] == 0x88 && out[65] == 0xFB) == (byte != 0));
+
+        for (unsigned i = 0; i < 2; i++) {
+            uint8_t given = (uint8_t)byte, refusal = byte < 2 ? NIPPITSUN_REFUSED_NOT : NIPPITSUN_REFUSED_NETWORK;
+            make_out(100);
+            CHECK(to_line(tagged(60, 0, 7), 60, given, kinds[i]).refusal == refusal);
+            /* 14 is in neither list. */
+            line_of(kinds[i], 0xA, 7, 60, from(given, untagged(60)));
+            CHECK(from_line(frame_bytes, 60 + width_of(kinds[i]), kinds[i]).refusal == 0 && out[6] == byte);
+            CHECK(to_line(from(given, tagged(60, 0, 7)), 60, 0, kinds[i]).refusal == 0 && out[6] == byte);
+        }
+    }
+}
+
+/* What the tag stands before becomes the type of the frame on the line, and its size counts from there. */
+static void former_types(void) {
+    uint8_t line[66];
+    make_table(0);
+    for (unsigned i = 0; i < 2; i++) {
+        uint8_t kind = kinds[i];
+        size_t n = 54 + width_of(kind);
+        make_outs(100, 9);
+        /* A VLAN tag: four bytes fewer, and the tag comes behind it when the frame is turned again. */
+        CHECK(to_line(typed(18, 0x8100, tagged(60, 0, 7)), 60, 0, kind).length == n && out[56] == 0xA0 && out[57] == n - 18);
+        copy(line, out, n);
+        CHECK(from_line(line, n, kind).length == 60 && out[12] == 0x81 && out[16] == 0xF1 && out[17] == 0xC1);
+        copy(frame_bytes, out, 60);
+        CHECK(to_line(frame_bytes, 60, 0, kind).length == n && equal(out, line, n));
+        /* A second VLAN tag is no part of the header. */
+        CHECK(to_line(typed(22, 0x8100, tagged(60, 5, 7)), 60, 1, kind).length == n && out[56] == 0xB0 && out[57] == n - 18);
+
+        /* F1C1: it is turned, and can't be turned back. */
+        for (uint16_t vlan = 0; vlan < 2; vlan++) {
+            make_out(100);
+            CHECK(to_line(typed(vlan ? 22 : 18, 0xF1C1, tagged(60, vlan, 7)), 60, 0, kind).length == n);
+            copy(line, out, n);
+            CHECK(from_line(line, n, kind).refusal == NIPPITSUN_REFUSED_TAGGED);
+        }
+        /* F1C1 that is not at the type field is no tag. */
+        CHECK(from_line(line_of(kind, 0xA, 7, 60, typed(16, 0xF1C1, untagged(60))), 60 + width_of(kind), kind).length == 66);
+    }
+}
+
+/* Turns of all kinds, each held to the tag writer and reader by from_line() and to_line(). A PRP frame that is turned gives
+ * itself when it is turned back. */
+static void turns_in_turn(void) {
+    static const size_t lengths[] = {0, 13, 14, 17, 18, 20, 60, 300, 1994, 1995};
+    static uint8_t line[NIPPITSUN_FRAME_MOST + 100];
+    unsigned there = 0, back = 0, turn_refused = 0;
+    make_table(0);
+    for (size_t i = 0; i < 6000; i++) {
+        uint8_t kind = (uint8_t)(below(2) * (1 + below(255)));
+        size_t n = lengths[below(10)], width = width_of(kind);
+        unsigned vlan = below(2);
+        untagged(n);
+        if (vlan) typed(12, 0x8100, frame_bytes);
+        if (below(8) == 0) typed(vlan ? 16 : 12, below(2) ? 0xF1C1 : 0x8100, frame_bytes);
+        unsigned lan = below(8) ? 0xA + below(2) : below(16);
+        if (n >= 14 && n >= header_of(frame_bytes)) line_of(kind, lan, (uint16_t)below(65536), n, frame_bytes);
+        if (below(8) == 0) frame_bytes[n + below(6)] ^= (uint8_t)(1u << below(8));
+        make_outs(n + below(12), 9);
+        copy(line, frame_bytes, n + width);
+        nippitsun_prp_answer a = from_line(line, n + width, kind);
+        if (a.refusal) turn_refused++;
+        else {
+            there++;
+            copy(frame_bytes, out, a.length);
+            make_out(n + width);
+            nippitsun_prp_answer b = to_line(frame_bytes, a.length, a.network, kind);
+            CHECK(b.refusal == 0 && b.number == a.number && b.network == a.network && equal(out, line, n + width));
+        }
+        tagged(n, (uint16_t)vlan, (uint16_t)below(65536));
+        if (below(8) == 0) typed(vlan ? 22 : 18, below(2) ? 0xF1C1 : 0x8100, frame_bytes);
+        if (below(16) == 0) frame_bytes[vlan ? 16 : 12] ^= 1;
+        make_out(n + below(8));
+        a = to_line(frame_bytes, n, (uint8_t)(below(16) ? below(2) : below(256)), kind);
+        if (a.refusal) turn_refused++;
+        else back++;
+    }
+    CHECK(there > 500 && back > 500 && turn_refused > 500);
+}
+
+/* What comes on two PRP lines is turned and received: each command is handed up once, from the line where it comes first. */
+static void lines_received(void) {
+    enum { n = 60 };
+    uint8_t with_tag[n + NIPPITSUN_TAG_LENGTH];
+    for (unsigned k = 0; k < 2; k++) {
+        make_table(1);
+        make_outs(100, 9);
+        CHECK(opened(untagged(n), 0, NIPPITSUN_RULE_VECTOR, 4, 3).refusal == 0);
+        for (unsigned i = 0; i < 2000; i++) {
+            uint16_t number = (uint16_t)(65000 + i / 2);
+            unsigned network = (i ^ i >> 1) & 1; /* A and B, B and A, in turns */
+            line_of(kinds[k], 0xA + network, number, n, untagged(n));
+            nippitsun_prp_answer a = from_line(frame_bytes, n + width_of(kinds[k]), kinds[k]);
+            CHECK(a.refusal == 0 && a.network == network && a.number == number && a.length == sizeof with_tag);
+            copy(with_tag, out, a.length);
+            nippitsun_arrival_answer u = arrive(a.network, with_tag, a.length);
+            CHECK(u.number == number && u.verdict == (i % 2 ? NIPPITSUN_VERDICT_DUPLICATE : NIPPITSUN_VERDICT_HANDED_UP));
+            if (i % 2 == 0) CHECK(u.length == n && equal(out, frame_bytes, n));
+        }
+        nippitsun_counts counts = table[0].counts;
+        CHECK(counts.arrivals0 == 1000 && counts.arrivals1 == 1000 && counts.passed == 1000 && counts.discarded == 1000);
+        CHECK(counts.rogue == 0 && counts.disorder == 0 && counts.lost == 0);
+    }
+}
+
 /* 1 comes before anything else: a table of more than 64 slots is refused and not read, and an open's settings and a batch's
  * network, count and lengths are refused before the table is read, the first two before the frames are. And where one of a send's
- * outputs is too small the other is not touched. No contract can say that, so here the table lies where a read or a store ends
- * this program, and so do these frames and this output. */
+ * outputs is too small the other is not touched, nor is the output of a turn that is refused. No contract can say that, so here the
+ * table lies where a read or a store ends this program, and so do these frames and this output. */
 static void unread(void) {
     enum { no_access = 0, own_and_blank = 0x22 }; /* PROT_NONE; MAP_PRIVATE and MAP_ANONYMOUS, on Linux */
     static const size_t lengths[] = {65, 65 * sizeof(nippitsun_stream), 4160000, SIZE_MAX / sizeof(nippitsun_stream)};
@@ -1295,6 +1680,17 @@ static void unread(void) {
     make_out(65);
     CHECK(nippitsun_send(sender, untagged(60), 60, output, 65536, out, room).refusal == NIPPITSUN_REFUSED_ROOM);
     CHECK(nippitsun_send(sender, untagged(60), 60, out, room, output, 65536).refusal == NIPPITSUN_REFUSED_ROOM);
+    for (unsigned i = 0; i < 2; i++) {
+        uint8_t kind = kinds[i];
+        size_t n = 60 + width_of(kind);
+        line_of(kind, 0xC, 7, 60, untagged(60));
+        CHECK(nippitsun_from_prp(frame_bytes, n, kind, output, 65536).refusal == NIPPITSUN_REFUSED_TRAILER);
+        line_of(kind, 0xB, 7, 60, untagged(60));
+        CHECK(nippitsun_from_prp(frame_bytes, n, kind, output, 65).refusal == NIPPITSUN_REFUSED_ROOM);
+        typed(18, 0x8100, tagged(23, 0, 1));
+        CHECK(nippitsun_to_prp(frame_bytes, 23, 0, kind, output, 65536).refusal == NIPPITSUN_REFUSED_SHORT);
+        CHECK(nippitsun_to_prp(tagged(66, 0, 1), 66, 0, kind, output, n - 1).refusal == NIPPITSUN_REFUSED_ROOM);
+    }
 }
 
 /* NULL with length 0, for each area of each call. */
@@ -1315,6 +1711,13 @@ static void nothing(void) {
     CHECK(written(untagged(60), 60, 1).refusal == NIPPITSUN_REFUSED_ROOM);
     CHECK(sent(NULL, 0).refusal == NIPPITSUN_REFUSED_SHORT);
     CHECK(sent(untagged(60), 60).refusal == NIPPITSUN_REFUSED_ROOM);
+    for (unsigned i = 0; i < 2; i++) {
+        size_t n = 60 + width_of(kinds[i]);
+        CHECK(from_line(NULL, 0, kinds[i]).refusal == NIPPITSUN_REFUSED_SHORT);
+        CHECK(from_line(line_of(kinds[i], 0xA, 7, 60, untagged(60)), n, kinds[i]).refusal == NIPPITSUN_REFUSED_ROOM);
+        CHECK(to_line(NULL, 0, 0, kinds[i]).refusal == NIPPITSUN_REFUSED_SHORT);
+        CHECK(to_line(tagged(60, 0, 1), 60, 0, kinds[i]).refusal == NIPPITSUN_REFUSED_ROOM);
+    }
     make_twin(66);
     CHECK(sent(untagged(60), 60).refusal == NIPPITSUN_REFUSED_ROOM);
     make_outs(66, 0);
@@ -1348,14 +1751,23 @@ int main(void) {
     refused_sends();
     sends_in_turn();
     sent_and_received();
+    turns();
+    refused_turns();
+    turned_lengths();
+    trailers();
+    turned_bytes();
+    former_types();
+    turns_in_turn();
+    lines_received();
     unread();
     nothing();
     make_table(0);
     make_outs(0, 0);
     free(sender);
-    for (int n = 1; n <= NIPPITSUN_REFUSED_BATCH; n++) CHECK(refused[n] > 0);
+    for (int n = 1; n <= NIPPITSUN_REFUSED_TRAILER; n++) CHECK(refused[n] > 0);
     for (int v = 1; v <= 3; v++) CHECK(verdicts[v] > 0);
-    printf("%u checks of the C calls, %u failed: every verdict, refusals 1 to %d, every field of a record, every number sent\n",
-           checks, failures, NIPPITSUN_REFUSED_BATCH);
+    printf("%u checks of the C calls, %u failed: every verdict, refusals 1 to %d, every field of a record, every number sent, "
+           "every trailer of PRP\n",
+           checks, failures, NIPPITSUN_REFUSED_TRAILER);
     return failures != 0;
 }

@@ -1,7 +1,7 @@
 //! The calls of the archive as they are: a table is a slice that the caller lends, and an answer has plain numbers.
 //!
-//! [`Receiver`](crate::Receiver), [`Sender`] and [`tag`](crate::tag) say the same with Rust's own types, and are what a program
-//! needs.
+//! [`Receiver`](crate::Receiver), [`Sender`], [`tag`](crate::tag) and [`prp`](crate::prp) say the same with Rust's own types, and
+//! are what a program needs.
 //!
 //! This is the only module with unsafe code. The proof of a call takes for granted that its areas are there in their whole
 //! length, lie apart, and belong to the call while it runs. `&` and `&mut` on slices give just that, so the functions are

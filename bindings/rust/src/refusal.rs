@@ -4,8 +4,8 @@ use std::fmt;
 
 macro_rules! refusals {
     ($($(#[doc = $what:literal])+ $name:ident = $number:literal, $says:literal;)+) => {
-        /// Why a call was refused (document 01, "Calls and the order of checks"; 14 is of order 1, 15 of order 3, 16 of order 7). A refused
-        /// call changes nothing.
+        /// Why a call was refused (document 01, "Calls and the order of checks"; 14 is of order 1, 15 of order 3, 16 of order
+        /// 7). A refused call changes nothing.
         #[derive(Clone, Copy, Debug, PartialEq, Eq, Hash, PartialOrd, Ord)]
         #[repr(u8)]
         pub enum Refusal {

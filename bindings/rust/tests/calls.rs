@@ -2,11 +2,14 @@
 
 #[path = "calls/batch.rs"]
 mod batch;
+#[path = "calls/lines.rs"]
+mod lines;
 #[path = "calls/sender.rs"]
 mod sender;
 #[path = "calls/words.rs"]
 mod words;
 
+use nippitsun::prp::{self, Kind};
 use nippitsun::{
     dest_of, tag, Arrival, Counts, Receiver, Refusal, Settings, State, Stream, Ticked, Verdict,
 };
@@ -99,6 +102,26 @@ fn tagged(length: usize, number: u16) -> Vec<u8> {
     let n = head.len().min(length);
     f[..n].copy_from_slice(&head[..n]);
     f
+}
+
+/// A frame of so many bytes that has no tag.
+fn untagged(length: usize) -> Vec<u8> {
+    let mut f = tagged(length.max(12) + tag::LENGTH, 0);
+    f.drain(12..18);
+    f.truncate(length);
+    f
+}
+
+/// The frame with these two bytes at a place where it has some.
+fn typed(place: usize, kind: u16, mut frame: Vec<u8>) -> Vec<u8> {
+    for (byte, new) in frame.iter_mut().skip(place).zip(kind.to_be_bytes()) {
+        *byte = new;
+    }
+    frame
+}
+
+fn in_vlan(length: usize) -> Vec<u8> {
+    typed(12, 0x8100, untagged(length))
 }
 
 /// The frame with this first byte of its source.
@@ -327,6 +350,7 @@ fn every_refusal() {
     seen.push(tag::put(&from(1, tagged(60, 1)), 2, &mut out).err());
     seen.push(tag::put(&group, 2, &mut []).err());
     seen.push(r.batch(1, 33, &[], &mut []).err());
+    seen.push(prp::from(&group, Kind::Of2012, &mut []).err());
     assert_eq!(
         seen,
         Refusal::ALL.iter().map(|&n| Some(n)).collect::<Vec<_>>()
@@ -413,6 +437,10 @@ fn nothing_is_lent() {
     );
     assert_eq!(tag::take(&[], &mut []), Err(Refusal::Short));
     assert_eq!(tag::put(&[], 1, &mut []), Err(Refusal::Short));
+    for kind in [Kind::First, Kind::Of2012] {
+        assert_eq!(prp::from(&[], kind, &mut []), Err(Refusal::Short));
+        assert_eq!(prp::to(&[], 0, kind, &mut []), Err(Refusal::Short));
+    }
 }
 
 #[test]
@@ -421,8 +449,8 @@ fn refusals_have_their_numbers_and_say_why() {
         assert_eq!(usize::from(refusal.number()), at + 1);
         assert_eq!(Refusal::of_number(refusal.number()), Some(refusal));
     }
-    assert_eq!(Refusal::ALL.len(), 15);
-    for no_refusal in [0, 16, 17, 255] {
+    assert_eq!(Refusal::ALL.len(), 16);
+    for no_refusal in [0, 17, 18, 255] {
         assert_eq!(Refusal::of_number(no_refusal), None);
     }
     let why: Box<dyn std::error::Error> = Box::new(Refusal::Room);

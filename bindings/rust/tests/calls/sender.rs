@@ -1,32 +1,12 @@
 //! A send is the tag writer with the next number and two outputs: order 6's own words as a reference, and each case that is
 //! easily missed.
 
-use super::{from, settings, tagged, Dice, DESTINATION};
+use super::{from, in_vlan, settings, tagged, typed, untagged, Dice, DESTINATION};
 use nippitsun::archive::{self, TagAnswer};
 use nippitsun::{tag, Receiver, Refusal, Sender, Sent, Stream, Verdict};
 
 fn at(next: u16) -> Sender {
     Sender { next }
-}
-
-/// A frame of so many bytes that has no tag.
-fn untagged(length: usize) -> Vec<u8> {
-    let mut f = tagged(length.max(12) + tag::LENGTH, 0);
-    f.drain(12..18);
-    f.truncate(length);
-    f
-}
-
-/// The frame with these two bytes at a place where it has some.
-fn typed(place: usize, kind: u16, mut frame: Vec<u8>) -> Vec<u8> {
-    for (byte, new) in frame.iter_mut().skip(place).zip(kind.to_be_bytes()) {
-        *byte = new;
-    }
-    frame
-}
-
-fn in_vlan(length: usize) -> Vec<u8> {
-    typed(12, 0x8100, untagged(length))
 }
 
 /// A send into outputs of these lengths, held to the tag writer: it has the next number and as much room as the smaller output,
