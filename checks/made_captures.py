@@ -1,10 +1,21 @@
-"""Frames with a redundancy tag, and captures of them in every form that is read: for tests."""
+"""Frames with a redundancy tag or a PRP trailer, and captures of them in every form that is read: for tests."""
 import struct
+
+# What a PRP trailer ends in, by its kind.
+PRP_ENDS = {"first": b"", "2012": b"\x88\xfb"}
 
 
 def frame(number, vlan=None, dest="020000000001", payload=b"", source="020000000002"):
     tag = b"" if vlan is None else struct.pack(">HH", 0x8100, vlan)
     return bytes.fromhex(dest + source) + tag + struct.pack(">HHHH", 0xF1C1, 0, number, 0x0800) + payload
+
+
+def prp(tagged, lan, kind, off=0):
+    """The frame of a PRP line with a tagged frame's number, for a LAN. Its size may be off."""
+    at = 16 if tagged[12:14] == b"\x81\x00" else 12
+    bare, number, end = tagged[:at] + tagged[at + 6 :], tagged[at + 4 : at + 6], PRP_ENDS[kind]
+    size = len(bare) - at - 2 + 4 + len(end) + off
+    return bare + number + struct.pack(">H", lan << 12 | size) + end
 
 
 def pcap(packets, order="<", nano=False, link=1, magic=None):

@@ -1,10 +1,11 @@
 // tagged-pcap: frames on standard input, each with the number for its tag; a capture of the tagged frames on standard output.
 // A record of the input is the number and the frame's length, two bytes each, high byte first, and the frame. Or a sender numbers
-// the frames, and both copies are in the capture.
-// checks/tshark lets tshark read the tags that the proved writer and the proved sender have written here.
+// the frames, and both copies are in the capture. For a PRP line the tag becomes a trailer, and the copies of both LANs are in it.
+// checks/tshark lets tshark read the tags and trailers that the proved calls have written here.
 #include "host.h"
 #include "nippitsun.h"
 
+#include <getopt.h>
 #include <stdio.h>
 #include <string.h>
 
@@ -32,16 +33,44 @@ static void put_frame(const uint8_t *frame, size_t length)
 }
 
 static const char usage[] =
-    "usage: tagged-pcap [--sender N] <RECORDS >CAPTURE\n"
+    "usage: tagged-pcap [OPTION].. <RECORDS >CAPTURE\n"
     "  a record is the number for the tag and the frame's length, two bytes each, high byte first, and the frame\n"
     "  --sender N  a sender numbers the frames from N on: a record has no number, and both copies are written\n"
+    "  --prp KIND  of a PRP line: a trailer of this kind, first or 2012, in place of the tag, and both copies are written, LAN A first\n"
     "  --help      print this text\n";
+
+static uint8_t read_kind(const char *text)
+{
+    if (strcmp(text, "first") == 0) return NIPPITSUN_PRP_FIRST;
+    if (strcmp(text, "2012") == 0) return NIPPITSUN_PRP_2012;
+    refuse("'%s' is no kind of trailer: first or 2012", text);
+}
 
 int main(int count, char **words)
 {
-    int by_sender = count == 3 && strcmp(words[1], "--sender") == 0;
-    if (count > 1 && !by_sender) say_usage(usage, count == 2 && strcmp(words[1], "--help") == 0);
-    nippitsun_sender sender = {by_sender ? (uint16_t)read_number("number", words[2], 0, UINT16_MAX) : 0};
+    static const struct option options[] = {
+        {"sender", required_argument, NULL, 's'},
+        {"prp", required_argument, NULL, 'p'},
+        {"help", no_argument, NULL, 'h'},
+        {NULL, 0, NULL, 0},
+    };
+    nippitsun_sender sender = {0};
+    int by_sender = 0, by_prp = 0;
+    uint8_t kind = 0;
+    for (int o; (o = getopt_long(count, words, "", options, NULL)) != -1;) {
+        switch (o) {
+        case 's':
+            by_sender = 1;
+            sender.next = (uint16_t)read_number("number", optarg, 0, UINT16_MAX);
+            break;
+        case 'p':
+            by_prp = 1;
+            kind = read_kind(optarg);
+            break;
+        default: say_usage(usage, o == 'h');
+        }
+    }
+    if (optind != count) say_usage(usage, 0);
 
     // pcap with microseconds, version 2.4, no limit on the length that matters here, Ethernet.
     put(0xA1B2C3D4);
@@ -53,14 +82,24 @@ int main(int count, char **words)
 
     // The number, if there is one, and the length.
     uint8_t head[4], *length_at = by_sender ? head : head + 2;
-    uint8_t frame[NIPPITSUN_UNTAGGED_MOST], tagged[NETWORKS][NIPPITSUN_FRAME_MOST];
+    uint8_t frame[NIPPITSUN_UNTAGGED_MOST], tagged[NETWORKS][NIPPITSUN_FRAME_MOST], turned[NIPPITSUN_FRAME_MOST];
     for (unsigned record = 1; fread(head, by_sender ? 2 : 4, 1, stdin) == 1; record++) {
         unsigned length = two_bytes(length_at);
         if (length > sizeof frame || fread(frame, 1, length, stdin) != length) refuse("record %u is cut or too long", record);
         nippitsun_tag_answer a = by_sender ? nippitsun_send(&sender, frame, length, tagged[0], sizeof tagged[0], tagged[1], sizeof tagged[1])
                                            : nippitsun_write_tag(frame, length, (uint16_t)two_bytes(head), tagged[0], sizeof tagged[0]);
         if (a.refusal != 0) refuse("record %u: %u, %s", record, a.refusal, refusal_words(a.refusal));
-        for (int copy = 0; copy < (by_sender ? NETWORKS : 1); copy++) put_frame(tagged[copy], a.length);
+        for (int copy = 0; copy < (by_sender || by_prp ? NETWORKS : 1); copy++) {
+            const uint8_t *its = tagged[by_sender ? copy : 0];
+            size_t bytes = a.length;
+            if (by_prp) {
+                nippitsun_prp_answer t = nippitsun_to_prp(its, bytes, (uint8_t)copy, kind, turned, sizeof turned);
+                if (t.refusal != 0) refuse("record %u, to PRP: %u, %s", record, t.refusal, refusal_words(t.refusal));
+                its = turned;
+                bytes = t.length;
+            }
+            put_frame(its, bytes);
+        }
     }
     if (fflush(stdout) != 0) fail("standard output");
     return 0;
