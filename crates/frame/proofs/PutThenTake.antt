@@ -12,8 +12,9 @@ use borrow.Author.Tests.{le-ltb, eq-eqb, ne-eqb}
 use Rattle.refusal.specs.Checks.{Said}
 use Rattle.refusal.specs.Checks.Said.{refused, answers}
 use Rattle.refusal.specs.Numbers.{ROOM}
+use Rattle.record.specs.Sizes.{untaggedMost}
 use Rattle.frame.specs.Bytes.{word, overlay}
-use Rattle.frame.specs.Frame.{typeAt, groupSource, hasVlan, isTagged, headerOf, destOf, vlanOf, tagBytes, cutAt, tagAt, untagged, tagged, writeOf}
+use Rattle.frame.specs.Frame.{typeAt, groupSource, hasVlan, isTagged, headerOf, destOf, vlanOf, readOf, tagBytes, cutAt, tagAt, untagged, tagged, writeOf}
 use Rattle.frame.specs.TagCalls.{Outcome, writeInto, writeTag, takeFrom, takeTag}
 use Rattle.frame.specs.RoundTrips.{PutThenTake, NoGroupWritten, WriteThenTake}
 use Rattle.frame.proofs.Bytes.{overlay-front}
@@ -87,18 +88,20 @@ module _ (f : List ℕ) (n : ℕ) (room : typeAt f + 2 ≤ length f) where
   pub untag-tag : untagged (tagged f n) ≡ f
   untag-tag = ap (cutAt (tagged f n)) (same-place .0) ∙ cut-tag f (typeAt f) n (omega arith)
 
--- what the writer makes, the reader reads: the frame's key and the number, and without its tag it is the frame
+  -- and it is read: the frame's key and the number
+  pub read-tagged : length f ≤ untaggedMost → n < 65536
+      → readOf (tagged f n) ≡ answers (record { header = record { dest = destOf f; vlan = vlanOf f; at = typeAt f; tagged = true }; number = n })
+  unfolding headerOf
+  read-tagged few small =
+      let long = tag-length f (typeAt f) n (omega arith) in
+      let p = same-place .0 in
+      read-is (tagged f n) (omega arith) (omega arith) is-tagged ∙ rw (same-dest, same-vlan, is-tagged, p, the-number small)
+
+-- what the writer makes, the reader reads, and without its tag it is the frame
 pub put-then-take : PutThenTake
-unfolding headerOf
 put-then-take f n g small e =
     let m = wrote-is f n e in
-    let long = tag-length f (typeAt f) n (omega (arith, m .room)) in
-    let p = same-place f n (m .room) .0 in
-    rw (m .same) (
-      read-is (tagged f n) (omega arith) (omega arith) (is-tagged f n (m .room))
-          ∙ rw (same-dest f n (m .room), same-vlan f n (m .room), is-tagged f n (m .room), p, the-number f n (m .room) small),
-      untag-tag f n (m .room),
-    )
+    rw (m .same) (read-tagged f n (m .room) (m .few) small, untag-tag f n (m .room))
 
 pub no-group-written : NoGroupWritten
 unfolding tagAt

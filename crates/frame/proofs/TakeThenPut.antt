@@ -12,7 +12,7 @@ use Rattle.refusal.specs.Checks.Said.{refused, answers}
 use Rattle.refusal.specs.Numbers.{SHORT, TAGGED, GROUP}
 use Rattle.record.specs.Sizes.{untaggedMost}
 use Rattle.frame.specs.Bytes.{word, Bytes}
-use Rattle.frame.specs.Frame.{Tag, typeAt, groupSource, hasVlan, vlanOf, isTagged, headShort, tagShort, headerOf, readOf, tagBytes, cutAt, tagAt, untagged, reservedOf, formerOf, placeOf, putAt, writeOf}
+use Rattle.frame.specs.Frame.{Tag, typeAt, groupSource, hasVlan, vlanOf, isTagged, headShort, tagShort, headerOf, readOf, tagBytes, cutAt, tagAt, untagged, tagged, reservedOf, formerOf, placeOf, putAt, writeOf}
 use Rattle.frame.specs.RoundTrips.{TakeThenPut, FormerTag, FormerVlan, FormerVlanNeeds, FormerVlanTag, FormerVlanShort}
 use Rattle.frame.proofs.Heads.{type-least, type-vlan, type-plain, head-cut, TagIs, tag-of}
 use Rattle.frame.proofs.Writes.{place-short, place-tagged, place-whole, no-place, at-place, wrote-is}
@@ -69,7 +69,7 @@ module _ (f : List ℕ) (t : Tag) (read : readOf f ≡ answers t) where
   source = same-source (typeAt f) f _ (type-least f .0) (omega (arith, room))
 
   -- the type field stays where it was, unless 8100 comes to stand at 12
-  kept : (hasVlan f ≡ false → formerOf f ≡ 0x8100 → ⊥) → typeAt (untagged f) ≡ typeAt f
+  pub kept : (hasVlan f ≡ false → formerOf f ≡ 0x8100 → ⊥) → typeAt (untagged f) ≡ typeAt f
   kept h = go (place f)
     where
       go : Place f → typeAt (untagged f) ≡ typeAt f
@@ -85,7 +85,7 @@ module _ (f : List ℕ) (t : Tag) (read : readOf f ≡ answers t) where
       go (vlan p q w) = absurd (let z : true ≡ false = sym w ∙ v in let y : _≡_ {A = ℕ} 0 1 = cc in omega arith)
 
   -- whether it then carries a tag
-  tag-then : typeAt (untagged f) ≡ typeAt f → isTagged (untagged f) ≡ eqb (formerOf f) 0xF1C1
+  pub tag-then : typeAt (untagged f) ≡ typeAt f → isTagged (untagged f) ≡ eqb (formerOf f) 0xF1C1
   unfolding isTagged
   tag-then e = rw e (ap (λ (k : ℕ). eqb k 0xF1C1) former-at)
 
@@ -134,32 +134,41 @@ module _ (f : List ℕ) (t : Tag) (read : readOf f ≡ answers t) where
       let e5 : getD l 5 0 ≡ n % 256 = omega (arith, small 4, small 5) in
       six l (simp length-drop (omega (arith, room))) ∙ rw (e0, e1, e2, e3, e4, e5)
 
-  -- with no group source, zero reserved bytes, and a former type that is neither F1C1 nor, with no VLAN tag, 8100, it is the
-  -- same frame
+  -- the same number put in again gives the same frame with zero reserved bytes and, with no VLAN tag, a former type other than
+  -- 8100,
+  pub again : Bytes f → reservedOf f ≡ 0 → (hasVlan f ≡ false → formerOf f ≡ 0x8100 → ⊥) → tagged (untagged f) (t .number) ≡ f
+  again b z x = ap (λ (o : ℕ). tagAt (untagged f) o (t .number)) (kept x) ∙ tag-cut f (typeAt f) room (t .number) (tag-bytes b z)
+
+  -- and only then
+  pub again-only : typeAt (untagged f) + 2 ≤ length (untagged f) → tagged (untagged f) (t .number) ≡ f
+      → (reservedOf f ≡ 0) × (hasVlan f ≡ false → formerOf f ≡ 0x8100 → ⊥)
+  unfolding isTagged
+  again-only whole e =
+      let u : List ℕ = untagged f in
+      let n : ℕ = t .number in
+      let h : hasVlan f ≡ false → formerOf f ≡ 0x8100 → ⊥ = λ v x.
+      (let p = moved v x in
+      let a : word f 12 ≡ word u 12 = ap (λ (l : List ℕ). word l 12) (sym e) ∙ front u n whole 12 (omega arith) in
+      let d : word u 12 ≡ 0x8100 = ap (word u) (sym (p .0)) ∙ former-at ∙ x in
+      let g : word f 12 ≡ 0xF1C1 = ap (word f) (sym (p .0)) ∙ eqb-true _ _ (is .tagged) in
+      omega arith) in
+      let k = kept h in
+      (ap (λ (l : List ℕ). word l (typeAt f + 2)) (sym e) ∙ inside u n whole (typeAt f + 2) 2 (omega arith), h)
+
+  -- so with no group source and a former type that is not F1C1 the writer gives it
   put-same : Bytes f → groupSource f ≡ false → reservedOf f ≡ 0 → (formerOf f ≡ 0xF1C1 → ⊥) → (hasVlan f ≡ false → formerOf f ≡ 0x8100 → ⊥) → writeOf (untagged f) (t .number) ≡ answers f
   put-same b g z u x =
       let k = kept x in
-      at-place (untagged f) _ (place-whole (untagged f) few (rw k long) (tag-then k ∙ ne-eqb _ _ u) (source ∙ g))
-      ∙ ap (λ (o : ℕ). answers (tagAt (untagged f) o (t .number))) k
-      ∙ ap answers (tag-cut f (typeAt f) room (t .number) (tag-bytes b z))
+      at-place (untagged f) _ (place-whole (untagged f) few (rw k long) (tag-then k ∙ ne-eqb _ _ u) (source ∙ g)) ∙ ap answers (again b z x)
 
-  -- and only then
   put-same-only : writeOf (untagged f) (t .number) ≡ answers f
       → (groupSource f ≡ false) × (reservedOf f ≡ 0) × (formerOf f ≡ 0xF1C1 → ⊥) × (hasVlan f ≡ false → formerOf f ≡ 0x8100 → ⊥)
   unfolding isTagged
   put-same-only e =
       let u : List ℕ = untagged f in
-      let n : ℕ = t .number in
-      let m = wrote-is u n e in
-      let h : hasVlan f ≡ false → formerOf f ≡ 0x8100 → ⊥ = λ v x.
-      (let p = moved v x in
-      let a : word f 12 ≡ word u 12 = ap (λ (l : List ℕ). word l 12) (m .same) ∙ front u n (m .room) 12 (omega arith) in
-      let d : word u 12 ≡ 0x8100 = ap (word u) (sym (p .0)) ∙ former-at ∙ x in
-      let g : word f 12 ≡ 0xF1C1 = ap (word f) (sym (p .0)) ∙ eqb-true _ _ (is .tagged) in
-      omega arith) in
-      let k = kept h in
-      let r : reservedOf f ≡ 0 = ap (λ (l : List ℕ). word l (typeAt f + 2)) (m .same) ∙ inside u n (m .room) (typeAt f + 2) 2 (omega arith) in
-      (sym source ∙ m .remains, r, (λ x. eqb-false _ _ (m .plain) (ap (word u) k ∙ former-at ∙ x)), h)
+      let m = wrote-is u (t .number) e in
+      let w = again-only (m .room) (sym (m .same)) in
+      (sym source ∙ m .remains, w .0, (λ x. eqb-false _ _ (m .plain) (ap (word u) (kept (w .1)) ∙ former-at ∙ x)), w .1)
 
 -- the statements
 pub take-then-put : TakeThenPut
