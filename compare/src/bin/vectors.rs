@@ -420,13 +420,13 @@ impl<S: Side> List<S> {
         self.call_with(&what, Call::Send { frame }, rooms);
     }
 
-    fn from_prp(&mut self, what: &str, kind: u8, frame: &[u8], room: usize) {
+    fn turn_from_prp(&mut self, what: &str, kind: u8, frame: &[u8], room: usize) {
         let line = ["first edition", "2012"][usize::from(kind != 0)];
         let what = format!("from PRP, {}, {}, output of {}", line, what, room);
         self.call(&what, Call::FromPrp { frame, kind }, room);
     }
 
-    fn to_prp(&mut self, what: &str, network: u8, kind: u8, frame: &[u8], room: usize) {
+    fn turn_to_prp(&mut self, what: &str, network: u8, kind: u8, frame: &[u8], room: usize) {
         let line = ["first edition", "2012"][usize::from(kind != 0)];
         let what = format!("to PRP, {}, {}, output of {}", line, what, room);
         let call = Call::ToPrp {
@@ -1183,11 +1183,11 @@ impl<S: Side> List<S> {
                     let bare = frame(20, tags);
                     let prp = with_trailer(&bare, 258, 0xA + network, kind);
                     let what = format!("LAN {:X}, {}", 0xA + network, name);
-                    self.from_prp(&what, kind, &prp, 40);
+                    self.turn_from_prp(&what, kind, &prp, 40);
                     let redundancy = Some((0, 258));
                     let tagged = frame(26, Tags { redundancy, ..tags });
                     let what = format!("network {}, {}", network, name);
-                    self.to_prp(&what, network, kind, &tagged, 40);
+                    self.turn_to_prp(&what, network, kind, &tagged, 40);
                 }
             }
         }
@@ -1212,10 +1212,10 @@ impl<S: Side> List<S> {
                         _ => frame(length, tags),
                     };
                     let what = format!("{} bytes, {}", length, name);
-                    self.from_prp(&what, kind, &prp, 3000);
+                    self.turn_from_prp(&what, kind, &prp, 3000);
                     let redundancy = Some((0, 7));
                     let tagged = frame(length, Tags { redundancy, ..tags });
-                    self.to_prp(&what, 0, kind, &tagged, 3000);
+                    self.turn_to_prp(&what, 0, kind, &tagged, 3000);
                 }
             }
         }
@@ -1261,7 +1261,7 @@ impl<S: Side> List<S> {
             ("the number F1C1", 1, &[0xF1, 0xC1, 0xA0, 9, 0x88, 0xFB]),
         ] {
             let prp = [&head[..], trailer].concat();
-            self.from_prp(what, kind, &prp, 40);
+            self.turn_from_prp(what, kind, &prp, 40);
         }
         let counted = [8, 0, 1, 2, 3, 0x70, 0x71, 0xA0];
         for size in [3, 7, 11] {
@@ -1269,7 +1269,7 @@ impl<S: Side> List<S> {
             bytes.extend_from_slice(&counted);
             bytes.push(size);
             let what = format!("8100, size {}", size);
-            self.from_prp(&what, 0, &behind_addresses(&bytes), 40);
+            self.turn_from_prp(&what, 0, &behind_addresses(&bytes), 40);
         }
 
         self.section("PRP: every setting is one of the two kinds");
@@ -1277,8 +1277,8 @@ impl<S: Side> List<S> {
         for kind in [0, 1, 2, 128, 254, 255] {
             let prp = with_trailer(&bare, 7, 0xB, kind);
             let what = format!("setting {}", kind);
-            self.from_prp(&what, kind, &prp, 40);
-            self.to_prp(&what, 1, kind, &frame(26, tagged(7)), 40);
+            self.turn_from_prp(&what, kind, &prp, 40);
+            self.turn_to_prp(&what, 1, kind, &frame(26, tagged(7)), 40);
         }
     }
 
@@ -1315,7 +1315,7 @@ impl<S: Side> List<S> {
         ] {
             let f = behind_addresses(bytes);
             for kind in [0, 1] {
-                self.to_prp(what, 1, kind, &f, 40);
+                self.turn_to_prp(what, 1, kind, &f, 40);
                 // What the call wrote, and back again.
                 let mut out = [BLANK; 40];
                 let call = Call::ToPrp {
@@ -1325,7 +1325,7 @@ impl<S: Side> List<S> {
                 };
                 if let Answer::Prp(told) = self.side.call(call, [&mut out, &mut []]) {
                     let what = format!("{}, back", what);
-                    self.from_prp(&what, kind, &out[..told.length], 40);
+                    self.turn_from_prp(&what, kind, &out[..told.length], 40);
                 }
             }
         }
@@ -1334,8 +1334,8 @@ impl<S: Side> List<S> {
         for first in [0x00, 0x01, 0x03, 0xFE, 0xFF] {
             let prp = with_trailer(&from_source(first, frame(14, PLAIN)), 7, 0xA, 1);
             let what = format!("source {:02x}..", first);
-            self.from_prp(&what, 1, &prp, 40);
-            self.to_prp(&what, 0, 1, &from_source(first, frame(20, tagged(7))), 40);
+            self.turn_from_prp(&what, 1, &prp, 40);
+            self.turn_to_prp(&what, 0, 1, &from_source(first, frame(20, tagged(7))), 40);
         }
 
         self.section("PRP: outputs of just the size, one byte too small, larger, or of no bytes");
@@ -1346,12 +1346,12 @@ impl<S: Side> List<S> {
                 let what = format!("{} bytes", prp.len());
                 let needed = length + 6;
                 for room in [0, needed - 1, needed, needed + 1, 3000] {
-                    self.from_prp(&what, kind, &prp, room);
+                    self.turn_from_prp(&what, kind, &prp, room);
                 }
                 let what = format!("{} bytes", needed);
                 let needed = prp.len();
                 for room in [0, needed - 1, needed, needed + 1, 3000] {
-                    self.to_prp(&what, 0, kind, &frame(length + 6, tagged(7)), room);
+                    self.turn_to_prp(&what, 0, kind, &frame(length + 6, tagged(7)), room);
                 }
             }
         }
@@ -1384,8 +1384,8 @@ impl<S: Side> List<S> {
             ("16", 0, with(&[8, 0], 18)),
             ("16", 1, with(&[8, 0], 20)),
         ] {
-            self.from_prp(what, kind, &f, 0);
-            self.from_prp(what, kind, &f, 3000);
+            self.turn_from_prp(what, kind, &f, 0);
+            self.turn_from_prp(what, kind, &f, 3000);
         }
         let tagged_head = [0xF1, 0xC1, 0, 0, 0, 7, 8, 0];
         for (what, f) in [
@@ -1401,7 +1401,7 @@ impl<S: Side> List<S> {
             for network in [0, 2, 255] {
                 for room in [0, 3000] {
                     let what = format!("network {}, {}", network, what);
-                    self.to_prp(&what, network, 1, &f, room);
+                    self.turn_to_prp(&what, network, 1, &f, room);
                 }
             }
         }
