@@ -2033,83 +2033,103 @@ fn turned(call: Call) -> Result<Option<(PrpAnswer, Vec<u8>)>, String> {
     })
 }
 
-/// PRP frames turned into tagged ones and back, and tagged frames into PRP frames and back. Every PRP frame that is taken must
-/// come back as it was. So must every tagged frame but for its reserved bytes, where the type field behind its tag is neither
-/// F1C1, which is refused, nor 8100 behind a tag at 12, which puts the tag four bytes later.
+/// Turns a PRP frame into a tagged one and back: it must come back as it was. Was it taken?
+fn from_prp_and_back(frame: &[u8], kind: u8) -> Result<bool, String> {
+    let (there, tagged) = match turned(Call::FromPrp { frame, kind })? {
+        Some(there) => there,
+        None => return Ok(false),
+    };
+    let back = turned(Call::ToPrp {
+        frame: &tagged,
+        network: there.network,
+        kind,
+    })?;
+    let told = PrpAnswer {
+        length: frame.len(),
+        ..there
+    };
+    if back != Some((told, frame.to_vec())) {
+        return Err(format!("NOT BACK, kind {}: {:x?}", kind, frame));
+    }
+    Ok(true)
+}
+
+/// What becomes of a tagged frame that is turned into a PRP frame and back.
+const BACK: [&str; 3] = [
+    "the same but for its reserved bytes",
+    "its tag four bytes later, behind the 8100 that stood behind it",
+    "refused, since F1C1 stood behind the tag",
+];
+
+/// Turns a tagged frame into a PRP frame and back. Which of [`BACK`] came of it, where it was taken?
+fn to_prp_and_back(frame: &[u8], network: u8, kind: u8) -> Result<Option<usize>, String> {
+    let (there, prp) = match turned(Call::ToPrp {
+        frame,
+        network,
+        kind,
+    })? {
+        Some(there) => there,
+        None => return Ok(None),
+    };
+    let (was, is) = (type_place(frame), type_place(&prp));
+    let mut wanted = frame.to_vec();
+    let what = if prp[is..].starts_with(&[0xF1, 0xC1]) {
+        2
+    } else if is != was {
+        wanted.copy_within(18..22, 12);
+        wanted[16..20].copy_from_slice(&[0xF1, 0xC1, 0, 0]);
+        wanted[20..22].copy_from_slice(&there.number.to_be_bytes());
+        1
+    } else {
+        wanted[was + 2..was + 4].copy_from_slice(&[0, 0]);
+        0
+    };
+    let told = PrpAnswer {
+        length: frame.len(),
+        ..there
+    };
+    let back = turned(Call::FromPrp { frame: &prp, kind })?;
+    if back != (what < 2).then_some((told, wanted)) {
+        return Err(format!("NOT BACK, kind {}: {:x?}", kind, frame));
+    }
+    Ok(Some(what))
+}
+
+/// Random frames from PRP and back, and to PRP and back, on both sides.
 fn there_and_back(seed: u64) -> Result<(), String> {
     let mut random = Random::new(seed);
     let mut pool = vec![0; 8192];
     random.fill(&mut pool);
     let mut f = [0; 2100];
-    // By kind, then VLAN tag; and the tagged ones by what came of them.
-    let mut same = [[0; 2]; 2];
-    let mut tagged = [0; 3];
+    // By kind, then VLAN tag; and by what came of a tagged frame.
+    let (mut from, mut to) = ([[0; 2]; 2], [0; BACK.len()]);
     for _ in 0..THERE_AND_BACK {
         let kind = kind(&mut random);
         let length = prp_frame(&mut random, &pool, &[], &mut f, kind);
-        let frame_given = &f[..length];
-        if let Some((there, given)) = turned(Call::FromPrp {
-            frame: frame_given,
-            kind,
-        })? {
-            let network = there.network;
-            let back = turned(Call::ToPrp {
-                frame: &given,
-                network,
-                kind,
-            })?;
-            let wanted = PrpAnswer { length, ..there };
-            if back != Some((wanted, frame_given.to_vec())) {
-                return Err(format!("NOT BACK, kind {}: {:x?}", kind, frame_given));
-            }
-            let vlan = type_place(frame_given) == 16;
-            same[usize::from(kind != 0)][usize::from(vlan)] += 1;
+        if from_prp_and_back(&f[..length], kind)? {
+            let vlan = type_place(&f) == 16;
+            from[usize::from(kind != 0)][usize::from(vlan)] += 1;
         }
         let length = frame_for_prp(&mut random, &pool, &[], &mut f);
         let network = random.below(2) as u8;
-        if let Some((there, given)) = turned(Call::ToPrp {
-            frame: &f[..length],
-            network,
-            kind,
-        })? {
-            let back = turned(Call::FromPrp {
-                frame: &given,
-                kind,
-            })?;
-            let place = type_place(&f);
-            let (what, wanted) = if given[type_place(&given)..].starts_with(&[0xF1, 0xC1]) {
-                (0, None)
-            } else {
-                let later = type_place(&given) != place;
-                if later {
-                    // The VLAN tag moves in front.
-                    f.copy_within(18..22, 12);
-                    f[16..20].copy_from_slice(&[0xF1, 0xC1, 0, 0]);
-                    f[20..22].copy_from_slice(&there.number.to_be_bytes());
-                } else {
-                    f[place + 2..place + 4].copy_from_slice(&[0, 0]);
-                }
-                let told = PrpAnswer { length, ..there };
-                (1 + usize::from(later), Some((told, f[..length].to_vec())))
-            };
-            if back != wanted {
-                return Err(format!("NOT BACK, kind {}: {:x?}", kind, given));
-            }
-            tagged[what] += 1;
+        if let Some(what) = to_prp_and_back(&f[..length], network, kind)? {
+            to[what] += 1;
         }
     }
-    let mut sorts = same.iter().flatten().chain(&tagged);
-    if let Some(n) = sorts.find(|&&n| n < LEAST) {
-        return Err(format!(
-            "PRP and back: one sort of frame came up only {} times",
-            n
-        ));
+    for (kind, seen) in KINDS.iter().zip(from) {
+        println!(
+            "from PRP, {}, and back: {} frames, {} with a VLAN tag",
+            kind,
+            seen[0] + seen[1],
+            seen[1]
+        );
     }
-    println!(
-        "{} PRP frames turned into tagged ones and back, {} tagged frames into PRP frames and back: as they should be",
-        same.iter().flatten().sum::<u64>(),
-        tagged.iter().sum::<u64>()
-    );
+    for (what, n) in BACK.iter().zip(to) {
+        println!("to PRP and back: {} frames, {}", n, what);
+    }
+    if from.iter().flatten().chain(&to).any(|&n| n < LEAST) {
+        return Err(format!("each of these must come up {} times", LEAST));
+    }
     Ok(())
 }
 
