@@ -111,12 +111,12 @@ static void call(u8 kind) {
     take(frame, n);
     u64 slot = number(8), count = number(8);
     u16 tag = number(2), vlan = number(2), window = number(2), time = number(2);
-    u8 network = number(1), rule = number(1), dest[6];
+    u8 network = number(1), rule = number(1), prp = number(1), dest[6];
     take(dest, 6);
 
     u64 slot_told = 0, length = 0, resets = 0, damaged = 0, frames = 0;
     u16 number_told = 0;
-    u8 verdict = 0, refusal = 0;
+    u8 verdict = 0, network_told = 0, refusal = 0;
     nippitsun_batch_answer batch;
     if (kind == 1 || kind == 2) {
         nippitsun_tag_answer a = kind == 1 ? nippitsun_take_tag(frame, n, out, room) : nippitsun_write_tag(frame, n, tag, out, room);
@@ -142,12 +142,16 @@ static void call(u8 kind) {
         length = a.length, number_told = a.number, refusal = a.refusal;
     } else if (kind == 12) {
         nippitsun_reset_sender(&sender);
+    } else if (kind == 13 || kind == 14) {
+        nippitsun_prp_answer a = kind == 13 ? nippitsun_from_prp(frame, n, prp, out, room)
+                                            : nippitsun_to_prp(frame, n, network, prp, out, room);
+        length = a.length, number_told = a.number, network_told = a.network, refusal = a.refusal;
     } else {
         stop("no such kind of case");
     }
 
     if (slot_told != number(8) || length != number(8) || resets != number(8) || damaged != number(8) || frames != number(8)
-        || number_told != number(2) || verdict != number(1) || refusal != number(1))
+        || number_told != number(2) || verdict != number(1) || network_told != number(1) || refusal != number(1))
         stop("DIFFERENT: an answer");
     for (u64 i = 0; kind == 10 && i < NIPPITSUN_FRAMES_MOST; i++)
         if (!same_answer(batch.answers + i)) stop("DIFFERENT: the answer to a frame of a batch");

@@ -27,6 +27,8 @@ struct Arguments<'a> {
     rule: u8,
     window: u16,
     time: u16,
+    /// The kind of a PRP trailer.
+    prp: u8,
 }
 
 /// The fields of all answers together.
@@ -39,6 +41,7 @@ struct Fields {
     frames: u64,
     number: u16,
     verdict: u8,
+    network: u8,
     refusal: u8,
 }
 
@@ -91,6 +94,21 @@ fn arguments(call: Call) -> Arguments {
             a.frame = frame;
         }
         Call::ResetSender => a.kind = 12,
+        Call::FromPrp { frame, kind } => {
+            a.kind = 13;
+            a.frame = frame;
+            a.prp = kind;
+        }
+        Call::ToPrp {
+            frame,
+            network,
+            kind,
+        } => {
+            a.kind = 14;
+            a.frame = frame;
+            a.network = network;
+            a.prp = kind;
+        }
     }
     a
 }
@@ -131,6 +149,12 @@ fn fields(answer: &Answer) -> Fields {
         }
         Answer::Batch(ref told) => {
             f.frames = told.frames as u64;
+            f.refusal = told.refusal;
+        }
+        Answer::Prp(told) => {
+            f.length = told.length as u64;
+            f.number = told.number;
+            f.network = told.network;
             f.refusal = told.refusal;
         }
     }
@@ -177,14 +201,14 @@ pub fn add(to: &mut Vec<u8>, call: Call, before: Areas, answer: &Answer, after: 
     for x in [a.number, a.vlan, a.window, a.time] {
         to.extend_from_slice(&x.to_le_bytes());
     }
-    to.extend_from_slice(&[a.network, a.rule]);
+    to.extend_from_slice(&[a.network, a.rule, a.prp]);
     to.extend_from_slice(&a.dest);
     let f = fields(answer);
     for x in [f.slot, f.length, f.resets, f.damaged, f.frames] {
         to.extend_from_slice(&x.to_le_bytes());
     }
     to.extend_from_slice(&f.number.to_le_bytes());
-    to.extend_from_slice(&[f.verdict, f.refusal]);
+    to.extend_from_slice(&[f.verdict, f.network, f.refusal]);
     if let Call::Batch { .. } = call {
         add_frames(to, answer);
     }

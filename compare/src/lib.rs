@@ -7,7 +7,7 @@
 
 pub mod cases;
 
-use nippitsun::archive::{self, ArrivalAnswer, BatchAnswer};
+use nippitsun::archive::{self, ArrivalAnswer, BatchAnswer, PrpAnswer};
 use nippitsun::{tag, Counts, Receiver, Sender, State, Stream};
 use second::Verdict;
 
@@ -40,6 +40,16 @@ pub enum Call<'a> {
         frame: &'a [u8],
     },
     ResetSender,
+    /// The kind is the line's setting.
+    FromPrp {
+        frame: &'a [u8],
+        kind: u8,
+    },
+    ToPrp {
+        frame: &'a [u8],
+        network: u8,
+        kind: u8,
+    },
 }
 
 /// What a call answers, in one form for both sides.
@@ -72,6 +82,8 @@ pub enum Answer {
     },
     /// Field by field as the archive has it, marks and all.
     Batch(Box<BatchAnswer>),
+    /// The same.
+    Prp(PrpAnswer),
 }
 
 impl Answer {
@@ -102,6 +114,20 @@ impl Answer {
             Answer::Refused(refusal)
         } else {
             Answer::Batch(Box::new(told))
+        }
+    }
+
+    /// The same of a turn from PRP or to PRP.
+    fn of_prp(told: PrpAnswer) -> Answer {
+        let refusal = told.refusal;
+        let alone = PrpAnswer {
+            refusal,
+            ..PrpAnswer::default()
+        };
+        if refusal != 0 && told == alone {
+            Answer::Refused(refusal)
+        } else {
+            Answer::Prp(told)
         }
     }
 }
@@ -202,6 +228,14 @@ impl Side for Product {
                 self.sender.reset();
                 Ok(Answer::Done)
             }
+            Call::FromPrp { frame, kind } => {
+                Ok(Answer::of_prp(archive::from_prp(frame, kind, out)))
+            }
+            Call::ToPrp {
+                frame,
+                network,
+                kind,
+            } => Ok(Answer::of_prp(archive::to_prp(frame, network, kind, out))),
         };
         answer.unwrap_or_else(|why| Answer::Refused(why.number()))
     }
@@ -235,6 +269,16 @@ fn plain(answer: Option<Result<second::Arrival, second::Refusal>>) -> ArrivalAns
         None => {}
     }
     told
+}
+
+/// The same of a turn from PRP or to PRP.
+fn turned(answer: second::Turned) -> Answer {
+    Answer::Prp(PrpAnswer {
+        length: answer.length,
+        number: answer.number,
+        network: answer.network,
+        refusal: 0,
+    })
 }
 
 impl Side for Second {
@@ -383,6 +427,12 @@ impl Side for Second {
                     self.sender.reset();
                     Ok(Answer::Done)
                 }
+                Call::FromPrp { frame, kind } => second::from_prp(frame, kind, out).map(turned),
+                Call::ToPrp {
+                    frame,
+                    network,
+                    kind,
+                } => second::to_prp(frame, network, kind, out).map(turned),
             };
         answer.unwrap_or_else(|why| Answer::Refused(why.number()))
     }

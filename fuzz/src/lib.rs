@@ -3,7 +3,7 @@
 //! is built with the fuzzer's counters in it, so its branches guide the fuzzer.
 //!
 //! An input is an event file (document 01, "Event file and the program `events`"), read as `events` reads it, so every event
-//! file is a seed. A first byte other than 1 is no end but the number of slots, and nine kinds are added for what `events`
+//! file is a seed. A first byte other than 1 is no end but the number of slots, and eleven kinds are added for what `events`
 //! can't reach:
 //!
 //! | kind | body |
@@ -17,6 +17,8 @@
 //! | 246 send | room 2, room 2, frame |
 //! | 247 reset a sender | nothing more |
 //! | 248 set a sender's next number | number 2 |
+//! | 249 from PRP | room 2, kind 1, frame |
+//! | 250 to PRP | room 2, network 1, kind 1, frame |
 
 use compare::{Call, Product, Second, Settings, Side};
 use nippitsun::{Counts, State, Stream};
@@ -31,6 +33,8 @@ const BATCH: u8 = 245;
 const SEND: u8 = 246;
 const RESET_SENDER: u8 = 247;
 const SET_NEXT: u8 = 248;
+const FROM_PRP: u8 = 249;
+const TO_PRP: u8 = 250;
 
 /// Bytes of a record.
 const RECORD: usize = std::mem::size_of::<Stream>();
@@ -135,6 +139,15 @@ fn call_of(body: &[u8]) -> Option<([usize; 2], Call<'_>)> {
             return Some((rooms, Call::Send { frame }));
         }
         [RESET_SENDER] => (0, Call::ResetSender),
+        [FROM_PRP, r0, r1, kind, ref frame @ ..] => (room(r0, r1), Call::FromPrp { frame, kind }),
+        [TO_PRP, r0, r1, network, kind, ref frame @ ..] => {
+            let call = Call::ToPrp {
+                frame,
+                network,
+                kind,
+            };
+            (room(r0, r1), call)
+        }
         _ => return None,
     };
     Some(([room, 0], call))

@@ -21,11 +21,11 @@ const AFTER_VLAN: usize = 16;
 
 /// What stands before the type field.
 #[derive(Clone, Copy)]
-struct Header {
+pub(crate) struct Header {
     destination: [u8; 6],
     vlan: u16,
     /// Where the type field is. At least two bytes stand there.
-    type_place: usize,
+    pub type_place: usize,
 }
 
 /// A frame that carries a redundancy tag.
@@ -34,7 +34,7 @@ pub(crate) struct Tagged {
     pub destination: [u8; 6],
     pub vlan: u16,
     pub number: u16,
-    tag_place: usize,
+    pub tag_place: usize,
 }
 
 /// What taking a tag out answers.
@@ -47,7 +47,7 @@ pub struct Taken {
 }
 
 /// The 14 and 18 byte rules, and what can be read once they hold.
-fn header(frame: &[u8]) -> Result<Header, Refusal> {
+pub(crate) fn header(frame: &[u8]) -> Result<Header, Refusal> {
     if frame.len() < AFTER_ADDRESSES + 2 {
         return Err(Refusal::FrameShort);
     }
@@ -76,7 +76,7 @@ fn header(frame: &[u8]) -> Result<Header, Refusal> {
 }
 
 /// Does F1C1 stand at the type field?
-fn carries_tag(frame: &[u8], header: Header) -> bool {
+pub(crate) fn carries_tag(frame: &[u8], header: Header) -> bool {
     let place = header.type_place;
     let reserved = frame.get(place + 2..place + 4);
     frame[place..place + 2] == TAG_MARK && rule!(true, ReservedRead: reserved == Some(&[0, 0]))
@@ -124,12 +124,19 @@ pub(crate) fn check_source(frame: &[u8]) -> Result<(), Refusal> {
     }
 }
 
-/// Refusal 8 of an arrival and of taking a tag out.
-pub(crate) fn check_room(frame: &[u8], output: &[u8]) -> Result<(), Refusal> {
-    if output.len() < frame.len() - TAG_LENGTH {
+/// Refusal 8: the output has no room for so many bytes.
+pub(crate) fn check_room(length: usize, output: &[u8]) -> Result<(), Refusal> {
+    if output.len() < length {
         Err(Refusal::OutputTooSmall)
     } else {
         Ok(())
+    }
+}
+
+/// Writes these bytes to the start of the output. The room was checked before.
+pub(crate) fn write_start(output: &mut [u8], bytes: &[u8]) {
+    for (to, byte) in output.iter_mut().zip(bytes) {
+        *to = *byte;
     }
 }
 
@@ -143,6 +150,18 @@ pub(crate) fn write_without_tag(frame: &[u8], tagged: Tagged, output: &mut [u8])
     length
 }
 
+/// Writes the frame with a tag at the place. The room was checked before.
+pub(crate) fn write_with_tag(frame: &[u8], place: usize, number: u16, output: &mut [u8]) -> usize {
+    let length = frame.len() + TAG_LENGTH;
+    output[..place].copy_from_slice(&frame[..place]);
+    output[place..place + 2].copy_from_slice(&TAG_MARK);
+    // Reserved bytes are written zero.
+    output[place + 2..place + 4].copy_from_slice(&[0, 0]);
+    output[place + 4..place + TAG_LENGTH].copy_from_slice(&number.to_be_bytes());
+    output[place + TAG_LENGTH..length].copy_from_slice(&frame[place..]);
+    length
+}
+
 /// Puts a tag with this number into the frame and writes the result to the
 /// start of the output. Answers the length written. Refusals 3, 4, 13, 14, 8
 /// in this order.
@@ -151,12 +170,7 @@ pub fn write_tag(frame: &[u8], number: u16, output: &mut [u8]) -> Result<usize, 
         return Err(Refusal::FrameTooLong);
     }
     let header = header(frame)?;
-    let length = frame.len() + TAG_LENGTH;
-    let room = if output.len() < length {
-        Err(Refusal::OutputTooSmall)
-    } else {
-        Ok(())
-    };
+    let room = check_room(frame.len() + TAG_LENGTH, output);
     let source = check_source(frame);
     rule!(Ok(()), RoomBeforeTagged: room, GroupBeforeTagged: source)?;
     if carries_tag(frame, header) {
@@ -164,15 +178,7 @@ pub fn write_tag(frame: &[u8], number: u16, output: &mut [u8]) -> Result<usize, 
     }
     rule!(source, WriterTakesGroup: Ok(()), RoomBeforeGroup: room.and(source))?;
     room?;
-    let place = header.type_place;
-    let number = number.to_be_bytes();
-    output[..place].copy_from_slice(&frame[..place]);
-    output[place..place + 2].copy_from_slice(&TAG_MARK);
-    // Reserved bytes are written zero.
-    output[place + 2..place + 4].copy_from_slice(&[0, 0]);
-    output[place + 4..place + TAG_LENGTH].copy_from_slice(&number);
-    output[place + TAG_LENGTH..length].copy_from_slice(&frame[place..]);
-    Ok(length)
+    Ok(write_with_tag(frame, header.type_place, number, output))
 }
 
 /// Takes the tag out of the frame and writes the rest to the start of the
@@ -181,7 +187,7 @@ pub fn write_tag(frame: &[u8], number: u16, output: &mut [u8]) -> Result<usize, 
 pub fn take_tag(frame: &[u8], output: &mut [u8]) -> Result<Taken, Refusal> {
     let tagged = read_tagged(frame)?;
     rule!(Ok(()), TakeRefusesGroup: check_source(frame))?;
-    check_room(frame, output)?;
+    check_room(frame.len() - TAG_LENGTH, output)?;
     let length = write_without_tag(frame, tagged, output);
     Ok(Taken {
         number: tagged.number,

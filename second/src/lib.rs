@@ -1,8 +1,8 @@
 //! A receiver for frames that arrive on two networks, a writer for the
-//! redundancy tag, and a sender.
+//! redundancy tag, a sender, and the turn from PRP lines and to them.
 //!
 //! This is a second implementation. It was written from document 01 ("Exact
-//! rules and what to build") and orders 1 to 6 of document 02 (README.md), so that its
+//! rules and what to build") and orders 1 to 7 of document 02 (README.md), so that its
 //! answers can be compared with those of the first one. Section names in the
 //! comments are those of document 01.
 
@@ -13,6 +13,7 @@ pub mod event_file;
 pub mod frame;
 pub mod generate;
 pub mod history;
+pub mod prp;
 pub mod random;
 pub mod sender;
 pub mod stream;
@@ -21,12 +22,13 @@ pub mod wrong;
 
 pub use batch::{batch, Batch};
 pub use frame::{take_tag, write_tag, Taken};
+pub use prp::{from_prp, to_prp, Turned};
 pub use sender::{Sender, Sent};
 pub use stream::Stream;
 pub use table::{arrival, close, open, reset, tick, Arrival, Settings, Ticked, Verdict};
 
 /// Why a call was refused. The values are the numbers of the table in
-/// "Calls and the order of checks", and those of orders 1 and 3.
+/// "Calls and the order of checks", and those of orders 1, 3 and 7.
 #[derive(Clone, Copy, Debug, PartialEq, Eq, Hash, PartialOrd, Ord)]
 #[repr(u8)]
 pub enum Refusal {
@@ -61,6 +63,9 @@ pub enum Refusal {
     GroupSource = 14,
     /// The count of a batch is above 32, or its lengths run past the buffer.
     BatchTooLong = 15,
+    /// There is no trailer of the set kind with a fitting size and a LAN of A
+    /// or B.
+    NoTrailer = 16,
 }
 
 impl Refusal {

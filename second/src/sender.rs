@@ -5,7 +5,7 @@
 //! can refuse it is known before a byte of an output is written, and both
 //! outputs get the same bytes.
 
-use crate::frame::TAG_LENGTH;
+use crate::frame::{write_start, TAG_LENGTH};
 use crate::wrong::{self, rule};
 use crate::{write_tag, Refusal, Stream};
 
@@ -47,13 +47,6 @@ fn check_rooms(length: usize, first: &[u8], second: &[u8]) -> Result<(), Refusal
         Err(Refusal::OutputTooSmall)
     } else {
         Ok(())
-    }
-}
-
-/// Writes these bytes to the start of the output. The room was checked before.
-fn write_start(output: &mut [u8], bytes: &[u8]) {
-    for (to, byte) in output.iter_mut().zip(bytes) {
-        *to = *byte;
     }
 }
 

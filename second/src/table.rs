@@ -67,7 +67,7 @@ pub(crate) fn check_table(table: &[Stream]) -> Result<(), Refusal> {
     }
 }
 
-/// Refusal 2 of an arrival and of a batch.
+/// Refusal 2 of an arrival, of a batch and to PRP.
 pub(crate) fn check_network(network: u8) -> Result<(), Refusal> {
     if network > 1 {
         Err(Refusal::NoSuchNetwork)
@@ -115,7 +115,7 @@ pub fn arrival(
     let slot = find(table, tagged.destination, tagged.vlan).ok_or(Refusal::NoStream)?;
     rule!(Ok(()), StreamBeforeGroup: source)?;
     let stream = table[slot];
-    let room = frame::check_room(frame, output);
+    let room = frame::check_room(frame.len() - frame::TAG_LENGTH, output);
     rule!(Ok(()), RoomBeforeDamage: room)?;
     if !stream.is_lawful() {
         return Err(Refusal::Damaged);

@@ -1,7 +1,7 @@
 //! Wrong variants of this program, each with one slip. A comparison with
 //! another program is only worth something if it finds them, so it is tried
 //! against each. Document 01 names some under "Errors that look right"; the
-//! others are slips that its text, or that of orders 1 to 6 of document 02, makes
+//! others are slips that its text, or that of orders 1 to 7 of document 02, makes
 //! easy.
 //!
 //! No variant is set at first. In the code a slip stands behind the right rule:
@@ -11,8 +11,9 @@
 use std::cell::Cell;
 
 use crate::batch::LENGTH_BYTES;
-use crate::frame::{check_source, TAG_MARK, VLAN_MARK};
+use crate::frame::{carries_tag, check_source, Header, TAG_MARK, VLAN_MARK};
 use crate::history::History;
+use crate::prp::Trailer;
 use crate::{arrival, Arrival, Refusal, Stream, Verdict};
 
 /// Where the slip can be seen.
@@ -22,8 +23,8 @@ pub enum Seen {
     Files,
     /// Only where calls are compared: the slip is in a counter, an output byte,
     /// the treatment of a damaged record or of a small output, in the tag
-    /// writer, in taking a tag out, in a batch or in a send. `events` shows none
-    /// of these.
+    /// writer, in taking a tag out, in a batch, in a send or in a turn from PRP
+    /// or to PRP. `events` shows none of these.
     CallsOnly,
 }
 
@@ -203,6 +204,56 @@ variants! {
     SendClearsSecond, CallsOnly, "a send clears the bytes behind the frame in the second output";
     SendTellsNext, CallsOnly, "a send answers the number that comes next";
     SendTellsUntagged, CallsOnly, "a send answers the length without the tag";
+    PrpLanExchanged, CallsOnly, "LAN A of PRP is network 1, both ways";
+    PrpLanByLowBit, CallsOnly, "from PRP every LAN is taken, and its lowest bit is the network";
+    PrpLanFromA, CallsOnly, "from PRP a LAN above B is taken as B";
+    PrpLanNotA, CallsOnly, "from PRP every LAN but A is taken as B";
+    PrpSizeBare, CallsOnly, "the size of PRP leaves the trailer out, both ways";
+    PrpSizeForgetsSuffix, CallsOnly, "the size of PRP leaves 88FB out, both ways";
+    PrpSizeForgetsVlan, CallsOnly, "the size of PRP counts from 14 with a VLAN tag too, both ways";
+    PrpSizeWithType, CallsOnly, "the size of PRP counts the type field too, both ways";
+    PrpSizeWhole, CallsOnly, "the size of PRP counts the whole frame, both ways";
+    PrpSizeUnread, CallsOnly, "from PRP every size is taken";
+    PrpSizeAtMost, CallsOnly, "from PRP a size below the fitting one is taken too";
+    PrpSizeAtLeast, CallsOnly, "from PRP a size above the fitting one is taken too";
+    PrpSizeLowByte, CallsOnly, "from PRP only the low byte of the size is compared";
+    PrpSuffixUnread, CallsOnly, "from PRP 88FB is not looked for";
+    PrpSuffixHalf, CallsOnly, "from PRP only the 88 of 88FB is looked for";
+    PrpNumberLowFirst, CallsOnly, "the number of PRP stands low byte first, both ways";
+    PrpOneIs2012, CallsOnly, "a PRP setting above 1 is the first edition";
+    PrpKindByLowBit, CallsOnly, "the lowest bit of a PRP setting says the kind";
+    PrpKindsExchanged, CallsOnly, "the PRP setting 0 is 2012";
+    PrpKindGuessed, CallsOnly, "from PRP the kind is told from 88FB at the end, whatever the setting";
+    PrpLongest1994, CallsOnly, "from PRP a frame above 1994 bytes is too long";
+    PrpLongest1998, CallsOnly, "from PRP a frame above 1998 bytes is too long with 2012 too";
+    PrpLongest2000, CallsOnly, "from PRP a frame up to 2000 bytes is taken with the first edition too";
+    PrpLongestTagged, CallsOnly, "from PRP a tagged frame of 2000 bytes is too long";
+    PrpShortByOne, CallsOnly, "from PRP a frame of just header and trailer is short";
+    PrpShortByHeader, CallsOnly, "from PRP a frame shorter than header and trailer together is 16";
+    PrpShortForgetsVlan, CallsOnly, "from PRP a VLAN tag adds nothing to the shortest frame";
+    PrpTrailerBeforeTagged, CallsOnly, "from PRP refusal 16 comes before 13";
+    PrpTakesTagged, CallsOnly, "from PRP a frame that carries F1C1 is taken";
+    FromPrpRefusesGroup, CallsOnly, "from PRP a group source is refused";
+    PrpRoomBeforeTrailer, CallsOnly, "from PRP refusal 8 comes before 16";
+    PrpRoomBeforeTagged, CallsOnly, "from PRP refusal 8 comes before 13";
+    PrpRoomBeforeShort, CallsOnly, "from PRP refusal 8 comes before 4";
+    PrpRoomBeforeLength, CallsOnly, "from PRP refusal 8 comes before 3";
+    PrpTrailerStays, CallsOnly, "from PRP the trailer stays in the frame";
+    PrpTagAtEnd, CallsOnly, "from PRP the tag is put in at the end";
+    PrpTagAt12, CallsOnly, "from PRP the tag is put in before a VLAN tag";
+    PrpWritesBeforeRoom, CallsOnly, "a turn from PRP or to PRP writes before the room is known";
+    PrpNeedsOneMore, CallsOnly, "a turn from PRP or to PRP gives 8 where the output has just the room";
+    PrpClearsRest, CallsOnly, "a turn from PRP or to PRP clears the bytes behind the result";
+    PrpTellsLan, CallsOnly, "a turn from PRP or to PRP answers LAN in place of the network";
+    PrpTellsGivenLength, CallsOnly, "a turn from PRP or to PRP answers the length of the frame given";
+    ToPrpLengthBeforeNetwork, CallsOnly, "to PRP refusal 3 comes before 2";
+    ToPrpNetworkByLowBit, CallsOnly, "to PRP every network is taken, and its lowest bit is the LAN";
+    ToPrpRefusesGroup, CallsOnly, "to PRP a group source is refused";
+    ToPrpRefusesTagged, CallsOnly, "to PRP a frame whose type is F1C1 without its tag is refused";
+    ToPrpBareUnchecked, CallsOnly, "to PRP a frame that is short without its tag is taken";
+    ToPrpSizeFromTag, CallsOnly, "to PRP the size counts from where the tag was";
+    ToPrpRoomBeforeBare, CallsOnly, "to PRP refusal 8 comes before the second 4";
+    ToPrpRoomFirst, CallsOnly, "to PRP refusal 8 comes first";
 }
 
 #[cfg(feature = "wrong")]
@@ -374,8 +425,8 @@ pub(crate) fn forgets_length(
     (answer, taken)
 }
 
-/// What a send is refused with, if 8 comes before this refusal of the tag
-/// writer. Those that come behind it have higher numbers.
+/// What a send or a turn from PRP is refused with, if 8 comes before this
+/// refusal. Those that come behind it have higher numbers.
 pub(crate) fn room_before(this: Refusal, why: Refusal, room: Result<(), Refusal>) -> Refusal {
     match room {
         Err(too_small) if why >= this => too_small,
@@ -396,5 +447,33 @@ pub(crate) fn too_long_to_tag(frame: &[u8], why: Refusal) -> Refusal {
 pub(crate) fn write_where_room(output: &mut [u8], bytes: &[u8]) {
     if let Some(start) = output.get_mut(..bytes.len()) {
         start.copy_from_slice(bytes);
+    }
+}
+
+/// What a turn from PRP is refused with where a frame is too short for its
+/// trailer, if a VLAN tag adds nothing to the shortest frame.
+pub(crate) fn short_without_vlan(frame: &[u8], width: usize) -> Refusal {
+    if frame.len() < 14 + width {
+        Refusal::FrameShort
+    } else {
+        Refusal::NoTrailer
+    }
+}
+
+/// The kind of trailer that the frame's last two bytes speak for.
+pub(crate) fn kind_by_suffix(frame: &[u8]) -> Trailer {
+    if frame.ends_with(&[0x88, 0xFB]) {
+        Trailer::Of2012
+    } else {
+        Trailer::First
+    }
+}
+
+/// Refusal 13, asked of the frame without its tag.
+pub(crate) fn refuse_tagged(bare: &[u8], header: Header) -> Result<(), Refusal> {
+    if carries_tag(bare, header) {
+        Err(Refusal::AlreadyTagged)
+    } else {
+        Ok(())
     }
 }

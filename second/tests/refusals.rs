@@ -2,7 +2,8 @@
 //!
 //! The answer is compared with a list: each refusal number has its own
 //! condition, and the first number in the call's order whose condition holds
-//! must be the answer ("Calls and the order of checks", and order 6 for sends).
+//! must be the answer ("Calls and the order of checks", and orders 6 and 7 for
+//! sends and for turns from PRP and to PRP).
 //! A refused call must change no byte of table, sender and outputs; any other
 //! call only its own slot.
 
@@ -11,7 +12,8 @@ mod common;
 use common::*;
 use second::random::Random;
 use second::{
-    arrival, close, open, reset, take_tag, tick, write_tag, Sender, Sent, Settings, Stream, Verdict,
+    arrival, close, from_prp, open, reset, take_tag, tick, to_prp, write_tag, Sender, Sent,
+    Settings, Stream, Turned, Verdict,
 };
 
 /// The first number in the order whose condition holds, else 0.
@@ -449,4 +451,146 @@ fn sends() {
     seen.all_met("send", &[0, 3, 4, 8, 13, 14]);
     seen.all_met("send without room", &[3, 4, 8, 13, 14]);
     seen.all_met("wrap", &[0, 1]);
+}
+
+/// The network that the trailer at the frame's end gives, with as many bytes as
+/// the line's kind has.
+fn network_of(frame: &[u8], width: usize) -> Option<u8> {
+    let (network, lan) = match frame[frame.len() - width + 2] >> 4 {
+        0xA => (0, 0xA),
+        0xB => (1, 0xB),
+        _ => return None,
+    };
+    let (bare, trailer) = frame.split_at(frame.len() - width);
+    let number = u16::from_be_bytes([trailer[0], trailer[1]]);
+    (with_trailer(bare, number, lan, width) == frame).then_some(network)
+}
+
+#[test]
+fn turns_from_prp() {
+    let mut random = Random::new(17);
+    let mut seen = Seen::default();
+    for _ in 0..100_000 {
+        let frame = match random.below(8) {
+            0 => any_frame(&mut random),
+            _ => any_prp(&mut random),
+        };
+        let setting = random.pick(&[0, 0, 0, 1, 1, 2, 255]);
+        let width = if setting == 0 { 4 } else { 6 };
+        let need = (frame.len() + 6).saturating_sub(width);
+        let mut output = any_output(&mut random, need);
+        let before = output.clone();
+        let short = short_for_writing(&frame) || frame.len() < type_place(&frame) + 2 + width;
+        let network = if short {
+            None
+        } else {
+            network_of(&frame, width)
+        };
+        let expected = first(&[
+            (3, need > 2000),
+            (4, short),
+            (13, has_mark(&frame)),
+            (16, network.is_none()),
+            (8, output.len() < need),
+        ]);
+        let answer = from_prp(&frame, setting, &mut output);
+        assert_eq!(number_of(answer), expected);
+        let call = match (setting, type_place(&frame)) {
+            (0, 12) => "first edition",
+            (0, _) => "first edition, VLAN",
+            (_, 12) => "2012",
+            _ => "2012, VLAN",
+        };
+        seen.note(call, expected);
+        if group_source(&frame) {
+            seen.note("from a group", expected);
+        }
+        if let Ok(turned) = answer {
+            let (bare, trailer) = frame.split_at(frame.len() - width);
+            let number = u16::from_be_bytes([trailer[0], trailer[1]]);
+            let wanted = Turned {
+                number,
+                network: network.unwrap(),
+                length: need,
+            };
+            assert_eq!(turned, wanted);
+            assert_eq!(output[..need], with_tag(bare, number));
+            assert_eq!(output[need..], before[need..]);
+        } else {
+            assert_eq!(output, before);
+        }
+    }
+    for call in ["first edition", "first edition, VLAN", "2012", "2012, VLAN"] {
+        seen.all_met(call, &[0, 3, 4, 13, 16, 8]);
+    }
+    seen.all_met("from a group", &[0, 3, 4, 13, 16, 8]);
+}
+
+#[test]
+fn turns_to_prp() {
+    let mut random = Random::new(18);
+    let mut seen = Seen::default();
+    for _ in 0..100_000 {
+        let frame = any_frame(&mut random);
+        let network = random.pick(&[0, 1, 0, 1, 0, 1, 2, 255]);
+        let setting = random.pick(&[0, 0, 0, 1, 1, 2, 255]);
+        let width = if setting == 0 { 4 } else { 6 };
+        let need = frame.len().saturating_sub(6) + width;
+        let mut output = any_output(&mut random, need);
+        let before = output.clone();
+        let place = type_place(&frame);
+        let bare = match frame.get(place + 6..) {
+            Some(behind) => [&frame[..place], behind].concat(),
+            None => Vec::new(),
+        };
+        let as_arrival = first(&[
+            (2, network > 1),
+            (3, frame.len() > 2000),
+            (4, short_for_reading(&frame)),
+            (5, !has_mark(&frame)),
+        ]);
+        let expected = match as_arrival {
+            0 => first(&[(4, short_for_writing(&bare)), (8, output.len() < need)]),
+            _ => as_arrival,
+        };
+        let answer = to_prp(&frame, network, setting, &mut output);
+        assert_eq!(number_of(answer), expected);
+        let call = match (setting, place) {
+            (0, 12) => "first edition",
+            (0, _) => "first edition, VLAN",
+            (_, 12) => "2012",
+            _ => "2012, VLAN",
+        };
+        seen.note(call, expected);
+        if as_arrival == 0 && expected == 4 {
+            seen.note("short without its tag", setting);
+        }
+        if group_source(&frame) {
+            seen.note("from a group", expected);
+        }
+        if let Ok(turned) = answer {
+            let number = u16::from_be_bytes([frame[place + 4], frame[place + 5]]);
+            let wanted = Turned {
+                number,
+                network,
+                length: need,
+            };
+            assert_eq!(turned, wanted);
+            let prp = with_trailer(&bare, number, 0xA + network, width);
+            assert_eq!(output[..need], prp);
+            assert_eq!(output[need..], before[need..]);
+            // 8100 behind a tag at 12, and F1C1 as the type that is left.
+            seen.note("VLAN behind the tag", u8::from(type_place(&bare) != place));
+            seen.note("tagged twice", u8::from(has_mark(&bare)));
+        } else {
+            assert_eq!(output, before);
+        }
+    }
+    for call in ["first edition", "first edition, VLAN", "2012", "2012, VLAN"] {
+        seen.all_met(call, &[0, 2, 3, 4, 5, 8]);
+    }
+    seen.all_met("short without its tag", &[0, 1, 2, 255]);
+    seen.all_met("from a group", &[0, 2, 3, 4, 5, 8]);
+    seen.all_met("VLAN behind the tag", &[0, 1]);
+    seen.all_met("tagged twice", &[0, 1]);
 }

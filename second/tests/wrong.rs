@@ -10,7 +10,9 @@ use std::process::Command;
 use common::*;
 use second::random::Random;
 use second::wrong::{self, Seen, Wrong, VARIANTS};
-use second::{arrival, batch, close, open, reset, take_tag, tick, write_tag, Sender, Stream};
+use second::{
+    arrival, batch, close, from_prp, open, reset, take_tag, tick, to_prp, write_tag, Sender, Stream,
+};
 
 const DESTINATIONS: [[u8; 6]; 2] = [DESTINATION, [2, 0, 0, 0, 0, 2]];
 
@@ -108,13 +110,43 @@ fn sends(seed: u64) -> Vec<(String, u16, [Vec<u8>; 2])> {
     seen
 }
 
+/// Random turns from PRP and to PRP: every answer, and the output after each.
+fn turns(seed: u64) -> Vec<(String, Vec<u8>)> {
+    let mut random = Random::new(seed);
+    let mut seen = Vec::new();
+    for _ in 0..20 {
+        let setting = random.pick(&[0, 0, 1, 1, 2, 3]);
+        let width = if setting == 0 { 4 } else { 6 };
+        let from = random.chance(1, 2);
+        let (frame, needed) = if from {
+            let frame = any_prp(&mut random);
+            let needed = frame.len() + 6 - width;
+            (frame, needed)
+        } else {
+            let frame = any_frame(&mut random);
+            let needed = frame.len().saturating_sub(6) + width;
+            (frame, needed)
+        };
+        let room = random.pick(&[needed.saturating_sub(1), needed, needed, needed + 9]);
+        let mut output = vec![FILL; room];
+        let answer = if from {
+            from_prp(&frame, setting, &mut output)
+        } else {
+            let network = random.pick(&[0, 0, 1, 1, 2, 3]);
+            to_prp(&frame, network, setting, &mut output)
+        };
+        seen.push((format!("{answer:?}"), output));
+    }
+    seen
+}
+
 #[test]
 fn every_variant_for_calls_is_seen_in_calls() {
     for variant in VARIANTS.iter().filter(|v| v.seen == Seen::CallsOnly) {
         let differs = (0..2000).any(|seed| {
-            let right = (calls(seed), sends(seed));
+            let right = (calls(seed), sends(seed), turns(seed));
             wrong::set(Some(variant.wrong));
-            let wrong = (calls(seed), sends(seed));
+            let wrong = (calls(seed), sends(seed), turns(seed));
             wrong::set(None);
             right != wrong
         });

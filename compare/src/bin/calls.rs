@@ -1,7 +1,8 @@
 //! Random calls on random tables and senders, given to the product and to the second program. After every call the answer, the
 //! whole table, the sender's next number and the whole outputs must be equal, and a refused call must have changed nothing.
 //!
-//!     calls                    the comparison, 4,000,000 calls, and more sends in a row than there are numbers
+//!     calls                    the comparison, 4,000,000 calls, more sends in a row than there are numbers, and PRP frames
+//!                              turned into tagged ones and back
 //!     calls SEED COUNT         the same from another seed, or with fewer or more calls
 //!     calls wrong              each wrong variant of the second program that shows in calls alone must be found
 //!     calls cases COUNT        writes so many calls for compare/replay.c, with what they answer and leave
@@ -13,7 +14,7 @@
 
 use compare::cases::{self, Areas};
 use compare::{Answer, Call, Product, Second, Settings, Side};
-use nippitsun::archive::{BatchAnswer, FRAMES_MOST};
+use nippitsun::archive::{BatchAnswer, PrpAnswer, FRAMES_MOST};
 use nippitsun::{Counts, State, Stream};
 use second::random::Random;
 use second::wrong::{self, Seen as Shows, VARIANTS};
@@ -49,6 +50,8 @@ const SMALL_ROOMS: [usize; 5] = [0, 1, 2, 15, 16];
 
 /// Sends in a row without a reset: the numbers twice, and some more.
 const IN_A_ROW: u32 = 2 * 65536 + 3;
+/// PRP frames that are turned into tagged ones and back.
+const THERE_AND_BACK: u64 = 100_000;
 
 // ---- what is given
 
@@ -503,9 +506,17 @@ fn taken(told: &BatchAnswer) -> usize {
     lengths.filter(|&length| length > 0).map(|n| n + 2).sum()
 }
 
+/// Where the type field of a frame is.
+fn type_place(f: &[u8]) -> usize {
+    match f.get(12..14) {
+        Some([0x81, 0x00]) => 16,
+        _ => 12,
+    }
+}
+
 /// Another type in the place of the frame's mark, so that a tag can be put in.
 fn unmark(f: &mut [u8; 2100]) {
-    let at = if f[12..14] == [0x81, 0x00] { 16 } else { 12 };
+    let at = type_place(f);
     f[at..at + 2].copy_from_slice(&[0x08, 0x00]);
 }
 
@@ -538,6 +549,131 @@ fn send<'a>(
     (Call::Send { frame }, rooms)
 }
 
+/// The setting of a PRP line, every value of which is one of two kinds.
+fn kind(random: &mut Random) -> u8 {
+    match random.below(8) {
+        0..=3 => 0,
+        4..=6 => 1,
+        _ => random.byte(),
+    }
+}
+
+/// Bytes of the trailer that a setting means.
+fn width(kind: u8) -> usize {
+    match kind {
+        0 => 4,
+        _ => 6,
+    }
+}
+
+/// The size that fits to a PRP frame of this length, and 0 if it is too short to have one.
+fn fitting(f: &[u8], length: usize) -> u16 {
+    length.saturating_sub(type_place(f) + 2) as u16
+}
+
+/// Fills a frame that shall be longer than frame() made it.
+fn fill_behind(random: &mut Random, pool: &[u8], f: &mut [u8; 2100], length: usize) {
+    // The longest head.
+    let head = 26;
+    if let Some(behind) = f.get_mut(head..length) {
+        let from = random.below((pool.len() - behind.len()) as u64) as usize;
+        behind.copy_from_slice(&pool[from..from + behind.len()]);
+    }
+}
+
+/// Writes a frame to be turned into a PRP frame and gives its length. Most often it is tagged.
+fn frame_for_prp(random: &mut Random, pool: &[u8], table: &[Stream], f: &mut [u8; 2100]) -> usize {
+    let length = frame(random, pool, table, f);
+    match random.below(16) {
+        0 | 1 => {
+            let length = random.pick(&[2000, 2001, 2002, 2050]);
+            fill_behind(random, pool, f, length);
+            length
+        }
+        // Short without its tag, where that stands at 12.
+        2 => {
+            f[18..20].copy_from_slice(&[0x81, 0x00]);
+            20 + random.below(4) as usize
+        }
+        _ => length,
+    }
+}
+
+/// Writes a PRP frame for a line of this kind and gives its length. Most often it is a good one.
+fn prp_frame(
+    random: &mut Random,
+    pool: &[u8],
+    table: &[Stream],
+    f: &mut [u8; 2100],
+    kind: u8,
+) -> usize {
+    frame(random, pool, table, f);
+    if !random.chance(1, 5) {
+        unmark(f);
+    }
+    // Now and then it has the other kind's trailer.
+    let width = match random.below(24) {
+        0 => 10 - width(kind),
+        _ => width(kind),
+    };
+    let shortest = type_place(f) + 2 + width;
+    let length = match random.below(16) {
+        0 => random.below(28) as usize,
+        1 => random.pick(&[shortest - 1, shortest]),
+        2 | 3 => random.between(1994, 2003) as usize,
+        4 | 5 => random.between(260, 600) as usize,
+        _ => shortest + random.below(24) as usize,
+    };
+    fill_behind(random, pool, f, length);
+    // In a frame that is too short a trailer would stand over the type field.
+    if length < width || length < shortest && random.chance(1, 2) {
+        return length;
+    }
+    let (mut lan, mut size) = (random.pick(&[0xA, 0xB]), fitting(f, length));
+    let mut suffix = [0x88, 0xFB];
+    match random.below(32) {
+        0 => lan = random.pick(&[0x9, 0xC]),
+        1 => lan = random.below(16) as u16,
+        2 => size = random.pick(&[size.wrapping_sub(1), size + 1]),
+        3 => size ^= 0x100 << random.below(4),
+        // Counted in another way: from elsewhere, or without the trailer.
+        4 => size = random.pick(&[size + 2, size + 4, size.wrapping_sub(width as u16)]),
+        5 => size = random.word(),
+        6 => suffix[random.below(2) as usize] ^= 1 << random.below(8),
+        _ => {}
+    }
+    let at = length - width;
+    let number = random.word();
+    f[at..at + 2].copy_from_slice(&number.to_be_bytes());
+    f[at + 2..at + 4].copy_from_slice(&(lan << 12 | size & 0x0FFF).to_be_bytes());
+    f[at + 4..length].copy_from_slice(&suffix[..width - 4]);
+    length
+}
+
+/// A turn from PRP or to PRP.
+fn turn<'a>(
+    random: &mut Random,
+    pool: &[u8],
+    table: &[Stream],
+    f: &'a mut [u8; 2100],
+) -> (Call<'a>, [usize; 2]) {
+    let kind = kind(random);
+    let (call, needed) = if random.chance(1, 2) {
+        let length = prp_frame(random, pool, table, f, kind);
+        let frame = &f[..length];
+        (Call::FromPrp { frame, kind }, length + 6 - width(kind))
+    } else {
+        let length = frame_for_prp(random, pool, table, f);
+        let call = Call::ToPrp {
+            frame: &f[..length],
+            network: network(random),
+            kind,
+        };
+        (call, length.saturating_sub(6) + width(kind))
+    };
+    (call, [room(random, needed), 0])
+}
+
 /// A next number, often one at the wrap.
 fn next(random: &mut Random) -> u16 {
     let any = random.word();
@@ -551,9 +687,10 @@ fn call<'a>(
     table: &[Stream],
     f: &'a mut Frames,
 ) -> (Call<'a>, [usize; 2]) {
-    match random.below(48) {
+    match random.below(51) {
         0 => return batch(random, pool, table, f),
         1..=3 => return send(random, pool, table, &mut f.single),
+        4..=6 => return turn(random, pool, table, &mut f.single),
         _ => {}
     }
     let f = &mut f.single;
@@ -585,7 +722,7 @@ fn call<'a>(
 
 // ---- what came up
 
-const CALLS: [&str; 10] = [
+const CALLS: [&str; 12] = [
     "arrival",
     "open",
     "close",
@@ -596,9 +733,11 @@ const CALLS: [&str; 10] = [
     "batch",
     "send",
     "reset of a sender",
+    "from PRP",
+    "to PRP",
 ];
 /// The refusals that each call can give.
-const REFUSALS: [&[u8]; 10] = [
+const REFUSALS: [&[u8]; 12] = [
     &[1, 2, 3, 4, 5, 14, 6, 7, 8],
     &[1, 9, 10, 11],
     &[1, 12],
@@ -609,6 +748,8 @@ const REFUSALS: [&[u8]; 10] = [
     &[1, 2, 15],
     &[3, 4, 13, 14, 8],
     &[],
+    &[3, 4, 13, 16, 8],
+    &[2, 3, 4, 5, 8],
 ];
 const COUNTERS: [&str; 8] = [
     "arrivals on network 0",
@@ -657,7 +798,7 @@ struct Batches {
     network_before_count: u64,
 }
 
-/// The sizes that the outputs of a send have, beside what it needs.
+/// The sizes that the outputs of a send or of a turn have, beside what it needs.
 const SIZES: [&str; 4] = ["empty", "one byte too small", "of just the size", "larger"];
 /// The refusals of a send that come before 8.
 const BEFORE_ROOM: [u8; 4] = [3, 4, 13, 14];
@@ -703,19 +844,14 @@ impl Sends {
             let small = rooms.iter().any(|&room| room < needed);
             self.before_room[place] += u64::from(small);
         } else {
-            let [first, second] = rooms.map(|room| match room {
-                0 => 0,
-                _ if room < needed => 1,
-                _ if room == needed => 2,
-                _ => 3,
-            });
+            let [first, second] = rooms.map(|room| size_of(room, needed));
             self.sizes[first][second] += 1;
         }
         let at_last = given.next == 65535;
         if refusal == 0 {
             self.first_number += u64::from(given.next == 0);
             self.last_number += u64::from(at_last);
-            self.with_vlan += u64::from(frame[12..14] == [0x81, 0x00]);
+            self.with_vlan += u64::from(type_place(frame) == 16);
             self.longest += u64::from(frame.len() == 1994);
         } else {
             self.refused_at_last += u64::from(at_last);
@@ -746,6 +882,349 @@ impl Sends {
         }
         for (next, n) in [("0", self.reset_from_0), ("another", self.reset_from_other)] {
             list.push((format!("a reset of a sender whose next is {}", next), n));
+        }
+    }
+}
+
+/// The kinds of a PRP trailer.
+const KINDS: [&str; 2] = ["first edition", "2012"];
+/// The settings of a PRP line.
+const SETTINGS: [&str; 3] = ["0", "1", "another"];
+/// What a PRP frame has in which all but one thing is right.
+const NO_TRAILER: [&str; 8] = [
+    "LAN 9",
+    "LAN C",
+    "another LAN",
+    "a size one below",
+    "a size one above",
+    "a size off by 256",
+    "another size",
+    "no 88FB",
+];
+
+/// What must come up in turns from PRP, by the kind of the line.
+#[derive(Default)]
+struct FromPrp {
+    /// By the VLAN tag, then the network, where the frame is turned.
+    turned: [[u64; 2]; 2],
+    /// By refusal.
+    refused: [u64; 17],
+    /// By [`NO_TRAILER`], where the answer is 16.
+    no_trailer: [u64; 8],
+    /// A trailer of the other kind, with all right in it.
+    other_kind: u64,
+    /// By the frame's length from 1997 on, where the answer is 3 or none.
+    long: [u64; 5],
+    /// By the VLAN tag: just header and trailer, and one byte less.
+    shortest: [u64; 2],
+    too_short_by_one: [u64; 2],
+    short_with_f1c1: u64,
+    tagged_without_trailer: u64,
+    size_above_a_byte: u64,
+    group: u64,
+    /// By the size of the output, as [`SIZES`] has them, where the frame is not refused for itself.
+    rooms: [u64; 4],
+    /// By refusal, where the output is too small too.
+    before_room: [u64; 17],
+}
+
+/// What must come up in turns to PRP, by the kind of the line.
+#[derive(Default)]
+struct ToPrp {
+    /// By the VLAN tag, then the network, where the frame is turned.
+    turned: [[u64; 2]; 2],
+    /// By refusal. The second 4 is apart.
+    refused: [u64; 17],
+    short_without_tag: u64,
+    vlan_behind_the_tag: u64,
+    tagged_twice: u64,
+    reserved: u64,
+    group: u64,
+    longest: u64,
+    too_long_by_one: u64,
+    rooms: [u64; 4],
+    /// By refusal, where the output is too small too, and the second 4.
+    before_room: [u64; 17],
+    short_before_room: u64,
+    /// By the refusal that comes behind it.
+    network_before: [u64; 17],
+}
+
+/// What must come up in turns from PRP and to PRP.
+#[derive(Default)]
+struct Prp {
+    /// By [`KINDS`].
+    from: [FromPrp; 2],
+    to: [ToPrp; 2],
+    /// By [`SETTINGS`], where the frame is turned: from PRP, to PRP.
+    settings: [[u64; 3]; 2],
+}
+
+/// Which of [`SIZES`] an output has.
+fn size_of(room: usize, needed: usize) -> usize {
+    match room {
+        0 => 0,
+        _ if room < needed => 1,
+        _ if room == needed => 2,
+        _ => 3,
+    }
+}
+
+/// Which one thing is wrong with the trailer of a frame that has room for one, if only one is.
+fn trailer_fault(frame: &[u8], kind: u8) -> Option<usize> {
+    let trailer = &frame[frame.len() - width(kind)..];
+    let said = u16::from_be_bytes([trailer[2] & 0x0F, trailer[3]]);
+    let fitting = fitting(frame, frame.len());
+    let lan = match trailer[2] >> 4 {
+        0xA | 0xB => None,
+        0x9 => Some(0),
+        0xC => Some(1),
+        _ => Some(2),
+    };
+    let size = match i32::from(said) - i32::from(fitting) {
+        0 => None,
+        -1 => Some(3),
+        1 => Some(4),
+        -256 | 256 => Some(5),
+        _ => Some(6),
+    };
+    let suffix = (kind != 0 && trailer[4..] != [0x88, 0xFB]).then_some(7);
+    match [lan, size, suffix] {
+        [fault, None, None] | [None, fault, None] | [None, None, fault] => fault,
+        _ => None,
+    }
+}
+
+impl FromPrp {
+    fn note(&mut self, frame: &[u8], kind: u8, answer: &Answer, room: usize) {
+        let (length, width) = (frame.len(), width(kind));
+        let vlan = usize::from(type_place(frame) == 16);
+        let shortest = type_place(frame) + 2 + width;
+        let group = u64::from(frame.get(6).map_or(false, |first| first & 1 == 1));
+        let tagged = frame.get(type_place(frame)..type_place(frame) + 2) == Some(&[0xF1, 0xC1]);
+        let refusal = match *answer {
+            Answer::Refused(n) => n,
+            _ => 0,
+        };
+        self.refused[usize::from(refusal)] += 1;
+        if let (0 | 3, 1997..=2001) = (refusal, length) {
+            self.long[length - 1997] += 1;
+        }
+        let needed = length + 6 - width;
+        match refusal {
+            0 | 8 => self.rooms[size_of(room, needed)] += 1,
+            n => self.before_room[usize::from(n)] += u64::from(room < needed),
+        }
+        match refusal {
+            0 => {
+                let b = usize::from(frame[length - width + 2] >> 4 == 0xB);
+                self.turned[vlan][b] += 1;
+                self.shortest[vlan] += u64::from(length == shortest);
+                self.size_above_a_byte += u64::from(length - shortest > 255);
+                self.group += group;
+            }
+            4 => {
+                self.too_short_by_one[vlan] += u64::from(length + 1 == shortest);
+                self.short_with_f1c1 += u64::from(tagged);
+            }
+            13 => {
+                let bad = trailer_fault(frame, kind).is_some();
+                self.tagged_without_trailer += u64::from(bad);
+            }
+            16 => {
+                if let Some(fault) = trailer_fault(frame, kind) {
+                    self.no_trailer[fault] += 1;
+                }
+                let other = u8::from(kind == 0);
+                let mut out = [0; Stream::FRAME_MOST + 2];
+                let call = Call::FromPrp { frame, kind: other };
+                let told = Product::new(&[]).call(call, [&mut out, &mut []]);
+                self.other_kind += u64::from(matches!(told, Answer::Prp(_)));
+            }
+            _ => {}
+        }
+    }
+
+    fn list(&self, kind: &str, list: &mut Vec<(String, u64)>) {
+        let mut add = |what: String, n| list.push((format!("from PRP, {}: {}", kind, what), n));
+        for (vlan, turned) in ["no VLAN", "VLAN"].iter().zip(self.turned) {
+            for (lan, n) in ["A", "B"].iter().zip(turned) {
+                add(format!("{}, LAN {}, turned", vlan, lan), n);
+            }
+        }
+        for n in [3, 4, 13, 16, 8] {
+            add(format!("refused with {}", n), self.refused[n]);
+        }
+        for (fault, n) in NO_TRAILER.iter().zip(self.no_trailer) {
+            // The first edition has no such bytes.
+            if (kind, *fault) != (KINDS[0], "no 88FB") {
+                add(format!("16 for {}", fault), n);
+            }
+        }
+        add(
+            String::from("16 for a trailer of the other kind"),
+            self.other_kind,
+        );
+        for (length, n) in (1997..).zip(self.long) {
+            add(format!("{} bytes", length), n);
+        }
+        for (vlan, name) in ["no VLAN", "VLAN"].iter().enumerate() {
+            add(
+                format!("{}, just header and trailer", name),
+                self.shortest[vlan],
+            );
+            add(
+                format!("{}, one byte less", name),
+                self.too_short_by_one[vlan],
+            );
+        }
+        for (size, n) in SIZES.iter().zip(self.rooms) {
+            add(format!("output {}", size), n);
+        }
+        for n in [3, 4, 13, 16] {
+            let what = format!("{} where the output is too small too", n);
+            add(what, self.before_room[n]);
+        }
+        for (what, n) in [
+            (
+                "4 where F1C1 stands at the type field",
+                self.short_with_f1c1,
+            ),
+            (
+                "13 where the trailer is bad too",
+                self.tagged_without_trailer,
+            ),
+            ("a size above 255", self.size_above_a_byte),
+            ("a group source", self.group),
+        ] {
+            add(String::from(what), n);
+        }
+    }
+}
+
+impl ToPrp {
+    fn note(&mut self, frame: &[u8], network: u8, kind: u8, answer: &Answer, room: usize) {
+        let (length, place) = (frame.len(), type_place(frame));
+        let refusal = match *answer {
+            Answer::Refused(n) => n,
+            _ => 0,
+        };
+        let needed = length.saturating_sub(6) + width(kind);
+        let small = u64::from(room < needed);
+        // An arrival's 4 or a tag that can be taken out.
+        let bare = refusal == 4 && {
+            let call = Call::TakeTag { frame };
+            let mut out = [0; Stream::FRAME_MOST];
+            let told = Product::new(&[]).call(call, [&mut out, &mut []]);
+            matches!(told, Answer::Tag { .. })
+        };
+        match refusal {
+            0 | 8 => self.rooms[size_of(room, needed)] += 1,
+            4 if bare => self.short_before_room += small,
+            n => self.before_room[usize::from(n)] += small,
+        }
+        if bare {
+            self.short_without_tag += 1;
+        } else {
+            self.refused[usize::from(refusal)] += 1;
+        }
+        match refusal {
+            0 => {
+                self.turned[usize::from(place == 16)][usize::from(network)] += 1;
+                let former = &frame[place + 6..place + 8];
+                self.vlan_behind_the_tag += u64::from(place == 12 && former == [0x81, 0x00]);
+                self.tagged_twice += u64::from(former == [0xF1, 0xC1]);
+                self.reserved += u64::from(frame[place + 2..place + 4] != [0, 0]);
+                self.group += u64::from(frame[6] & 1 == 1);
+                self.longest += u64::from(length == Stream::FRAME_MOST);
+            }
+            2 => {
+                let call = Call::ToPrp {
+                    frame,
+                    network: 0,
+                    kind,
+                };
+                let mut out = [0; Stream::FRAME_MOST];
+                let told = Product::new(&[]).call(call, [&mut out, &mut []]);
+                if let Answer::Refused(n) = told {
+                    self.network_before[usize::from(n)] += 1;
+                }
+            }
+            3 => self.too_long_by_one += u64::from(length == Stream::FRAME_MOST + 1),
+            _ => {}
+        }
+    }
+
+    fn list(&self, kind: &str, list: &mut Vec<(String, u64)>) {
+        let mut add = |what: String, n| list.push((format!("to PRP, {}: {}", kind, what), n));
+        for (vlan, turned) in ["no VLAN", "VLAN"].iter().zip(self.turned) {
+            for (network, n) in turned.iter().enumerate() {
+                add(format!("{}, network {}, turned", vlan, network), *n);
+            }
+        }
+        for n in [2, 3, 4, 5, 8] {
+            add(format!("refused with {}", n), self.refused[n]);
+        }
+        for (size, n) in SIZES.iter().zip(self.rooms) {
+            add(format!("output {}", size), n);
+        }
+        for n in [2, 3, 4, 5] {
+            let what = format!("{} where the output is too small too", n);
+            add(what, self.before_room[n]);
+        }
+        for n in [3, 4, 5] {
+            add(format!("2 before {}", n), self.network_before[n]);
+        }
+        for (what, n) in [
+            ("the second 4", self.short_without_tag),
+            (
+                "the second 4 where the output is too small too",
+                self.short_before_room,
+            ),
+            ("8100 behind a tag at 12", self.vlan_behind_the_tag),
+            ("F1C1 behind the tag", self.tagged_twice),
+            ("nonzero reserved bytes", self.reserved),
+            ("a group source", self.group),
+            ("2000 bytes", self.longest),
+            ("2001 bytes", self.too_long_by_one),
+        ] {
+            add(String::from(what), n);
+        }
+    }
+}
+
+impl Prp {
+    /// A call, its answer and what it started from.
+    fn note(&mut self, call: &Call, answer: &Answer, given: Areas) {
+        let room = given.outs[0].len();
+        let (way, kind) = match *call {
+            Call::FromPrp { frame, kind } => {
+                self.from[usize::from(kind != 0)].note(frame, kind, answer, room);
+                (0, kind)
+            }
+            Call::ToPrp {
+                frame,
+                network,
+                kind,
+            } => {
+                self.to[usize::from(kind != 0)].note(frame, network, kind, answer, room);
+                (1, kind)
+            }
+            _ => return,
+        };
+        let turned = u64::from(matches!(answer, Answer::Prp(_)));
+        self.settings[way][usize::from(kind.min(2))] += turned;
+    }
+
+    fn list(&self, list: &mut Vec<(String, u64)>) {
+        for (place, kind) in KINDS.iter().enumerate() {
+            self.from[place].list(kind, list);
+            self.to[place].list(kind, list);
+        }
+        for (way, settings) in ["from PRP", "to PRP"].iter().zip(self.settings) {
+            for (setting, n) in SETTINGS.iter().zip(settings) {
+                list.push((format!("{}: turned with the setting {}", way, setting), n));
+            }
         }
     }
 }
@@ -962,8 +1441,8 @@ impl Histories {
 
 /// How often each thing came up.
 struct Seen {
-    calls: [u64; 10],
-    refused: [[u64; 16]; 10],
+    calls: [u64; 12],
+    refused: [[u64; 17]; 12],
     /// By rule, then handed up, duplicate, rogue.
     verdicts: [[u64; 3]; 2],
     /// By window and difference, in vector streams without take-any.
@@ -980,6 +1459,7 @@ struct Seen {
     slots: [u64; 66],
     batches: Batches,
     sends: Sends,
+    prp: Prp,
     early: Early,
     histories: Histories,
 }
@@ -1021,6 +1501,8 @@ fn place(call: &Call) -> usize {
         Call::Batch { .. } => 7,
         Call::Send { .. } => 8,
         Call::ResetSender => 9,
+        Call::FromPrp { .. } => 10,
+        Call::ToPrp { .. } => 11,
     }
 }
 
@@ -1287,8 +1769,8 @@ fn is_older(number: u16, s: &Stream) -> bool {
 impl Seen {
     fn new() -> Seen {
         Seen {
-            calls: [0; 10],
-            refused: [[0; 16]; 10],
+            calls: [0; 12],
+            refused: [[0; 17]; 12],
             verdicts: [[0; 3]; 2],
             differences: BTreeMap::new(),
             take_any: 0,
@@ -1303,6 +1785,7 @@ impl Seen {
             slots: [0; 66],
             batches: Batches::default(),
             sends: Sends::default(),
+            prp: Prp::default(),
             early: Early::default(),
             histories: Histories::default(),
         }
@@ -1312,6 +1795,7 @@ impl Seen {
     fn note(&mut self, call: &Call, answer: &Answer, given: Areas, left: Areas) {
         let kind = place(call);
         self.sends.note(call, answer, given);
+        self.prp.note(call, answer, given);
         let (before, after, room) = (given.table, left.table, given.outs[0].len());
         self.early.note(call, answer, before, after);
         self.histories.note(call, answer, before, after);
@@ -1368,7 +1852,7 @@ impl Seen {
                     self.mended += u64::from(s.any != 0 && s.remaining != 0);
                 }
             }
-            Answer::Opened(_) | Answer::Tag { .. } | Answer::Batch(_) => {}
+            Answer::Opened(_) | Answer::Tag { .. } | Answer::Batch(_) | Answer::Prp(_) => {}
         }
         if from_group(call) {
             self.groups[0] += u64::from((kind, answer) == (0, &Answer::Refused(5)));
@@ -1392,11 +1876,7 @@ impl Seen {
         self.verdicts[usize::from(s.rule) - 1][verdict] += 1;
         self.shared_key += u64::from(with_key(table, s.dest, s.vlan).count() > 1);
         if let Call::Arrival { frame, .. } = call {
-            let at = if frame[12..14] == [0x81, 0x00] {
-                16
-            } else {
-                12
-            };
+            let at = type_place(frame);
             self.reserved += u64::from(frame[at + 2..at + 4] != [0, 0]);
         }
         if s.state.any != 0 {
@@ -1447,6 +1927,7 @@ impl Seen {
         }
         self.batches.list(&mut list);
         self.sends.list(&mut list);
+        self.prp.list(&mut list);
         self.early.list(&mut list);
         self.histories.list(&mut list);
         for slots in [0, 1, 63, 64, 65] {
@@ -1531,6 +2012,124 @@ fn send_in_a_row() -> Result<(), String> {
         "{} sends in a row: each number is the index modulo 65536",
         IN_A_ROW
     );
+    Ok(())
+}
+
+/// What a turn answers on both sides, and the frame that it gives; none, where it is refused.
+fn turned(call: Call) -> Result<Option<(PrpAnswer, Vec<u8>)>, String> {
+    let mut outs = [0; 2].map(|_| vec![0; Stream::FRAME_MOST]);
+    let [a, b] = &mut outs;
+    let told = Product::new(&[]).call(call, [a, &mut []]);
+    let other = Second::new(&[]).call(call, [b, &mut []]);
+    if told != other || a != b {
+        return Err(format!(
+            "DIFFERENT: {:x?}: {:?} and {:?}",
+            call, told, other
+        ));
+    }
+    Ok(match told {
+        Answer::Prp(told) => Some((told, a[..told.length].to_vec())),
+        _ => None,
+    })
+}
+
+/// Turns a PRP frame into a tagged one and back: it must come back as it was. Was it taken?
+fn from_prp_and_back(frame: &[u8], kind: u8) -> Result<bool, String> {
+    let (there, tagged) = match turned(Call::FromPrp { frame, kind })? {
+        Some(there) => there,
+        None => return Ok(false),
+    };
+    let back = turned(Call::ToPrp {
+        frame: &tagged,
+        network: there.network,
+        kind,
+    })?;
+    let told = PrpAnswer {
+        length: frame.len(),
+        ..there
+    };
+    if back != Some((told, frame.to_vec())) {
+        return Err(format!("NOT BACK, kind {}: {:x?}", kind, frame));
+    }
+    Ok(true)
+}
+
+/// What becomes of a tagged frame that is turned into a PRP frame and back.
+const BACK: [&str; 3] = [
+    "the same but for its reserved bytes",
+    "its tag four bytes later, behind the 8100 that stood behind it",
+    "refused, since F1C1 stood behind the tag",
+];
+
+/// Turns a tagged frame into a PRP frame and back. Which of [`BACK`] came of it, where it was taken?
+fn to_prp_and_back(frame: &[u8], network: u8, kind: u8) -> Result<Option<usize>, String> {
+    let (there, prp) = match turned(Call::ToPrp {
+        frame,
+        network,
+        kind,
+    })? {
+        Some(there) => there,
+        None => return Ok(None),
+    };
+    let (was, is) = (type_place(frame), type_place(&prp));
+    let mut wanted = frame.to_vec();
+    let what = if prp[is..].starts_with(&[0xF1, 0xC1]) {
+        2
+    } else if is != was {
+        wanted.copy_within(18..22, 12);
+        wanted[16..20].copy_from_slice(&[0xF1, 0xC1, 0, 0]);
+        wanted[20..22].copy_from_slice(&there.number.to_be_bytes());
+        1
+    } else {
+        wanted[was + 2..was + 4].copy_from_slice(&[0, 0]);
+        0
+    };
+    let told = PrpAnswer {
+        length: frame.len(),
+        ..there
+    };
+    let back = turned(Call::FromPrp { frame: &prp, kind })?;
+    if back != (what < 2).then_some((told, wanted)) {
+        return Err(format!("NOT BACK, kind {}: {:x?}", kind, frame));
+    }
+    Ok(Some(what))
+}
+
+/// Random frames from PRP and back, and to PRP and back, on both sides.
+fn there_and_back(seed: u64) -> Result<(), String> {
+    let mut random = Random::new(seed);
+    let mut pool = vec![0; 8192];
+    random.fill(&mut pool);
+    let mut f = [0; 2100];
+    // By kind, then VLAN tag; and by what came of a tagged frame.
+    let (mut from, mut to) = ([[0; 2]; 2], [0; BACK.len()]);
+    for _ in 0..THERE_AND_BACK {
+        let kind = kind(&mut random);
+        let length = prp_frame(&mut random, &pool, &[], &mut f, kind);
+        if from_prp_and_back(&f[..length], kind)? {
+            let vlan = type_place(&f) == 16;
+            from[usize::from(kind != 0)][usize::from(vlan)] += 1;
+        }
+        let length = frame_for_prp(&mut random, &pool, &[], &mut f);
+        let network = random.below(2) as u8;
+        if let Some(what) = to_prp_and_back(&f[..length], network, kind)? {
+            to[what] += 1;
+        }
+    }
+    for (kind, seen) in KINDS.iter().zip(from) {
+        println!(
+            "from PRP, {}, and back: {} frames, {} with a VLAN tag",
+            kind,
+            seen[0] + seen[1],
+            seen[1]
+        );
+    }
+    for (what, n) in BACK.iter().zip(to) {
+        println!("to PRP and back: {} frames, {}", n, what);
+    }
+    if from.iter().flatten().chain(&to).any(|&n| n < LEAST) {
+        return Err(format!("each of these must come up {} times", LEAST));
+    }
     Ok(())
 }
 
@@ -1641,6 +2240,7 @@ fn run(seed: u64, count: u64, mut kept: Option<&mut Vec<u8>>) -> Result<Seen, St
 
 fn compare(seed: u64, count: u64) -> Result<(), String> {
     send_in_a_row()?;
+    there_and_back(seed)?;
     let seen = run(seed, count, None)?;
     let list = seen.list();
     for (call, n) in CALLS.iter().zip(seen.calls) {

@@ -1,5 +1,5 @@
 //! A fixed list of calls that are run and not proved, with what each answers and changes: document 01, "Run but not proved",
-//! and the places where a slip is likely, orders 1 and 3 to 6 of document 02 among them.
+//! and the places where a slip is likely, orders 1 and 3 to 7 of document 02 among them.
 //!
 //!     vectors product    the list on the compiled product
 //!     vectors second     the list on the second program
@@ -82,6 +82,28 @@ fn packed(frames: &[Vec<u8>]) -> Vec<u8> {
 /// Frames of 20 bytes with these numbers. Each takes 16 bytes of an output.
 fn numbered(numbers: &[u16]) -> Vec<Vec<u8>> {
     numbers.iter().map(|&n| frame(20, tagged(n))).collect()
+}
+
+/// The frame with a PRP trailer of this kind behind it, whose size fits.
+fn with_trailer(bare: &[u8], number: u16, lan: u8, kind: u8) -> Vec<u8> {
+    let width = width(kind);
+    let at = if bare[12..14] == [0x81, 0x00] { 16 } else { 12 };
+    let size = (bare.len() - (at + 2) + width) as u16;
+    let ends = [number, u16::from(lan) << 12 | size, 0x88FB].map(u16::to_be_bytes);
+    [bare, &ends.concat()[..width]].concat()
+}
+
+/// Bytes of a PRP trailer.
+fn width(kind: u8) -> usize {
+    match kind {
+        0 => 4,
+        _ => 6,
+    }
+}
+
+/// A frame with these bytes behind its addresses.
+fn behind_addresses(bytes: &[u8]) -> Vec<u8> {
+    [&DESTINATION, &SOURCE, bytes].concat()
 }
 
 fn filled(mut head: Vec<u8>, length: usize) -> Vec<u8> {
@@ -230,6 +252,17 @@ fn told(answer: &Answer) -> String {
         Answer::Done => String::from("ok"),
         Answer::Ticked { resets, damaged } => format!("{} reset, {} damaged", resets, damaged),
         Answer::Tag { number, length } => format!("number {}, length {}", number, length),
+        Answer::Prp(ref a) => {
+            let told = format!(
+                "network {}, number {}, length {}",
+                a.network, a.number, a.length
+            );
+            // A refused one has its number alone, and is told above.
+            match a.refusal {
+                0 => told,
+                n => format!("no {}, and {}", n, told),
+            }
+        }
         Answer::Batch(ref batch) => {
             let frames = batch.answers.iter().map(Answer::of_frame);
             let frames: Vec<String> = frames
@@ -385,6 +418,23 @@ impl<S: Side> List<S> {
     fn send(&mut self, what: &str, frame: &[u8], rooms: [usize; 2]) {
         let what = format!("send, {}, outputs of {} and {}", what, rooms[0], rooms[1]);
         self.call_with(&what, Call::Send { frame }, rooms);
+    }
+
+    fn turn_from_prp(&mut self, what: &str, kind: u8, frame: &[u8], room: usize) {
+        let line = ["first edition", "2012"][usize::from(kind != 0)];
+        let what = format!("from PRP, {}, {}, output of {}", line, what, room);
+        self.call(&what, Call::FromPrp { frame, kind }, room);
+    }
+
+    fn turn_to_prp(&mut self, what: &str, network: u8, kind: u8, frame: &[u8], room: usize) {
+        let line = ["first edition", "2012"][usize::from(kind != 0)];
+        let what = format!("to PRP, {}, {}, output of {}", line, what, room);
+        let call = Call::ToPrp {
+            frame,
+            network,
+            kind,
+        };
+        self.call(&what, call, room);
     }
 
     // ---- the list
@@ -1117,6 +1167,246 @@ impl<S: Side> List<S> {
         self.send("14 bytes, plain", &plain, ample);
     }
 
+    fn prp_frames(&mut self) {
+        self.table(&[]);
+        let vlan = Tags {
+            vlan: Some(5),
+            ..PLAIN
+        };
+        let heads = [("plain", PLAIN), ("8100", vlan)];
+        self.section(
+            "PRP: both kinds, with and without 8100, and both networks, from PRP and to PRP",
+        );
+        for kind in [0, 1] {
+            for (name, tags) in heads {
+                for network in [0, 1] {
+                    let bare = frame(20, tags);
+                    let prp = with_trailer(&bare, 258, 0xA + network, kind);
+                    let what = format!("LAN {:X}, {}", 0xA + network, name);
+                    self.turn_from_prp(&what, kind, &prp, 40);
+                    let redundancy = Some((0, 258));
+                    let tagged = frame(26, Tags { redundancy, ..tags });
+                    let what = format!("network {}, {}", network, name);
+                    self.turn_to_prp(&what, network, kind, &tagged, 40);
+                }
+            }
+        }
+
+        self.section(
+            "PRP: lengths, with a good trailer where there is room for one, from PRP and to PRP",
+        );
+        for kind in [0, 1] {
+            for (name, tags) in heads {
+                let shortest = if tags.vlan.is_some() { 18 } else { 14 };
+                let short = [0, 3, 6, 13, 14, 16];
+                let edges = [0, 1, 2].map(|more| shortest + width(kind) + more - 1);
+                // A size of one byte, and of more.
+                let sizes = [255, 256].map(|size| shortest + size);
+                let long = [1994, 1995, 1997, 1998, 1999, 2000, 2001];
+                let lengths = short.into_iter().chain(edges).chain(sizes).chain(long);
+                for length in lengths {
+                    let prp = match length.checked_sub(width(kind)) {
+                        Some(bare) if bare >= shortest => {
+                            with_trailer(&frame(bare, tags), 7, 0xA, kind)
+                        }
+                        _ => frame(length, tags),
+                    };
+                    let what = format!("{} bytes, {}", length, name);
+                    self.turn_from_prp(&what, kind, &prp, 3000);
+                    let redundancy = Some((0, 7));
+                    let tagged = frame(length, Tags { redundancy, ..tags });
+                    self.turn_to_prp(&what, 0, kind, &tagged, 3000);
+                }
+            }
+        }
+
+        self.section(
+            "PRP: the trailer. The fitting size is 7 for the first edition and 9 for 2012",
+        );
+        let head = behind_addresses(&[8, 0, 1, 2, 3]);
+        for (what, kind, trailer) in [
+            ("LAN 0", 0, &[1, 2, 0x00, 7][..]),
+            ("LAN 8", 0, &[1, 2, 0x80, 7]),
+            ("LAN 9", 0, &[1, 2, 0x90, 7]),
+            ("LAN C", 0, &[1, 2, 0xC0, 7]),
+            ("LAN F", 0, &[1, 2, 0xF0, 7]),
+            ("size 6", 0, &[1, 2, 0xA0, 6]),
+            ("size 7", 0, &[1, 2, 0xA0, 7]),
+            ("size 8", 0, &[1, 2, 0xA0, 8]),
+            ("size 3, without the trailer", 0, &[1, 2, 0xA0, 3]),
+            ("size 9, with the type field", 0, &[1, 2, 0xA0, 9]),
+            ("size 21, the whole frame", 0, &[1, 2, 0xA0, 21]),
+            ("size 263", 0, &[1, 2, 0xA1, 7]),
+            ("size 2055", 0, &[1, 2, 0xA8, 7]),
+            ("low byte first", 0, &[1, 2, 7, 0xA0]),
+            ("a trailer of 2012", 0, &[1, 2, 0xA0, 9, 0x88, 0xFB]),
+            ("88FB as LAN and size", 0, &[1, 2, 0x88, 0xFB]),
+            ("LAN 9", 1, &[1, 2, 0x90, 9, 0x88, 0xFB]),
+            ("LAN B", 1, &[1, 2, 0xB0, 9, 0x88, 0xFB]),
+            ("LAN C", 1, &[1, 2, 0xC0, 9, 0x88, 0xFB]),
+            ("size 8", 1, &[1, 2, 0xA0, 8, 0x88, 0xFB]),
+            ("size 9", 1, &[1, 2, 0xA0, 9, 0x88, 0xFB]),
+            ("size 10", 1, &[1, 2, 0xA0, 10, 0x88, 0xFB]),
+            ("size 7, without 88FB", 1, &[1, 2, 0xA0, 7, 0x88, 0xFB]),
+            (
+                "size 3, without the trailer",
+                1,
+                &[1, 2, 0xA0, 3, 0x88, 0xFB],
+            ),
+            ("88FA at the end", 1, &[1, 2, 0xA0, 9, 0x88, 0xFA]),
+            ("89FB at the end", 1, &[1, 2, 0xA0, 9, 0x89, 0xFB]),
+            ("FB88 at the end", 1, &[1, 2, 0xA0, 9, 0xFB, 0x88]),
+            ("88FB in front", 1, &[0x88, 0xFB, 1, 2, 0xA0, 9]),
+            ("a trailer of the first edition", 1, &[1, 2, 0xA0, 7]),
+            ("the number F1C1", 1, &[0xF1, 0xC1, 0xA0, 9, 0x88, 0xFB]),
+        ] {
+            let prp = [&head[..], trailer].concat();
+            self.turn_from_prp(what, kind, &prp, 40);
+        }
+        let counted = [8, 0, 1, 2, 3, 0x70, 0x71, 0xA0];
+        for size in [3, 7, 11] {
+            let mut bytes = vec![0x81, 0, 0, 5];
+            bytes.extend_from_slice(&counted);
+            bytes.push(size);
+            let what = format!("8100, size {}", size);
+            self.turn_from_prp(&what, 0, &behind_addresses(&bytes), 40);
+        }
+
+        self.section("PRP: every setting is one of the two kinds");
+        let bare = frame(20, PLAIN);
+        for kind in [0, 1, 2, 128, 254, 255] {
+            let prp = with_trailer(&bare, 7, 0xB, kind);
+            let what = format!("setting {}", kind);
+            self.turn_from_prp(&what, kind, &prp, 40);
+            self.turn_to_prp(&what, 1, kind, &frame(26, tagged(7)), 40);
+        }
+    }
+
+    fn prp_edges(&mut self) {
+        self.table(&[]);
+        self.section("PRP: what stands behind the tag, to PRP and back");
+        for (what, bytes) in [
+            ("8100, 20 bytes", &[0xF1, 0xC1, 0, 0, 1, 2, 0x81, 0][..]),
+            (
+                "8100, 23 bytes",
+                &[0xF1, 0xC1, 0, 0, 1, 2, 0x81, 0, 0, 5, 8],
+            ),
+            (
+                "8100, 24 bytes",
+                &[0xF1, 0xC1, 0, 0, 1, 2, 0x81, 0, 0, 5, 8, 0],
+            ),
+            (
+                "8100 and F1C1",
+                &[0xF1, 0xC1, 0, 0, 1, 2, 0x81, 0, 0, 5, 0xF1, 0xC1],
+            ),
+            ("F1C1", &[0xF1, 0xC1, 0, 0, 1, 2, 0xF1, 0xC1]),
+            (
+                "8100 behind 8100",
+                &[0x81, 0, 0, 5, 0xF1, 0xC1, 0, 0, 1, 2, 0x81, 0],
+            ),
+            (
+                "F1C1 behind 8100",
+                &[0x81, 0, 0, 5, 0xF1, 0xC1, 0, 0, 1, 2, 0xF1, 0xC1],
+            ),
+            (
+                "0800, and reserved bytes",
+                &[0xF1, 0xC1, 0x81, 0, 1, 2, 8, 0],
+            ),
+        ] {
+            let f = behind_addresses(bytes);
+            for kind in [0, 1] {
+                self.turn_to_prp(what, 1, kind, &f, 40);
+                // What the call wrote, and back again.
+                let mut out = [BLANK; 40];
+                let call = Call::ToPrp {
+                    frame: &f,
+                    network: 1,
+                    kind,
+                };
+                if let Answer::Prp(told) = self.side.call(call, [&mut out, &mut []]) {
+                    let what = format!("{}, back", what);
+                    self.turn_from_prp(&what, kind, &out[..told.length], 40);
+                }
+            }
+        }
+
+        self.section("PRP: any source passes both ways");
+        for first in [0x00, 0x01, 0x03, 0xFE, 0xFF] {
+            let prp = with_trailer(&from_source(first, frame(14, PLAIN)), 7, 0xA, 1);
+            let what = format!("source {:02x}..", first);
+            self.turn_from_prp(&what, 1, &prp, 40);
+            self.turn_to_prp(&what, 0, 1, &from_source(first, frame(20, tagged(7))), 40);
+        }
+
+        self.section("PRP: outputs of just the size, one byte too small, larger, or of no bytes");
+        for kind in [0, 1] {
+            for length in [14, 1994] {
+                let bare = frame(length, PLAIN);
+                let prp = with_trailer(&bare, 7, 0xA, kind);
+                let what = format!("{} bytes", prp.len());
+                let needed = length + 6;
+                for room in [0, needed - 1, needed, needed + 1, 3000] {
+                    self.turn_from_prp(&what, kind, &prp, room);
+                }
+                let what = format!("{} bytes", needed);
+                let needed = prp.len();
+                for room in [0, needed - 1, needed, needed + 1, 3000] {
+                    self.turn_to_prp(&what, 0, kind, &frame(length + 6, tagged(7)), room);
+                }
+            }
+        }
+
+        self.section("PRP: each refusal with others that come behind it, and no room");
+        let f1c1 = [0xF1, 0xC1];
+        let with = |head: &[u8], length: usize| filled(behind_addresses(head), length);
+        for (what, kind, f) in [
+            ("3 and 13 and 16", 0, with(&f1c1, 1999)),
+            ("3 and 13 and 16", 1, with(&f1c1, 2001)),
+            ("3 and 16", 1, with(&[8, 0], 2001)),
+            ("4 and 13", 0, with(&f1c1, 17)),
+            ("4 and 13", 1, with(&f1c1, 19)),
+            ("4 and 13, 8100", 0, with(&[0x81, 0, 0, 5, 0xF1, 0xC1], 21)),
+            ("4 and 13, 8100", 1, with(&[0x81, 0, 0, 5, 0xF1, 0xC1], 23)),
+            (
+                "4 and a trailer over the type",
+                0,
+                behind_addresses(&[0, 7, 0xA0, 2]),
+            ),
+            (
+                "4 and a trailer over the VLAN tag",
+                0,
+                behind_addresses(&[0x81, 0, 0, 7, 0xA0, 4]),
+            ),
+            ("13 and 16", 0, with(&f1c1, 18)),
+            ("13 and 16", 1, with(&f1c1, 20)),
+            ("13 and 16, 8100", 1, with(&[0x81, 0, 0, 5, 0xF1, 0xC1], 24)),
+            ("13", 0, with_trailer(&with(&f1c1, 14), 7, 0xA, 0)),
+            ("16", 0, with(&[8, 0], 18)),
+            ("16", 1, with(&[8, 0], 20)),
+        ] {
+            self.turn_from_prp(what, kind, &f, 0);
+            self.turn_from_prp(what, kind, &f, 3000);
+        }
+        let tagged_head = [0xF1, 0xC1, 0, 0, 0, 7, 8, 0];
+        for (what, f) in [
+            ("3 and 5", with(&[8, 0], 2001)),
+            ("3", with(&tagged_head, 2001)),
+            ("4", with(&tagged_head, 13)),
+            ("4 and 5, 8100", with(&[0x81, 0, 0, 5, 8, 0], 17)),
+            ("4 and F1C1", with(&tagged_head, 19)),
+            ("5", with(&[8, 0], 14)),
+            ("the second 4", with(&[0xF1, 0xC1, 0, 0, 0, 7, 0x81, 0], 20)),
+            ("no other", with(&tagged_head, 20)),
+        ] {
+            for network in [0, 2, 255] {
+                for room in [0, 3000] {
+                    let what = format!("network {}, {}", network, what);
+                    self.turn_to_prp(&what, network, 1, &f, room);
+                }
+            }
+        }
+    }
+
     fn damage(&mut self) {
         self.section("Damaged records of every kind: each call on a table with that record alone");
         let state = |change: fn(&mut State)| {
@@ -1541,6 +1831,8 @@ fn run<S: Side>() -> List<S> {
     list.older_than_the_first();
     list.batches();
     list.sends();
+    list.prp_frames();
+    list.prp_edges();
     list
 }
 

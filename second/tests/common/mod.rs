@@ -138,6 +138,21 @@ pub fn with_tag(frame: &[u8], number: u16) -> Vec<u8> {
     [front, &[0xF1, 0xC1, 0, 0, high, low], behind].concat()
 }
 
+/// The frame with a PRP trailer of 4 or 6 bytes, put together from its parts.
+pub fn with_trailer(bare: &[u8], number: u16, lan: u8, width: usize) -> Vec<u8> {
+    let size = bare.len() - (type_place(bare) + 2) + width;
+    let [high, low] = number.to_be_bytes();
+    let trailer = [
+        high,
+        low,
+        lan << 4 | (size >> 8) as u8,
+        size as u8,
+        0x88,
+        0xFB,
+    ];
+    [bare, &trailer[..width]].concat()
+}
+
 /// The frame with another first source byte.
 pub fn from_source(first: u8, frame: &[u8]) -> Vec<u8> {
     let mut frame = frame.to_vec();
@@ -290,6 +305,45 @@ pub fn any_frame(random: &mut Random) -> Vec<u8> {
     match random.below(12) {
         0 => frame.truncate(random.pick(&[0, 5, 13, 14, 17, 18, 19, 20, 23, 24])),
         1 => frame.resize(random.pick(&[1994, 1995, 2000, 2001, 2010]), 0x44),
+        _ => {}
+    }
+    frame
+}
+
+/// A PRP frame, or one with a fault in it or none of the trailer.
+pub fn any_prp(random: &mut Random) -> Vec<u8> {
+    let mut bare = Vec::new();
+    bare.extend(random.pick(&DESTINATIONS));
+    bare.extend(SOURCE);
+    bare[6] = random.pick(&[2, 2, 2, 3]);
+    if random.chance(1, 2) {
+        bare.extend([0x81, 0x00, random.byte(), 5]);
+    }
+    let former = random.pick(&[[0x08, 0x00], [0x08, 0x00], [0xF1, 0xC1], [0x81, 0x00]]);
+    bare.extend(former);
+    let behind = match random.below(8) {
+        // At the limit, or with a size that needs more than one byte.
+        0 => 1990 + random.below(13) as usize - bare.len(),
+        1 => 250 + random.below(20) as usize,
+        _ => random.below(6) as usize,
+    };
+    bare.resize(bare.len() + behind, 0x33);
+    if type_place(&bare) + 2 > bare.len() {
+        // 8100 at 12 and nothing behind it.
+        bare.resize(18, 0x44);
+    }
+    let lan = random.pick(&[0xA, 0xB, 0xA, 0xB, 0xA, 0xB, 0x9, 0xC, 0x8, 0x0]);
+    let mut frame = with_trailer(&bare, random.word(), lan, random.pick(&[4, 6]));
+    let end = frame.len();
+    match random.below(8) {
+        0 => {
+            // One bit of the size, of LAN or of what stands behind.
+            let place = end - 1 - random.below(4) as usize;
+            frame[place] ^= 1 << random.below(8);
+        }
+        1 => frame.truncate(random.below(28) as usize),
+        2 => frame.truncate(end - random.pick(&[1, 2])),
+        3 => frame.push(0x33),
         _ => {}
     }
     frame
