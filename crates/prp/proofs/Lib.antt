@@ -1,3 +1,6 @@
 -- What the definitions come to by the code's tests, and the laws of the two calls.
 pub mod Trailers
 pub mod Turns
+pub mod Refusals
+pub mod RoundTrips
+pub mod Computed

@@ -1,2 +1,4 @@
 pub mod Prp
 pub mod Refusals
+pub mod RoundTrips
+pub mod Example

@@ -13,7 +13,9 @@ use Rattle.refusal.specs.Numbers.{NETWORK, LONG, SHORT, UNTAGGED, ROOM, TAGGED,
 use Rattle.record.specs.Sizes.{frameMost}
 use Rattle.frame.specs.Frame.{hasVlan, headShort, untagged}
 use Rattle.frame.specs.Refusals.{tooLong, short, noTag, tooSmall, carriesTag}
-use Rattle.prp.specs.Prp.{Trailer, widthOf, wears, fromPrp, toPrp}
+use Rattle.frame.specs.TagCalls.{Outcome}
+use Rattle.prp.specs.declared.Turned.{Turned}
+use Rattle.prp.specs.Prp.{Trailer, Told, widthOf, wears, fromPrp, toPrp, saidTurned}
 
 -- 4: "shorter than its header and trailer together"; the header has 14 bytes, and 18 if 8100 stands at 12
 abbrev pub prpShort : Trailer → (f : List ℕ) → Bool
@@ -53,6 +55,12 @@ FromRefusedKeeps = (k : Trailer) (f out : List ℕ) (n : ℕ) → fromPrp k f ou
 
 abbrev pub ToRefusedKeeps : Type 0
 ToRefusedKeeps = (k : Trailer) (network : ℕ) (f out : List ℕ) (n : ℕ) → toPrp k network f out .said ≡ refused n → toPrp k network f out .bytes ≡ out
+
+-- Two outcomes that meet a contract coincide: answer and output bytes.
+abbrev pub TurnsCoincide : Type 0
+TurnsCoincide =
+    (o : Outcome Told) (r s : Turned) (x y : List ℕ)
+    → (saidTurned r ≡ o .said) × (x ≡ o .bytes) → (saidTurned s ≡ o .said) × (y ≡ o .bytes) → (r ≡ s) × (x ≡ y)
 
 -- 14 is in neither list: a group source passes both ways.
 abbrev pub NeverGroup : Type 0
