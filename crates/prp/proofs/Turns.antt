@@ -3,9 +3,9 @@ use mathlib.Core.Path.{_≡_, refl, sym, ap, _∙_}
 use Prim.Native.Nat.{ℕ, _+_, _-_, _≤_, _<_}
 use native.Mathlib.Omega.{arith}
 use mathlib.Core.Bool.{Bool, true, false, cond, not}
-use mathlib.Core.List.{List, _++_}
-use lib.ListN.{length, take, length-append}
-use lib.Seq.{length-take-le}
+use mathlib.Core.List.{List, _++_, append-assoc}
+use lib.ListN.{length, take, drop, length-append, length-drop, take-append-drop}
+use lib.Seq.{length-take-le, drop-at}
 use lib.Dec.{ltb, eqb}
 use borrow.Author.Tests.{lt-ltb, le-ltb, ltb-true}
 use borrow.Rule.Slice.PartMut.{midOf, putMid}
@@ -21,7 +21,7 @@ use Rattle.frame.specs.declared.TagRead.{TagRead}
 use Rattle.frame.specs.declared.TagRead.the-variants.{Refused, Tagged}
 use Rattle.frame.proofs.Bytes.{tail-over}
 use Rattle.frame.proofs.Heads.{type-least, head-short, head-cut, head-whole, HeadIs, TagIs, tag-is}
-use Rattle.frame.proofs.Words.{word-take}
+use Rattle.frame.proofs.Words.{word-take, Place, plain, vlan, place}
 use Rattle.frame.proofs.TakeThenPut.{cut-length}
 use Rattle.frame.proofs.Writes.{type-place, with-fits, without-fits, tag-length}
 use Rattle.prp.specs.Prp.{Trailer, Turn, widthOf, trailerBytes, endAt, numberAt, lanAt, lanOf, networkOf, afterType, wears, bodyOf, fromOf, trailed, toAsRead, toOf, turnInto, fromPrp, toPrp}
@@ -38,6 +38,14 @@ module _ (o : ℕ) (f : List ℕ) where
   tagged-front h =
       let t = type-least f in
       rw (type-front (omega arith)) (ap (λ (w : ℕ). eqb w 0xF1C1) (word-take o f (typeAt f) h))
+
+-- where a type field can stand
+pub type-other : (f : List ℕ) → (typeAt f ≡ 12 → ⊥) → typeAt f ≡ 16
+type-other f n = go (place f)
+  where
+    go : Place f → typeAt f ≡ 16
+    go (plain p q v) = absurd (n q)
+    go (vlan p q v) = q
 
 -- so what is read of it is read of the frame
 pub body-head : (k : Trailer) (f : List ℕ) {e : ℕ} (h : Header) → e ≡ length f - widthOf k → 14 + widthOf k ≤ length f → HeadIs (take e f) h
@@ -144,12 +152,24 @@ module _ (k : Trailer) (f out : List ℕ) where
 
 -- ---- to PRP
 
+trailer-length : (k : Trailer) (n l s : ℕ) → length (trailerBytes k n l s) ≡ widthOf k
+unfolding trailerBytes widthOf
+trailer-length k n l s = omega arith
+
+-- what is written over a front of the same length keeps what follows it
+over-front : (g p x d : List ℕ) → length g ≡ length p → overlay g (overlay (p ++ x) d) ≡ overlay (g ++ x) d
+unfolding overlay
+over-front g p x d e =
+    let r : drop (length g) ((p ++ x) ++ drop (length (p ++ x)) d) ≡ x ++ drop (length (p ++ x)) d = rw (append-assoc p x (drop (length (p ++ x)) d)) (drop-at p _ (length g) (sym e)) in
+    let s : length (p ++ x) ≡ length (g ++ x) = simp length-append (omega arith) in
+    rw (r, s) (sym (append-assoc g x (drop (length (g ++ x)) d)))
+
 abbrev pub toTurn : Trailer → (network number : ℕ) → List ℕ → Turn
 toTurn k w n f = record { network = w; number = n; frame = trailed k w n (untagged f) }
 
 pub trailed-length : (k : Trailer) (w n : ℕ) (g : List ℕ) → length (trailed k w n g) ≡ length g + widthOf k
-unfolding trailed trailerBytes widthOf
-trailed-length k w n g = simp length-append (omega arith)
+unfolding trailed
+trailed-length k w n g = simp length-append (ap (λ (l : ℕ). length g + l) (trailer-length k n (lanOf w) (afterType g + widthOf k)))
 
 module _ (k : Trailer) (w : ℕ) (f : List ℕ) where
   pub to-network : 1 < w → toOf k w f ≡ refused NETWORK
@@ -180,19 +200,22 @@ module _ (k : Trailer) (w : ℕ) (f : List ℕ) where
         pub to-length : length (trailed k w n (untagged f)) ≡ length f - 6 + widthOf k
         to-length = trailed-length k w n (untagged f) ∙ ap (λ (l : ℕ). l + widthOf k) bare-length
 
-        -- the bare frame is written, then the trailer behind it
-        pub to-written : {o s b : ℕ} (out : List ℕ) {x y : List ℕ} → o ≡ h .at → b ≡ length f - 6 → s ≡ length f - 6 + widthOf k - (typeAt (untagged f) + 2) → length f - 6 + widthOf k ≤ length out
-            → x ≡ writtenWithout f o out → y ≡ overlay (trailerBytes k n (lanOf w) s) (midOf b (length x - b) x)
-            → putMid b (length x - b) x y ≡ overlay (trailed k w n (untagged f)) out
-        unfolding trailed afterType
-        to-written {o} {s} {b} out {x} {y} at len size fits e g =
+        -- the trailer is written behind the room for the bare frame, then the frame before it
+        pub to-written : {o s b : ℕ} (out : List ℕ) {y z : List ℕ} → o ≡ h .at → b ≡ length f - 6 → s ≡ length f - 6 + widthOf k - (typeAt (untagged f) + 2) → length f - 6 + widthOf k ≤ length out
+            → y ≡ overlay (trailerBytes k n (lanOf w) s) (midOf b (length out - b) out) → z ≡ writtenWithout f o (putMid b (length out - b) out y)
+            → z ≡ overlay (trailed k w n (untagged f)) out
+        unfolding trailed afterType overlay
+        to-written {o} {s} {b} out {y} {z} at len size fits g e =
             let i = is in
-            let u : writtenWithout f (typeAt f) out ≡ overlay (cutAt f (typeAt f)) out = without-fits f (typeAt f) out (type-place f) (omega arith) (i .few) (omega arith) in
-            let z : s ≡ length (untagged f) - (typeAt (untagged f) + 2) + widthOf k = omega (arith, bare-length) in
-            tail-over b (untagged f) (trailerBytes k n (lanOf w) (length (untagged f) - (typeAt (untagged f) + 2) + widthOf k)) out
-            (bare-length ∙ sym len)
-            (e ∙ ap (λ (m : ℕ). writtenWithout f m out) (at ∙ i .at) ∙ u)
-            (g ∙ ap (λ (m : ℕ). overlay (trailerBytes k n (lanOf w) m) (midOf b (length x - b) x)) z)
+            let tr : List ℕ = trailerBytes k n (lanOf w) (length (untagged f) - (typeAt (untagged f) + 2) + widthOf k) in
+            let x : List ℕ = putMid b (length out - b) out y in
+            let p : length (take b out) ≡ b = length-take-le b out (omega arith) in
+            let q : s ≡ length (untagged f) - (typeAt (untagged f) + 2) + widthOf k = omega (arith, bare-length) in
+            let d : out ≡ overlay (take b out) out = sym (rw p (take-append-drop b out)) in
+            let t : x ≡ overlay (take b out ++ tr) out = tail-over b (take b out) tr out p d (g ∙ ap (λ (m : ℕ). overlay (trailerBytes k n (lanOf w) m) (midOf b (length out - b) out)) q) in
+            let l : length x ≡ length out = ap length t ∙ simp (length-append, length-drop) (omega (arith, p, trailer-length k n (lanOf w) (length (untagged f) - (typeAt (untagged f) + 2) + widthOf k))) in
+            let u : writtenWithout f (typeAt f) x ≡ overlay (cutAt f (typeAt f)) x = without-fits f (typeAt f) x (type-place f) (omega arith) (i .few) (omega arith) in
+            e ∙ ap (λ (m : ℕ). writtenWithout f m x) (at ∙ i .at) ∙ u ∙ ap (overlay (untagged f)) t ∙ over-front (untagged f) (take b out) tr out (bare-length ∙ sym len ∙ sym p)
 
 module _ (k : Trailer) (w : ℕ) (f out : List ℕ) where
   pub to-refuses : (n : ℕ) → toOf k w f ≡ refused n → (refused n ≡ toPrp k w f out .said) × (out ≡ toPrp k w f out .bytes)

@@ -67,37 +67,38 @@ fn ends_so(frame: &[u8], kind: Kind) -> bool
     }
 }
 
-// Does a frame with its type field at a place have a trailer of this kind, with a fitting size and a LAN of A or B?
-fn has_trailer(frame: &[u8], at: usize, kind: Kind) -> bool
+// Does a frame with its type field at a place have a trailer of this kind at its end, with a fitting size and a LAN of A or B?
+fn has_trailer(frame: &[u8], at: usize, end: usize, kind: Kind) -> bool
     requires { ⌜ at ≡ typeAt (now frame) ⌝ }
     requires { ⌜ at + 2 + widthOf (trailerOf kind) ≤ length (now frame) ⌝ }
+    requires { ⌜ end ≡ endAt (trailerOf kind) (now frame) ⌝ }
     ensures { λ r. ⌜ r ≡ wears (trailerOf kind) (now (frame .entry)) ⌝ }
 {
-    let n = frame.len();
-    let end = n - width(kind);
     let both = word_at(frame, end + 2);
     if !is_lan(both / 4096) {
         return false;
     }
-    if (both % 4096) as usize != n - (at + 2) {
+    if (both % 4096) as usize != frame.len() - (at + 2) {
         return false;
     }
     ends_so(frame, kind)
 }
 
-// From PRP: the tagged frame, at the start of out.
+// From PRP: the tagged frame, at the start of out. No frame is both short and too long, so that the order of the first two tests
+// is open: like this the compiler knows the frame's length where it is written, and with a constant for the place the front is
+// one or two moves.
 pub fn from_prp(frame: &[u8], kind: Kind, out: &mut [u8]) -> Turned
     ensures { λ r. ⌜ saidTurned r ≡ fromPrp (trailerOf kind) (now (frame .entry)) (now (out .entry)) .said ⌝ }
     ensures { λ _. ⌜ now (out .exit) ≡ fromPrp (trailerOf kind) (now (frame .entry)) (now (out .entry)) .bytes ⌝ }
 {
     let w = width(kind);
-    if frame.len() > Stream::UNTAGGED_MOST + w {
-        return Turned::Refused(refusal::LONG);
-    }
     if frame.len() < 14 + w {
         return Turned::Refused(refusal::SHORT);
     }
     let end = frame.len() - w;
+    if end > Stream::UNTAGGED_MOST {
+        return Turned::Refused(refusal::LONG);
+    }
     let Head::Whole(h) = frame::read_head(&frame[..end]) else {
         return Turned::Refused(refusal::SHORT);
     };
@@ -105,7 +106,7 @@ pub fn from_prp(frame: &[u8], kind: Kind, out: &mut [u8]) -> Turned
         return Turned::Refused(refusal::TAGGED);
     }
     let at = h.at;
-    if !has_trailer(frame, at, kind) {
+    if !has_trailer(frame, at, end, kind) {
         return Turned::Refused(refusal::TRAILER);
     }
     let len = end + 6;
@@ -114,7 +115,11 @@ pub fn from_prp(frame: &[u8], kind: Kind, out: &mut [u8]) -> Turned
     }
     let number = word_at(frame, end);
     let network = (word_at(frame, end + 2) / 4096 - 0xA) as u8;
-    frame::write_with(&frame[..end], at, number, out);
+    if at == 12 {
+        frame::write_with(&frame[..end], 12, number, out);
+        return Turned::Out(network, number, len);
+    }
+    frame::write_with(&frame[..end], 16, number, out);
     Turned::Out(network, number, len)
 }
 
@@ -192,7 +197,7 @@ pub fn to_prp(frame: &[u8], network: u8, kind: Kind, out: &mut [u8]) -> Turned
     if out.len() < len {
         return Turned::Refused(refusal::ROOM);
     }
-    frame::write_without(frame, at, out);
     write_trailer(kind, number, network, len - head, &mut out[bare..]);
+    frame::write_without(frame, at, out);
     Turned::Out(network, number, len)
 }

@@ -76,9 +76,6 @@ returns-4 c =
     to-small k (a .network) f (a .out .now) (toTurn k (a .network) (g .got .given .0 .1 .0) f) (to-is k (a .network) f (r .before .if1 .left) _ _ (r .read-tag .ensures) (g .got .given .1) room)
     (omega (arith, to-length k (a .network) f (r .before .if1 .left) _ _ (r .read-tag .ensures) (g .got .given .1) room, c .before .width .ensures, c .if3 .taken))
 
-write-without-requires : tie.Need-write-without-requires
-write-without-requires c κs = search needs
-
 sub-write-trailer : tie.Need-sub-write-trailer
 sub-write-trailer c = search needs
 
@@ -93,11 +90,15 @@ part-write-trailer-end c = search needs
 
 write-trailer-requires : tie.Need-write-trailer-requires
 write-trailer-requires c κs =
-    let g = c .before .before .before .before .before .before .before .before .before .before in
+    let g = c .before .before .before .before .before .before in
     let k = known g in
-    let w = c .before .before .before .before .before .before in
-    let i = width-is (c .before .before .before .before .before .before .before .before .before .before .before .before .before .before .before .before .args .kind) in
-    (c .before .before .before .before .before .before .before .before .before .before .before .before .before .if1 .left, (omega (arith, k .few, w .width .ensures), simp (length-take, length-drop) (omega (arith, width-last (trailerOf (c .before .before .before .before .before .before .before .before .before .before .before .before .before .before .before .before .args .kind)), w .width .ensures, c .before .before .before .before .before .if3 .left))))
+    let w = c .before .before in
+    let a = c .before .before .before .before .before .before .before .before .before .before .before .before .args in
+    let i = width-is (a .kind) in
+    (c .before .before .before .before .before .before .before .before .before .if1 .left, (omega (arith, k .few, w .width .ensures), simp (length-take, length-drop) (omega (arith, width-last (trailerOf (a .kind)), w .width .ensures, c .before .if3 .left))))
+
+write-without-requires : tie.Need-write-without-requires
+write-without-requires c κs = search needs
 
 same-length : tie.Need-same-length
 same-length c = search needs
@@ -119,8 +120,8 @@ returns-5 c =
     (to-written k (a .network) f (r .before .if1 .left) _ _ (r .read-tag .ensures) (g .got .given .1) room (a .out .now) refl refl
     (omega (arith, w .width .ensures, bare-type (w .before .before)))
     (omega (arith, w .width .ensures, e .if3 .left))
-    (c .before .before .before .before .before .before .write-without .ensures)
-    (c .before .before .write-trailer .ensures))
+    (c .before .before .before .before .before .before .write-trailer .ensures)
+    (c .before .before .write-without .ensures))
 
 pub to-prp-spec : {M : Type 1} → statement M
 to-prp-spec =
@@ -139,11 +140,11 @@ to-prp-spec =
     width-requires
     add-len
     returns-4
-    write-without-requires
     sub-write-trailer
     sub-write-trailer-2
     part-write-trailer-start
     part-write-trailer-end
     write-trailer-requires
+    write-without-requires
     same-length
     returns-5)
