@@ -25,7 +25,7 @@ enum { BETWEEN = 256, PAUSE = 100000 };
 // The frame's bytes before the index: two addresses, a VLAN tag if there is one, the type 88B5 hex of local experiments.
 enum { INDEX_BYTES = 8, LONGEST_HEAD = TYPE_AT + VLAN_TAG + 2 };
 
-// The bytes of a frame on the wire, without its frame check sequence; and the bytes of a PRP trailer: number, LAN and size, and
+// The least bytes of a frame that a card sends, without the frame check sequence; and the bytes of a PRP trailer: number, LAN and size, and
 // 88FB with the kind of 2012.
 enum { CARD_LEAST = 60, TRAILER_FIRST = 4, TRAILER_2012 = 6 };
 
