@@ -84,6 +84,13 @@ struct settings read_settings(const char *text)
     return s;
 }
 
+int read_prp(const char *text)
+{
+    if (strcmp(text, "first") == 0) return NIPPITSUN_PRP_FIRST;
+    if (strcmp(text, "2012") == 0) return NIPPITSUN_PRP_2012;
+    refuse("--prp is first or 2012");
+}
+
 // By number. One that is not here is no refusal.
 static const char *const refusals[] = {
     [NIPPITSUN_REFUSED_TABLE] = "the table has more than 64 slots",
@@ -101,6 +108,7 @@ static const char *const refusals[] = {
     [NIPPITSUN_REFUSED_TAGGED] = "frame already carries F1C1",
     [NIPPITSUN_REFUSED_GROUP] = "group source address",
     [NIPPITSUN_REFUSED_BATCH] = "count above 32, or lengths that run past the buffer",
+    [NIPPITSUN_REFUSED_TRAILER] = "no trailer of the set kind with a fitting size and a LAN of A or B",
 };
 
 int is_refusal(unsigned number)

@@ -7,6 +7,9 @@
 // Networks, bytes of an Ethernet address, and the places and the type of document 01, "The frame".
 enum { NETWORKS = 2, ADDRESS = 6, TYPE_AT = 12, VLAN_TAG = 4, REDUNDANCY_TYPE = 0xF1C1 };
 
+// What stands for enum nippitsun_prp on a line that has tags and no trailers.
+enum { NO_PRP = -1 };
+
 // The settings of one open, as the command line gives them. The library judges them; here only what no such field can
 // hold is refused.
 struct settings {
@@ -31,6 +34,9 @@ void read_address(const char *text, uint8_t dest[ADDRESS]);
 
 // DEST,VLAN,RULE,L,R, or refuse.
 struct settings read_settings(const char *text);
+
+// The kind of trailer on a PRP line (enum nippitsun_prp): first or 2012, or refuse.
+int read_prp(const char *text);
 
 // Has a refusal this number?
 int is_refusal(unsigned number);

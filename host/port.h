@@ -36,8 +36,8 @@ struct port {
     int down; // the interface went down or away since this was last looked at
     int poor; // it was said that the kernel gives less room
     // Frames read, of them outgoing and without a stamp; frames that the kernel dropped for want of room; openings after the
-    // first.
-    uint64_t frames, outgoing, unstamped, dropped, reopened;
+    // first; on a PRP line, frames with the other network's LAN.
+    uint64_t frames, outgoing, unstamped, dropped, reopened, crossed;
 };
 
 // Lets the kernel stamp frames from now on, for as long as the program runs.

@@ -25,7 +25,8 @@ static const char usage[] =
     "  --open DEST,VLAN,RULE,L,R   a stream: address in hex, id, vector or match, window, reset time in ticks; again for more\n"
     "  --tick MS                   a tick every MS milliseconds (100)\n"
     "  --room KB                   what the kernel may hold for a port, in kilobytes (1024)\n"
-    "  --all                       no filter in the kernel: foreign frames are counted as refusals 5 and 6, or 14 with a group source; to look for a wrong key\n"
+    "  --prp first|2012            a PRP line, with trailers of the first edition or of 2012 in place of tags\n"
+    "  --all                       no filter in the kernel: foreign frames are counted as refusals 5 and 6 (16 and 6 with --prp), or 14 with a group source; to look for a wrong key\n"
     "  --alarm MS                  say so when a stream has arrivals on one network and for MS milliseconds none on the other (1000; 0: never)\n"
     "  --stats FILE                write all counters to FILE each second, in the text form that Prometheus reads\n"
     "  --quiet MS                  end after MS milliseconds without a frame\n"
@@ -38,7 +39,7 @@ enum give { LINES, RAW, NOT_AT_ALL };
 static nippitsun_stream table[NIPPITSUN_SLOTS_MOST];
 static struct port ports[NETWORKS];
 static struct order order;
-static struct report report = {.table = table, .ports = ports, .order = &order, .alarm = 1000000000};
+static struct report report = {.table = table, .ports = ports, .order = &order, .prp = NO_PRP, .alarm = 1000000000};
 static enum give give = LINES;
 static volatile sig_atomic_t asked_to_end, asked_to_say;
 
@@ -67,15 +68,31 @@ static void hand_up(nippitsun_arrival_answer a, const uint8_t *frame)
     }
 }
 
-static void call(int network)
+static void arrive(int network, const uint8_t *frame, size_t length)
 {
-    struct port *p = &ports[network];
-    const struct frame *f = &p->queue[p->head++];
-    if (f->outgoing) return;
     uint8_t out[NIPPITSUN_FRAME_MOST];
-    nippitsun_arrival_answer a = nippitsun_arrival(table, NIPPITSUN_SLOTS_MOST, (uint8_t)network, f->at, f->length, out, sizeof out);
+    nippitsun_arrival_answer a = nippitsun_arrival(table, NIPPITSUN_SLOTS_MOST, (uint8_t)network, frame, length, out, sizeof out);
     if (a.verdict == NIPPITSUN_VERDICT_HANDED_UP) hand_up(a, out);
     report_arrival(&report, a, network, order.time);
+}
+
+// A frame of a PRP line arrives on the network that LAN gives, whatever port it came on.
+static void arrive_by_lan(int port, const uint8_t *frame, size_t length)
+{
+    uint8_t tagged[NIPPITSUN_FRAME_MOST];
+    nippitsun_prp_answer a = nippitsun_from_prp(frame, length, (uint8_t)report.prp, tagged, sizeof tagged);
+    report_turn(&report, a, port);
+    if (a.refusal == 0) arrive(a.network, tagged, a.length);
+}
+
+// The first waiting frame of a port. It is turned here and no earlier: the order goes by the port that it came on.
+static void call(int port)
+{
+    struct port *p = &ports[port];
+    const struct frame *f = &p->queue[p->head++];
+    if (f->outgoing) return;
+    if (report.prp == NO_PRP) arrive(port, f->at, f->length);
+    else arrive_by_lan(port, f->at, f->length);
 }
 
 static int waits(const struct port *p)
@@ -151,7 +168,7 @@ struct option {
 static const struct option *find_option(const char *word, size_t length)
 {
     static const struct option options[] = {
-        {"--open", 'o', 1},  {"--tick", 't', 1},  {"--room", 'r', 1}, {"--all", 'a', 0},     {"--alarm", 'm', 1},
+        {"--open", 'o', 1},  {"--tick", 't', 1},  {"--room", 'r', 1}, {"--prp", 'p', 1},     {"--all", 'a', 0}, {"--alarm", 'm', 1},
         {"--stats", 's', 1}, {"--quiet", 'q', 1}, {"--give", 'g', 1}, {"--version", 'v', 0}, {"--help", 'h', 0},
     };
     for (size_t i = 0; i < sizeof options / sizeof options[0]; i++)
@@ -219,6 +236,7 @@ int main(int count, char **words)
             break;
         case 't': period = (int64_t)read_number("tick", value, 1, 3600000) * MILLISECOND; break;
         case 'r': settings.room = (int)read_number("room", value, 1, 1 << 20) << 10; break;
+        case 'p': report.prp = read_prp(value); break;
         case 'a': all = 1; break;
         case 'm': report.alarm = (int64_t)read_number("alarm", value, 0, 3600000) * MILLISECOND; break;
         case 's': report.file = value; break;
@@ -235,7 +253,7 @@ int main(int count, char **words)
     }
     if (interfaces != NETWORKS) say_usage(usage, 0);
     if (streams == 0) refuse("no stream: --open names one");
-    if (!all) settings.filter.len = filter_write(program, table);
+    if (!all) settings.filter.len = filter_write(program, table, report.prp);
     for (int i = 0; i < NETWORKS; i++)
         if (if_nametoindex(ports[i].interface) == 0) refuse("there is no interface '%s'", ports[i].interface);
     // One wire for both would make each frame its own twin. By number: an interface may have two names.

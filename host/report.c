@@ -16,6 +16,15 @@ static void say_slot(const struct report *r, const char *word, size_t slot)
     fprintf(stderr, "%s: slot %zu dest %012" PRIx64 " vlan %u: ", word, slot, r->table[slot].dest, r->table[slot].vlan);
 }
 
+void report_turn(struct report *r, nippitsun_prp_answer a, int port)
+{
+    r->refused[a.refusal]++;
+    if (a.refusal != 0 || a.network == port) return;
+    // Said once: with crossed cables it is so of every frame.
+    if (r->ports[port].crossed++ != 0) return;
+    fprintf(stderr, "warning: LAN %c came on the card for network %d, %s: are the cables crossed?\n", 'A' + a.network, port, r->ports[port].interface);
+}
+
 void report_arrival(struct report *r, nippitsun_arrival_answer a, int network, int64_t time)
 {
     r->refused[a.refusal]++;
@@ -78,7 +87,9 @@ void report_say(struct report *r)
         struct port *p = &r->ports[b];
         port_count_drops(p);
         fprintf(stderr, "network %d frames %" PRIu64 " outgoing %" PRIu64 " dropped %" PRIu64, b, p->frames, p->outgoing, p->dropped);
-        fprintf(stderr, " unstamped %" PRIu64 " reopened %" PRIu64 "\n", p->unstamped, p->reopened);
+        fprintf(stderr, " unstamped %" PRIu64 " reopened %" PRIu64, p->unstamped, p->reopened);
+        if (r->prp != NO_PRP) fprintf(stderr, " crossed %" PRIu64, p->crossed);
+        fprintf(stderr, "\n");
     }
     fprintf(stderr, "ticks %" PRIu64 " late %" PRIu64 " steps %" PRIu64 "\n", r->order->ticks, r->order->late, r->order->steps);
 }
@@ -180,6 +191,8 @@ static void write_all(FILE *f, const struct report *r)
     by_network(f, "dropped_total", "counter", "Frames that the kernel dropped for want of room.", (uint64_t[]){p[0].dropped, p[1].dropped});
     by_network(f, "unstamped_total", "counter", "Frames without the kernel's time stamp.", (uint64_t[]){p[0].unstamped, p[1].unstamped});
     by_network(f, "reopened_total", "counter", "Times an interface was there again.", (uint64_t[]){p[0].reopened, p[1].reopened});
+    if (r->prp != NO_PRP)
+        by_network(f, "crossed_total", "counter", "Frames with the other network's LAN in their trailer.", (uint64_t[]){p[0].crossed, p[1].crossed});
     by_network(f, "open", "gauge", "1 while the interface is there and open.", (uint64_t[]){p[0].socket >= 0, p[1].socket >= 0});
     alone(f, "ticks_total", "counter", "Ticks.", r->order->ticks);
     alone(f, "late_turns_total", "counter", "Turns that came late by more than a quarter of a tick.", r->order->late);

@@ -20,6 +20,7 @@ struct report {
     const nippitsun_stream *table;
     struct port *ports;
     const struct order *order;
+    int prp;          // the kind of trailer on the line (enum nippitsun_prp), or NO_PRP
     int64_t alarm;    // so long a silence is said; 0: none is
     const char *file; // for the counters; NULL: none
     int warned;       // it could not be written
@@ -27,6 +28,9 @@ struct report {
     uint64_t damaged;
     struct watch watch[NIPPITSUN_SLOTS_MOST];
 };
+
+// What turning a frame of a PRP line answered, and the port that it came on: a refusal, or a LAN that is not the port's.
+void report_turn(struct report *r, nippitsun_prp_answer a, int port);
 
 // A call's answer, and the order's time of it.
 void report_arrival(struct report *r, nippitsun_arrival_answer a, int network, int64_t time);

@@ -1,5 +1,6 @@
 // send: the frames of a stream on two network interfaces, numbered and tagged by the proved sender, with losses and skew; or of
-// many streams by the clock. Each frame carries its index, so that a test can tell which came through.
+// many streams by the clock; with tags, or with the trailers of a PRP line. Each frame carries its index, so that a test can tell
+// which came through.
 #include "clock.h"
 #include "host.h"
 #include "nippitsun.h"
@@ -24,6 +25,10 @@ enum { BETWEEN = 256, PAUSE = 100000 };
 // The frame's bytes before the index: two addresses, a VLAN tag if there is one, the type 88B5 hex of local experiments.
 enum { INDEX_BYTES = 8, LONGEST_HEAD = TYPE_AT + VLAN_TAG + 2 };
 
+// The least bytes of a frame that a card sends, without the frame check sequence; and the bytes of a PRP trailer: number, LAN and size, and
+// 88FB with the kind of 2012.
+enum { CARD_LEAST = 60, TRAILER_FIRST = 4, TRAILER_2012 = 6 };
+
 static const char usage[] =
     "usage: send [OPTION].. INTERFACE0 INTERFACE1\n"
     "  --dest DEST    destination address in hex (020000000001)\n"
@@ -33,6 +38,7 @@ static const char usage[] =
     "  --restart N    after every N indices the sender is reset: the next frame has number 0, and indices go on; and\n"
     "    --silent MS  nothing is sent for MS milliseconds before that (0)\n"
     "  --size N       bytes of a frame before the tag is put in (60)\n"
+    "  --prp KIND     a PRP line: trailers of the first edition (first) or of 2012 (2012) in place of tags\n"
     "  --network N    send on network N alone\n"
     "  --skew N       either network is ahead of the other by up to N indices (16)\n"
     "  --lossless     lose none; else each network loses one in 10, never both the same\n"
@@ -46,6 +52,7 @@ static const char usage[] =
 struct plan {
     uint8_t dest[ADDRESS];
     int vlan, lossless, alone; // alone: the only network; -1: both
+    int prp;                   // the kind of trailer (enum nippitsun_prp), or NO_PRP
     uint64_t first, indices, restart, skew, seed, streams, unequal; // restart: indices from one reset of the sender to the next
     int64_t every, apart, silent;
     size_t size;
@@ -113,6 +120,11 @@ static size_t tagged_length(const struct plan *p)
     return p->size + NIPPITSUN_TAG_LENGTH;
 }
 
+static size_t trailer_length(const struct plan *p)
+{
+    return p->prp == NIPPITSUN_PRP_FIRST ? TRAILER_FIRST : TRAILER_2012;
+}
+
 // Room for as many copies as can wait at once, so far as one network, or the first copies, can be ahead.
 static void make_room(const struct plan *p)
 {
@@ -145,8 +157,16 @@ static const uint8_t *copy_for(const struct plan *p, int network, uint64_t place
 static void send_copy(const struct plan *p, int network, const uint8_t *copy)
 {
     if (p->alone >= 0 && p->alone != network) return;
+    size_t length = tagged_length(p);
+    uint8_t turned[NIPPITSUN_FRAME_MOST];
+    if (p->prp != NO_PRP) {
+        nippitsun_prp_answer a = nippitsun_to_prp(copy, length, (uint8_t)network, (uint8_t)p->prp, turned, sizeof turned);
+        if (a.refusal != 0) refuse("to PRP: %u, %s", a.refusal, refusal_words(a.refusal));
+        copy = turned;
+        length = a.length;
+    }
     // A full queue is waited for: losses are chosen, not met.
-    while (send(ports[network], copy, tagged_length(p), 0) < 0) {
+    while (send(ports[network], copy, length, 0) < 0) {
         if (errno != ENOBUFS && errno != EAGAIN && errno != EINTR) fail("send");
         sleep_for(PAUSE);
     }
@@ -207,10 +227,10 @@ int main(int count, char **words)
         {"size", required_argument, NULL, 'z'},    {"network", required_argument, NULL, 'w'}, {"skew", required_argument, NULL, 'k'},
         {"lossless", no_argument, NULL, 'n'},      {"seed", required_argument, NULL, 's'},    {"every", required_argument, NULL, 'e'},
         {"apart", required_argument, NULL, 'a'},   {"streams", required_argument, NULL, 'm'}, {"unequal", required_argument, NULL, 'u'},
-        {"help", no_argument, NULL, 'h'},          {NULL, 0, NULL, 0},
+        {"prp", required_argument, NULL, 'p'},     {"help", no_argument, NULL, 'h'},          {NULL, 0, NULL, 0},
     };
     const uint64_t hour = UINT64_C(3600000000);
-    struct plan p = {{2, 0, 0, 0, 0, 1}, .vlan = -1, .alone = -1, .indices = 1000, .skew = 16, .seed = 1, .streams = 1, .size = 60};
+    struct plan p = {{2, 0, 0, 0, 0, 1}, .vlan = -1, .alone = -1, .prp = NO_PRP, .indices = 1000, .skew = 16, .seed = 1, .streams = 1, .size = 60};
     for (int o; (o = getopt_long(count, words, "", options, NULL)) != -1;) {
         switch (o) {
         case 'd': read_address(optarg, p.dest); break;
@@ -220,6 +240,7 @@ int main(int count, char **words)
         case 'r': p.restart = read_number("restart", optarg, 1, INT32_MAX); break;
         case 'q': p.silent = (int64_t)read_number("silent", optarg, 0, hour / 1000) * MILLISECOND; break;
         case 'z': p.size = read_number("size", optarg, LONGEST_HEAD + INDEX_BYTES, NIPPITSUN_UNTAGGED_MOST); break;
+        case 'p': p.prp = read_prp(optarg); break;
         case 'w': p.alone = (int)read_number("network", optarg, 0, NETWORKS - 1); break;
         case 'k': p.skew = read_number("skew", optarg, 1, 65535); break;
         case 'n': p.lossless = 1; break;
@@ -237,6 +258,8 @@ int main(int count, char **words)
     if (p.restart == 0 && p.silent != 0) refuse("--silent goes with --restart");
     if (p.restart >= p.indices) refuse("--restart %" PRIu64 " is never reached: --count is %" PRIu64, p.restart, p.indices);
     if (p.restart == 0) p.restart = p.indices;
+    // A card pads a frame of fewer bytes, behind the trailer, and its size then fits no more: so the frame is padded before.
+    if (p.prp != NO_PRP && p.size < CARD_LEAST - trailer_length(&p)) p.size = CARD_LEAST - trailer_length(&p);
     make_room(&p);
     // The network that is left out need not be there.
     for (int i = 0; i < NETWORKS; i++)

@@ -1,6 +1,6 @@
 // flood: frames on each interface at the highest rate that the machine gives, one thread an interface, until a signal or for
-// some time. They are foreign (untagged broadcasts), or frames of a stream with the redundancy tag and rising numbers, as its
-// sender or as a faulty tap sends them.
+// some time. They are foreign (untagged broadcasts, or untagged to a stream's address), or frames of a stream with the redundancy
+// tag and rising numbers, as its sender or as a faulty tap sends them.
 #include "clock.h"
 #include "host.h"
 #include "nippitsun.h"
@@ -21,6 +21,7 @@ enum { AT_ONCE = 64, INTERFACES = 4, SIZE = 60 };
 static const char usage[] =
     "usage: flood [OPTION].. INTERFACE..\n"
     "  --stream DEST,VLAN   frames of this stream with F1C1 and a number; without it untagged broadcasts\n"
+    "  --untagged           without F1C1 and a number: foreign frames to the stream's address\n"
     "  --reflected          with a group source\n"
     "  --count N            so many on each interface; without it until SIGTERM\n"
     "  --rate N             so many a second on each interface, in bursts of 64; without it as fast as can be\n"
@@ -34,7 +35,7 @@ struct line {
 };
 
 static uint8_t dest[ADDRESS] = {0xFF, 0xFF, 0xFF, 0xFF, 0xFF, 0xFF};
-static int vlan = -1, reflected;
+static int vlan = -1, untagged, reflected;
 static uint64_t most = UINT64_MAX, rate;
 static volatile sig_atomic_t asked_to_end;
 
@@ -61,7 +62,7 @@ static size_t make(uint8_t frame[SIZE + VLAN_TAG + NIPPITSUN_TAG_LENGTH])
     plain[at] = 0x88;
     plain[at + 1] = 0xB6;
     memcpy(frame, plain, length);
-    if (vlan >= 0) length = nippitsun_write_tag(plain, length, 0, frame, SIZE + VLAN_TAG + NIPPITSUN_TAG_LENGTH).length;
+    if (vlan >= 0 && !untagged) length = nippitsun_write_tag(plain, length, 0, frame, SIZE + VLAN_TAG + NIPPITSUN_TAG_LENGTH).length;
     // The writer takes no group source, so it is set behind the writer.
     if (reflected) frame[ADDRESS] |= 1;
     return length;
@@ -82,7 +83,7 @@ static void *send_all(void *given)
     size_t number_at = vlan > 0 ? TYPE_AT + VLAN_TAG + 4 : TYPE_AT + 4;
     int64_t start = clock_now();
     while (!asked_to_end && l->sent < most) {
-        for (int i = 0; vlan >= 0 && i < AT_ONCE; i++) {
+        for (int i = 0; vlan >= 0 && !untagged && i < AT_ONCE; i++) {
             frames[i][number_at] = (uint8_t)((l->sent + (uint64_t)i) >> 8);
             frames[i][number_at + 1] = (uint8_t)(l->sent + (uint64_t)i);
         }
@@ -100,8 +101,9 @@ static void *send_all(void *given)
 int main(int count, char **words)
 {
     static const struct option options[] = {
-        {"stream", required_argument, NULL, 's'}, {"reflected", no_argument, NULL, 'g'}, {"count", required_argument, NULL, 'c'},
-        {"rate", required_argument, NULL, 'r'},   {"help", no_argument, NULL, 'h'},      {NULL, 0, NULL, 0},
+        {"stream", required_argument, NULL, 's'}, {"untagged", no_argument, NULL, 'u'},  {"reflected", no_argument, NULL, 'g'},
+        {"count", required_argument, NULL, 'c'},  {"rate", required_argument, NULL, 'r'}, {"help", no_argument, NULL, 'h'},
+        {NULL, 0, NULL, 0},
     };
     for (int o; (o = getopt_long(count, words, "", options, NULL)) != -1;) {
         switch (o) {
@@ -113,6 +115,7 @@ int main(int count, char **words)
             vlan = (int)read_number("VLAN id", comma + 1, 0, NIPPITSUN_VLAN_MOST);
             break;
         }
+        case 'u': untagged = 1; break;
         case 'g': reflected = 1; break;
         case 'c': most = read_number("count", optarg, 1, INT64_MAX); break;
         case 'r': rate = read_number("rate", optarg, 1, 1000000000); break;

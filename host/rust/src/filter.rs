@@ -1,7 +1,8 @@
 //! The program that the kernel runs on each frame before it queues it (classic BPF, socket(7)). What it stops costs this
-//! program nothing: what the machine itself sends, and every frame that the library would refuse with 5 or 6 in any case.
+//! program nothing: what the machine itself sends, and every frame that the library would refuse with 5 or 6 in any case. On a
+//! PRP line: with 6, and with 16 for want of 88FB at the end.
 
-use crate::frame::{REDUNDANCY_TAG, TYPE_AT, VLAN_MARK, VLAN_TAG};
+use crate::frame::{Trailer, PRP_MARK, REDUNDANCY_TAG, TYPE_AT, VLAN_MARK, VLAN_TAG};
 
 /// `struct sock_filter`: where a comparison holds, `yes` instructions are passed over, else `no`.
 #[repr(C)]
@@ -19,7 +20,10 @@ pub type Key = (u64, u16);
 // The codes, with their names in linux/bpf_common.h: the accumulator A, and X beside it.
 const LOAD_WORD: u16 = 0x20; // BPF_LD | BPF_W | BPF_ABS
 const LOAD_HALF: u16 = 0x28; // BPF_LD | BPF_H | BPF_ABS
+const LOAD_HALF_AT_X: u16 = 0x48; // BPF_LD | BPF_H | BPF_IND
+const LOAD_LENGTH: u16 = 0x80; // BPF_LD | BPF_W | BPF_LEN
 const LOAD_NUMBER: u16 = 0x00; // BPF_LD | BPF_IMM
+const LESS: u16 = 0x14; // BPF_ALU | BPF_SUB | BPF_K
 const AND: u16 = 0x54; // BPF_ALU | BPF_AND | BPF_K
 const JUMP: u16 = 0x05; // BPF_JMP | BPF_JA
 const EQUAL: u16 = 0x15; // BPF_JMP | BPF_JEQ | BPF_K
@@ -55,36 +59,23 @@ const fn equal(k: u32, yes: u8, no: u8) -> Instruction {
     Instruction { code, yes, no, k }
 }
 
-/// Lets through what has F1C1 at the type field and one of these keys. A load from behind the frame's end stops the frame,
-/// as the library would, with refusal 4.
-pub fn program(keys: &[Key]) -> Vec<Instruction> {
-    let (mark, tag) = (u32::from(VLAN_MARK), u32::from(REDUNDANCY_TAG));
-    let (type_at, inner_at) = (TYPE_AT as u32, (TYPE_AT + VLAN_TAG) as u32);
+/// Lets through what has F1C1 at the type field and one of these keys; on a PRP line what has one of the keys, and with the
+/// trailer of 2012 only if it ends in 88FB. A load from behind the frame's end stops the frame, as the library would, with
+/// refusal 4.
+pub fn program(keys: &[Key], prp: Option<Trailer>) -> Vec<Instruction> {
     let mut program = vec![
         plain(LOAD_WORD, PACKET_TYPE),
-        equal(PACKET_OUTGOING, 6, 0), // to 8
-        // Mostly the card or the kernel has taken the VLAN tag out. It is put back before the library sees the frame.
-        plain(LOAD_WORD, VLAN_PRESENT),
-        equal(0, 5, 0), // to 9
-        plain(LOAD_WORD, VLAN_TPID),
-        equal(mark, 0, 2), // else to 8
-        plain(LOAD_HALF, type_at),
-        equal(tag, 9, 0), // to 17
-        plain(END, NONE), // 8
-        plain(LOAD_HALF, type_at),
-        equal(tag, 4, 0),  // to 15
-        equal(mark, 0, 2), // else to 14
-        plain(LOAD_HALF, inner_at),
-        equal(tag, 5, 0),      // to 19
-        plain(END, NONE),      // 14
-        plain(LOAD_NUMBER, 0), // 15: no VLAN tag is VLAN id 0
-        plain(JUMP, 3),        // to 20
-        plain(LOAD_WORD, VLAN_TCI),
-        plain(JUMP, 1), // to 20
-        plain(LOAD_HALF, type_at + 2),
-        plain(AND, VLAN_ID), // 20
-        plain(A_TO_X, 0),
+        equal(PACKET_OUTGOING, 0, 1),
+        plain(END, NONE),
     ];
+    if prp == Some(Trailer::Of2012) {
+        program.extend(ends_in_mark());
+    }
+    match prp {
+        None => program.extend(tagged()),
+        Some(_) => program.extend(any_type()),
+    }
+    program.extend([plain(AND, VLAN_ID), plain(A_TO_X, 0)]);
     for &(dest, vlan) in keys {
         program.extend([
             plain(LOAD_WORD, 2),
@@ -100,11 +91,70 @@ pub fn program(keys: &[Key]) -> Vec<Instruction> {
     program
 }
 
+/// F1C1 at the type field; then the VLAN tag is loaded, or 0. Mostly the card or the kernel has taken the tag out. It is put back
+/// before the library sees the frame.
+fn tagged() -> [Instruction; 18] {
+    let (mark, tag) = (u32::from(VLAN_MARK), u32::from(REDUNDANCY_TAG));
+    let (type_at, inner_at) = (TYPE_AT as u32, (TYPE_AT + VLAN_TAG) as u32);
+    [
+        plain(LOAD_WORD, VLAN_PRESENT),
+        equal(0, 5, 0), // to 7
+        plain(LOAD_WORD, VLAN_TPID),
+        equal(mark, 0, 2), // else to 6
+        plain(LOAD_HALF, type_at),
+        equal(tag, 9, 0), // to 15
+        plain(END, NONE), // 6
+        plain(LOAD_HALF, type_at),
+        equal(tag, 4, 0),  // to 13
+        equal(mark, 0, 2), // else to 12
+        plain(LOAD_HALF, inner_at),
+        equal(tag, 5, 0),      // to 17
+        plain(END, NONE),      // 12
+        plain(LOAD_NUMBER, 0), // 13: no VLAN tag is VLAN id 0
+        plain(JUMP, 3),        // to the end
+        plain(LOAD_WORD, VLAN_TCI),
+        plain(JUMP, 1), // to the end
+        plain(LOAD_HALF, type_at + 2),
+    ]
+}
+
+/// The last two bytes are 88FB. The first load stops what is too short to have a type.
+fn ends_in_mark() -> [Instruction; 7] {
+    [
+        plain(LOAD_HALF, TYPE_AT as u32),
+        plain(LOAD_LENGTH, 0),
+        plain(LESS, 2),
+        plain(A_TO_X, 0),
+        plain(LOAD_HALF_AT_X, 0),
+        equal(PRP_MARK.into(), 1, 0),
+        plain(END, NONE),
+    ]
+}
+
+/// The VLAN tag is loaded, or 0, whatever the type is. A tag with another mark is none to the library: put back, its mark is the
+/// frame's type.
+fn any_type() -> [Instruction; 11] {
+    let (mark, type_at) = (u32::from(VLAN_MARK), TYPE_AT as u32);
+    [
+        plain(LOAD_WORD, VLAN_PRESENT),
+        equal(0, 4, 0), // to 6
+        plain(LOAD_WORD, VLAN_TPID),
+        equal(mark, 0, 6), // else to 10
+        plain(LOAD_WORD, VLAN_TCI),
+        plain(JUMP, 5),            // to the end
+        plain(LOAD_HALF, type_at), // 6
+        equal(mark, 0, 2),         // else to 10
+        plain(LOAD_HALF, type_at + 2),
+        plain(JUMP, 1),        // to the end
+        plain(LOAD_NUMBER, 0), // 10
+    ]
+}
+
 #[cfg(test)]
 mod tests {
     use super::*;
     use crate::frame::put_back;
-    use nippitsun::{Receiver, Refusal, Settings, Stream};
+    use nippitsun::{archive, Receiver, Refusal, Settings, Stream};
 
     /// What the kernel has of a frame: its bytes, whose it is, and the VLAN tag that was taken out (mark and TCI).
     #[derive(Clone, Debug)]
@@ -142,6 +192,12 @@ mod tests {
                         None => return 0,
                     }
                 }
+                LOAD_HALF_AT_X => match load(frame, k.wrapping_add(x), 2) {
+                    Some(n) => a = n,
+                    None => return 0,
+                },
+                LOAD_LENGTH => a = frame.bytes.len() as u32,
+                LESS => a = a.wrapping_sub(k),
                 LOAD_NUMBER => a = k,
                 AND => a &= k,
                 JUMP => at += k as usize,
@@ -170,11 +226,8 @@ mod tests {
         receiver
     }
 
-    /// What comes through is what the library does not refuse with 5 or 6. Where it says 4, either is right. It looks at the
-    /// length and the source before the key, so for it one that is too long is cut, and one of a group gets another source.
-    fn hold_to_the_library(program: &[Instruction], library: &Receiver, frame: &Queued) -> bool {
-        let kept = run(program, frame);
-        assert!(kept == 0 || kept as usize > Stream::FRAME_MOST);
+    /// The frame with its VLAN tag put back, cut to so many bytes, and not from a group.
+    fn cut(frame: &Queued, most: usize) -> Vec<u8> {
         let mut room = vec![0; VLAN_TAG];
         room.extend_from_slice(&frame.bytes);
         let beside = frame.beside.map(|(mark, tci)| {
@@ -182,10 +235,19 @@ mod tests {
             [mark[0], mark[1], tci[0], tci[1]]
         });
         let whole = put_back(&mut room, frame.bytes.len(), beside);
-        let mut whole = whole[..whole.len().min(Stream::FRAME_MOST)].to_vec();
+        let mut whole = whole[..whole.len().min(most)].to_vec();
         if let Some(first) = whole.get_mut(6) {
             *first &= 0xFE;
         }
+        whole
+    }
+
+    /// What comes through is what the library does not refuse with 5 or 6. Where it says 4, either is right. It looks at the
+    /// length and the source before the key, so for it one that is too long is cut, and one of a group gets another source.
+    fn hold_to_the_library(program: &[Instruction], library: &Receiver, frame: &Queued) -> bool {
+        let kept = run(program, frame);
+        assert!(kept == 0 || kept as usize > Stream::FRAME_MOST);
+        let whole = cut(frame, Stream::FRAME_MOST);
         let mut out = [0; Stream::FRAME_MOST];
         match library.clone().arrival(0, &whole, &mut out) {
             Err(Refusal::Short) => {}
@@ -212,7 +274,7 @@ mod tests {
     #[test]
     fn as_the_library() {
         let keys = [(DEST, 100), (DEST, 0), (DEST + 1, 4094)];
-        let (program, library) = (program(&keys), receiver(&keys));
+        let (program, library) = (program(&keys, None), receiver(&keys));
         let types = [REDUNDANCY_TAG, VLAN_MARK, 0x88A8, 0x0800];
         let besides = [None, Some(VLAN_MARK), Some(0x88A8), Some(0x9100)];
         let (mut through, mut stopped) = (0, 0);
@@ -242,7 +304,7 @@ mod tests {
 
     #[test]
     fn what_goes_out_is_stopped() {
-        let program = program(&[(DEST, 0)]);
+        let program = program(&[(DEST, 0)], None);
         let came = |packet| Queued {
             bytes: frame(DEST, [REDUNDANCY_TAG, 0], 0, 60),
             packet,
@@ -258,7 +320,7 @@ mod tests {
     #[test]
     fn a_group_source_comes_through() {
         let keys = [(DEST, 100), (DEST, 0)];
-        let (program, library) = (program(&keys), receiver(&keys));
+        let (program, library) = (program(&keys, None), receiver(&keys));
         for (first, tci) in [(0x01, 100), (0xFF, 0), (0xFE, 0), (0x01, 101)] {
             let mut bytes = frame(DEST, [VLAN_MARK, REDUNDANCY_TAG], tci, 60);
             bytes[6] = first;
@@ -280,7 +342,7 @@ mod tests {
         let keys: Vec<Key> = (0..Stream::SLOTS_MOST as u16)
             .map(|n| (DEST + u64::from(n / 8), n % 8))
             .collect();
-        let (program, library) = (program(&keys), receiver(&keys));
+        let (program, library) = (program(&keys, None), receiver(&keys));
         // The kernel takes no longer one (BPF_MAXINSNS).
         assert!(program.len() <= 4096);
         let mut through = 0;
@@ -295,5 +357,171 @@ mod tests {
             }
         }
         assert_eq!(through, keys.len());
+    }
+
+    /// The size that fits a whole frame.
+    fn size_of(whole: &[u8]) -> usize {
+        let is_vlan = whole.get(12..14) == Some(&VLAN_MARK.to_be_bytes());
+        whole.len().wrapping_sub(if is_vlan { 18 } else { 14 })
+    }
+
+    /// Writes a trailer over the end.
+    fn end_in(frame: &mut [u8], kind: Trailer, lan: u16, size: usize) {
+        let mut trailer = vec![0, 7];
+        trailer.extend_from_slice(&(lan << 12 | size as u16 & 0xFFF).to_be_bytes());
+        if kind == Trailer::Of2012 {
+            trailer.extend_from_slice(&PRP_MARK.to_be_bytes());
+        }
+        if let Some(at) = frame.len().checked_sub(trailer.len()) {
+            frame[at..].copy_from_slice(&trailer);
+        }
+    }
+
+    /// What comes through has an open key, and with 2012 ends in 88FB, whatever else is wrong with it. The library tells the key
+    /// of the same frame with a length, a type and a trailer that it takes. Where it says 4, either is right.
+    fn hold_prp_to_the_library(
+        program: &[Instruction],
+        library: &Receiver,
+        kind: Trailer,
+        frame: &Queued,
+    ) -> bool {
+        let kept = run(program, frame);
+        assert!(kept == 0 || kept as usize > Stream::FRAME_MOST);
+        let mut whole = cut(frame, Stream::FRAME_MOST - 2);
+        let is_vlan = whole.get(12..14) == Some(&VLAN_MARK.to_be_bytes());
+        let type_at = if is_vlan { 16 } else { 12 };
+        if let Some(at) = whole.get_mut(type_at..type_at + 2) {
+            at.copy_from_slice(&[0x88, 0xB5]);
+        }
+        let size = size_of(&whole);
+        end_in(&mut whole, kind, 0xA, size);
+        let (mut turned, mut out) = ([0; Stream::FRAME_MOST], [0; Stream::FRAME_MOST]);
+        let answer = archive::from_prp(&whole, kind as u8, &mut turned);
+        if answer.refusal == Refusal::Short.number() {
+            return kept != 0;
+        }
+        assert_eq!(answer.refusal, 0, "{frame:?}");
+        let tagged = &turned[..answer.length];
+        let is_open = match library.clone().arrival(0, tagged, &mut out) {
+            Err(Refusal::Unknown) => false,
+            Err(refusal) => panic!("{refusal}"),
+            Ok(_) => true,
+        };
+        let ends = kind == Trailer::First || frame.bytes.ends_with(&PRP_MARK.to_be_bytes());
+        assert_eq!(kept != 0, is_open && ends, "{kind:?}, {frame:?}");
+        kept != 0
+    }
+
+    #[test]
+    fn a_prp_line_as_the_library() {
+        let keys = [(DEST, 100), (DEST, 0), (DEST + 1, 4094)];
+        let library = receiver(&keys);
+        for kind in [Trailer::First, Trailer::Of2012] {
+            let program = program(&keys, Some(kind));
+            let other = match kind {
+                Trailer::First => Trailer::Of2012,
+                Trailer::Of2012 => Trailer::First,
+            };
+            // Kind, LAN and size; or none at all.
+            let trailers = [
+                Some((kind, 0xA, 0_isize)),
+                Some((kind, 0xB, 0)),
+                Some((kind, 0x9, 0)),
+                Some((kind, 0xC, 0)),
+                Some((kind, 0xA, 1)),
+                Some((kind, 0xA, -1)),
+                Some((other, 0xA, 0)),
+                None,
+            ];
+            let (mut taken, mut through, mut stopped) = (0, 0, 0);
+            for dest in [DEST, DEST + 1, DEST ^ 1 << 47] {
+                for types in [
+                    [0x88B5, 0x0800],
+                    [REDUNDANCY_TAG, 0],
+                    [VLAN_MARK, 0x88B5],
+                    [VLAN_MARK, REDUNDANCY_TAG],
+                    [0x88A8, VLAN_MARK],
+                ] {
+                    for tci in [0, 100, 0xE064, 101, 4094] {
+                        for mark in [None, Some(VLAN_MARK), Some(0x88A8)] {
+                            for length in (0..=28).chain([60, 1514, 1994, 1998, 1999, 2001, 9000]) {
+                                for trailer in trailers {
+                                    let mut queued = Queued {
+                                        bytes: frame(dest, types, tci, length),
+                                        packet: 2,
+                                        beside: mark.map(|mark| (mark, tci)),
+                                    };
+                                    // The tag counts before the type field, beside the frame or in it.
+                                    let size = size_of(&cut(&queued, usize::MAX));
+                                    if let Some((kind, lan, off)) = trailer {
+                                        let size = size.wrapping_add(off as usize);
+                                        end_in(&mut queued.bytes, kind, lan, size);
+                                    }
+                                    let whole = cut(&queued, usize::MAX);
+                                    let mut out = [0; Stream::FRAME_MOST];
+                                    let answer = archive::from_prp(&whole, kind as u8, &mut out);
+                                    let passes =
+                                        hold_prp_to_the_library(&program, &library, kind, &queued);
+                                    match (passes, answer.refusal) {
+                                        (true, 0) => taken += 1,
+                                        (true, _) => through += 1,
+                                        (false, _) => stopped += 1,
+                                    }
+                                }
+                            }
+                        }
+                    }
+                }
+            }
+            let met = taken > 1000 && through > 1000 && stopped > 1000;
+            assert!(met, "{kind:?}: {taken}, {through}, {stopped}");
+        }
+    }
+
+    /// A frame of a PRP line that is let through, and how it must not end, or whose it must not be.
+    #[test]
+    fn a_prp_line_by_hand() {
+        let keys = [(DEST, 0)];
+        let ends = |last: &[u8]| {
+            let mut bytes = frame(DEST, [0x88B5, 0], 0, 60 - last.len());
+            bytes.extend_from_slice(last);
+            bytes
+        };
+        for (kind, last, packet, through) in [
+            (Trailer::Of2012, &[0xA0, 46, 0x88, 0xFB][..], 2, true),
+            (Trailer::Of2012, &[0xA0, 46, 0x88, 0xFA], 2, false),
+            (Trailer::Of2012, &[0xA0, 46, 0xFB, 0x88], 2, false),
+            (Trailer::Of2012, &[0x88, 0xFB, 0], 2, false),
+            (
+                Trailer::Of2012,
+                &[0xA0, 46, 0x88, 0xFB],
+                PACKET_OUTGOING,
+                false,
+            ),
+            (Trailer::First, &[0xA0, 46], 2, true),
+            (Trailer::First, &[0, 0], 2, true),
+            (Trailer::First, &[0xA0, 46], PACKET_OUTGOING, false),
+        ] {
+            let queued = Queued {
+                bytes: ends(last),
+                packet,
+                beside: None,
+            };
+            let kept = run(&program(&keys, Some(kind)), &queued);
+            assert_eq!(kept != 0, through, "{kind:?}, {last:?}, {packet}");
+        }
+        // Short ones, with nothing to load.
+        for kind in [Trailer::First, Trailer::Of2012] {
+            for length in 0..6 {
+                for beside in [None, Some((VLAN_MARK, 0))] {
+                    let queued = Queued {
+                        bytes: [0x88, 0xFB].repeat(3)[6 - length..].to_vec(),
+                        packet: 2,
+                        beside,
+                    };
+                    assert_eq!(run(&program(&keys, Some(kind)), &queued), 0);
+                }
+            }
+        }
     }
 }

@@ -15,7 +15,7 @@ mod trouble;
 
 use clock::Clock;
 use filter::Key;
-use nippitsun::{Arrival, Receiver, Stream, Verdict};
+use nippitsun::{archive, Arrival, Receiver, Stream, Verdict};
 use options::{Asked, Give, Options};
 use order::{Call, Order, Time};
 use port::{Port, Setup};
@@ -47,7 +47,8 @@ struct Host {
     silences: Silences,
     refused: Refused,
     damaged: u64,
-    /// Where the library writes a frame that it hands up.
+    /// Where the library writes a frame of a PRP line that it has turned, and one that it hands up.
+    tagged: Box<[u8; Stream::FRAME_MOST]>,
     out: Box<[u8; Stream::FRAME_MOST]>,
     up: BufWriter<Stdout>,
     stats_failed: bool,
@@ -74,12 +75,12 @@ impl Host {
                         .damaged;
                 }
                 Call::Frame {
-                    network,
+                    network: port,
                     place,
                     time,
                 } => {
                     taken += 1;
-                    self.arrival(network, place, time)?;
+                    self.arrival(port, place, time)?;
                 }
             }
         }
@@ -91,10 +92,27 @@ impl Host {
         Ok(taken)
     }
 
-    fn arrival(&mut self, network: usize, place: usize, time: Time) -> Result<(), Trouble> {
-        let frame = match self.ports[network].frame(place) {
+    /// A frame of a port. One of a PRP line is turned here and no earlier: the order goes by the port that it came on, and the
+    /// arrival is on the network that LAN gives.
+    fn arrival(&mut self, port: usize, place: usize, time: Time) -> Result<(), Trouble> {
+        let frame = match self.ports[port].frame(place) {
             Some(frame) => frame,
             None => return Ok(()),
+        };
+        let (network, frame) = match self.options.prp {
+            None => (port, frame),
+            Some(kind) => {
+                let turned = archive::from_prp(frame, kind as u8, &mut self.tagged[..]);
+                if turned.refusal != 0 {
+                    self.refused[usize::from(turned.refusal)] += 1;
+                    return Ok(());
+                }
+                let network = usize::from(turned.network);
+                if network != port {
+                    self.ports[port].count_crossed(network);
+                }
+                (network, &self.tagged[..turned.length])
+            }
         };
         let receiver = &mut self.options.receiver;
         match receiver.arrival(network as u8, frame, &mut self.out[..]) {
@@ -135,6 +153,7 @@ impl Host {
                 counts: self.ports[network].counts,
                 open: self.ports[network].is_open(),
             }),
+            prp: self.options.prp.is_some(),
             ticks: self.order.ticks,
             late: self.order.late,
             steps: self.order.steps,
@@ -237,13 +256,14 @@ fn keys(receiver: &Receiver) -> Vec<Key> {
 
 fn receive(options: Options) -> Result<(), Trouble> {
     let setup = Setup {
-        filter: (!options.all).then(|| filter::program(&keys(&options.receiver))),
+        filter: (!options.all).then(|| filter::program(&keys(&options.receiver), options.prp)),
         room: options.room_kb << 10,
     };
     let mut signals = Signals::hold().map_err(failed("signals"))?;
     let clock = Clock::new();
     let opened = clock.now();
     let ports = port::open_all(&options.interfaces, &setup)?;
+    let tagged = Box::new([0; Stream::FRAME_MOST]);
     let out = Box::new([0; Stream::FRAME_MOST]);
     let up = BufWriter::with_capacity(1 << 16, io::stdout());
     // A page that has to be fetched back from the disk is a stall. Without the right to lock so much the program goes on.
@@ -263,6 +283,7 @@ fn receive(options: Options) -> Result<(), Trouble> {
         ports,
         refused: [0; report::NUMBERS],
         damaged: 0,
+        tagged,
         out,
         up,
         stats_failed: false,

@@ -1,5 +1,6 @@
 //! The words of the command line. The library judges a stream's settings; here only what no such field can hold is refused.
 
+use crate::frame::Trailer;
 use crate::order::Time;
 use crate::trouble::Trouble;
 use nippitsun::{Receiver, Settings, Stream};
@@ -10,7 +11,8 @@ pub const USAGE: &str = "usage: receive-rust [OPTION].. INTERFACE0 INTERFACE1
   --open DEST,VLAN,RULE,L,R   a stream: address in hex, id, vector or match, window, reset time in ticks; again for more
   --tick MS                   a tick every MS milliseconds (100)
   --room KB                   what the kernel may hold for a port, in kilobytes (1024)
-  --all                       no filter in the kernel: foreign frames are counted as refusals 5 and 6, or 14 with a group source; to look for a wrong key
+  --prp first|2012            a PRP line, with trailers of the first edition or of 2012 in place of tags
+  --all                       no filter in the kernel: foreign frames are counted as refusals 5 and 6 (16 and 6 with --prp), or 14 with a group source; to look for a wrong key
   --alarm MS                  say so when a stream has arrivals on one network and for MS milliseconds none on the other (1000; 0: never)
   --stats FILE                write all counters to FILE each second, in the text form that Prometheus reads
   --quiet MS                  end after MS milliseconds without a frame
@@ -35,6 +37,8 @@ pub struct Options {
     pub receiver: Receiver,
     pub period: Time,
     pub room_kb: i32,
+    /// The trailer of a PRP line; none is a line with tags.
+    pub prp: Option<Trailer>,
     pub all: bool,
     /// In milliseconds; 0 is never.
     pub alarm_ms: Time,
@@ -62,6 +66,7 @@ pub fn read(
     let mut only_interfaces = false;
     let mut period = 100 * MILLISECOND;
     let mut room_kb = 1024;
+    let mut prp = None;
     let mut all = false;
     let mut alarm_ms = 1000;
     let mut stats = None;
@@ -87,6 +92,7 @@ pub fn read(
             "--open" => open(&mut receiver, &value()?, &mut warn)?,
             "--tick" => period = read_number("tick", &value()?, 1, HOUR_IN_MS)? * MILLISECOND,
             "--room" => room_kb = read_number("room", &value()?, 1, 1 << 20)?,
+            "--prp" => prp = Some(read_prp(&value()?)?),
             "--alarm" => alarm_ms = read_number("alarm", &value()?, 0, HOUR_IN_MS)?,
             "--stats" => stats = Some(value()?.into()),
             "--quiet" => {
@@ -113,6 +119,7 @@ pub fn read(
         receiver,
         period,
         room_kb,
+        prp,
         all,
         alarm_ms,
         stats,
@@ -178,6 +185,14 @@ fn read_address(text: &str) -> Result<[u8; 6], String> {
     }
 }
 
+fn read_prp(text: &str) -> Result<Trailer, String> {
+    match text {
+        "first" => Ok(Trailer::First),
+        "2012" => Ok(Trailer::Of2012),
+        _ => Err("--prp is first or 2012".to_string()),
+    }
+}
+
 fn read_give(text: &str) -> Result<Give, String> {
     match text {
         "lines" => Ok(Give::Lines),
@@ -228,8 +243,8 @@ mod tests {
         let o = options(&format!("{OPEN} a b"));
         assert_eq!((o.period, o.room_kb, o.alarm_ms), (100_000_000, 1024, 1000));
         assert_eq!(
-            (o.all, o.give, o.stats, o.quiet),
-            (false, Give::Lines, None, None)
+            (o.prp, o.all, o.give, o.stats, o.quiet),
+            (None, false, Give::Lines, None, None)
         );
         assert_eq!(o.interfaces, ["a", "b"]);
         let stream = o.receiver.records()[0];
@@ -239,14 +254,17 @@ mod tests {
     #[test]
     fn every_option() {
         let o = options(&format!(
-            "a {OPEN} --open 020000000001,0,match,2,1 --tick=10 --room 8 --all --alarm 0 b --stats f --quiet 9 --give raw"
+            "a {OPEN} --open 020000000001,0,match,2,1 --tick=10 --room 8 --prp 2012 --all --alarm 0 b --stats f --quiet 9 --give raw"
         ));
         assert_eq!((o.period, o.room_kb, o.alarm_ms), (10_000_000, 8, 0));
         assert_eq!((o.all, o.give, o.quiet), (true, Give::Raw, Some(9_000_000)));
+        assert_eq!(o.prp, Some(Trailer::Of2012));
         assert_eq!(
             (o.stats, o.interfaces),
             (Some("f".into()), ["a".into(), "b".into()])
         );
+        let first = options(&format!("{OPEN} --prp=first a b"));
+        assert_eq!(first.prp, Some(Trailer::First));
     }
 
     #[test]
@@ -290,6 +308,8 @@ mod tests {
         for (line, said) in [
             ("a b", "no stream: --open names one"),
             ("--give x", "--give is lines, raw or nothing"),
+            ("--prp 2010", "--prp is first or 2012"),
+            ("--prp=", "--prp is first or 2012"),
             ("--tick 0", "tick '0' is no number from 1 to 3600000"),
             ("--tick +1", "tick '+1' is no number from 1 to 3600000"),
             ("--alarm -1", "alarm '-1' is no number from 0 to 3600000"),

@@ -36,6 +36,8 @@ pub struct Counts {
     pub dropped: u64,
     pub unstamped: u64,
     pub reopened: u64,
+    /// On a PRP line: frames with the other network's LAN.
+    pub crossed: u64,
 }
 
 pub struct Port {
@@ -146,6 +148,18 @@ impl Port {
         let seen = self.seen[place];
         let room = &mut self.rooms[place];
         (!seen.outgoing).then(|| frame::put_back(room, seen.length, seen.vlan))
+    }
+
+    /// A frame of a PRP line came with the LAN of this network, which is not the port's. Said once: with crossed cables it is so
+    /// of every frame.
+    pub fn count_crossed(&mut self, network: usize) {
+        self.counts.crossed += 1;
+        if self.counts.crossed == 1 {
+            let (lan, network, interface) = (["A", "B"][network], self.network, &self.interface);
+            say(&format!(
+                "warning: LAN {lan} came on the card for network {network}, {interface}: are the cables crossed?"
+            ));
+        }
     }
 
     /// The number of the interface that the socket is bound to.

@@ -43,6 +43,8 @@ pub struct Report<'a> {
     pub refused: &'a Refused,
     pub damaged: u64,
     pub networks: [Network; NETWORKS],
+    /// The line is a PRP line.
+    pub prp: bool,
     pub ticks: u64,
     pub late: u64,
     pub steps: u64,
@@ -88,7 +90,22 @@ const WATCHES: [OfWatch; 3] = [
     ),
 ];
 
-const NETWORK_FIGURES: [OfNetwork; 6] = [
+/// On a PRP line alone.
+const CROSSED: OfNetwork = (
+    "crossed_total",
+    "counter",
+    "Frames with the other network's LAN in their trailer.",
+    |n| n.counts.crossed,
+);
+
+const OPEN: OfNetwork = (
+    "open",
+    "gauge",
+    "1 while the interface is there and open.",
+    |n| n.open.into(),
+);
+
+const NETWORK_COUNTERS: [OfNetwork; 5] = [
     (
         "frames_total",
         "counter",
@@ -118,12 +135,6 @@ const NETWORK_FIGURES: [OfNetwork; 6] = [
         "counter",
         "Times an interface was there again.",
         |n| n.counts.reopened,
-    ),
-    (
-        "open",
-        "gauge",
-        "1 while the interface is there and open.",
-        |n| n.open.into(),
     ),
 ];
 
@@ -190,9 +201,13 @@ impl Report<'_> {
         }
         for (i, network) in self.networks.iter().enumerate() {
             let c = &network.counts;
+            let crossed = match self.prp {
+                true => format!(" crossed {}", c.crossed),
+                false => String::new(),
+            };
             let _ = writeln!(
                 text,
-                "network {i} frames {} outgoing {} dropped {} unstamped {} reopened {}",
+                "network {i} frames {} outgoing {} dropped {} unstamped {} reopened {}{crossed}",
                 c.frames, c.outgoing, c.dropped, c.unstamped, c.reopened
             );
         }
@@ -243,7 +258,9 @@ impl Report<'_> {
             "Records in use that are damaged, at the last tick.",
         );
         text.value("damaged", &"", self.damaged);
-        for (name, kind, what, field) in NETWORK_FIGURES {
+        let crossed = self.prp.then_some(CROSSED);
+        let figures = NETWORK_COUNTERS.into_iter().chain(crossed).chain([OPEN]);
+        for (name, kind, what, field) in figures {
             text.family(name, kind, what);
             for (i, network) in self.networks.iter().enumerate() {
                 text.value(name, &format!("{{network=\"{i}\"}}"), field(network));
@@ -307,7 +324,7 @@ mod tests {
     use std::collections::BTreeSet;
 
     /// Streams in slots 0 and 2, network 1 silent for the second.
-    fn with_report(look: impl Fn(&Report)) {
+    fn with_report(prp: bool, look: impl Fn(&Report)) {
         let stream = |dest, vlan, passed| Stream {
             dest,
             vlan,
@@ -340,6 +357,7 @@ mod tests {
                 dropped: 2,
                 unstamped: 3,
                 reopened: 4,
+                crossed: 5,
             },
             open,
         };
@@ -349,6 +367,7 @@ mod tests {
             refused: &refused,
             damaged: 1,
             networks: [network(20, true), network(30, false)],
+            prp,
             ticks: 50,
             late: 6,
             steps: 1,
@@ -366,34 +385,48 @@ damaged 1
 network 0 frames 20 outgoing 1 dropped 2 unstamped 3 reopened 4
 network 1 frames 30 outgoing 1 dropped 2 unstamped 3 reopened 4
 ticks 50 late 6 steps 1";
-        with_report(|report| assert_eq!(report.lines(), expected));
+        with_report(false, |report| assert_eq!(report.lines(), expected));
+        let on_prp = expected.replace("reopened 4\n", "reopened 4 crossed 5\n");
+        with_report(true, |report| assert_eq!(report.lines(), on_prp));
     }
 
     /// The text form: for each family what it is and its type, once, then its values, each once.
     #[test]
     fn prometheus() {
-        with_report(|report| {
-            let text = report.prometheus();
-            let (mut families, mut values) = (BTreeSet::new(), BTreeSet::new());
-            let mut family = String::new();
-            let mut lines = text.lines();
-            while let Some(line) = lines.next() {
-                if let Some(rest) = line.strip_prefix("# HELP ") {
-                    family = rest.split(' ').next().unwrap().to_string();
-                    assert!(family.starts_with("nippitsun_") && families.insert(family.clone()));
-                    let counter = family.ends_with("_total");
-                    let kind = if counter { "counter" } else { "gauge" };
-                    assert_eq!(lines.next(), Some(&*format!("# TYPE {family} {kind}")));
-                    continue;
-                }
-                let (name, value) = line.rsplit_once(' ').unwrap();
-                assert_eq!(name.split('{').next(), Some(&*family));
-                assert!(value.parse::<u64>().is_ok() && values.insert(name.to_string()));
+        for prp in [false, true] {
+            with_report(prp, |report| prometheus_of(report, prp));
+        }
+    }
+
+    fn prometheus_of(report: &Report, prp: bool) {
+        let text = report.prometheus();
+        let (mut families, mut values) = (BTreeSet::new(), BTreeSet::new());
+        let mut family = String::new();
+        let mut lines = text.lines();
+        while let Some(line) = lines.next() {
+            if let Some(rest) = line.strip_prefix("# HELP ") {
+                family = rest.split(' ').next().unwrap().to_string();
+                assert!(family.starts_with("nippitsun_") && families.insert(family.clone()));
+                let counter = family.ends_with("_total");
+                let kind = if counter { "counter" } else { "gauge" };
+                assert_eq!(lines.next(), Some(&*format!("# TYPE {family} {kind}")));
+                continue;
             }
-            assert_eq!(families.len(), 21);
-            // Four families by stream and network, six by stream, one by refusal, six by network, four alone.
-            assert_eq!(values.len(), 4 * 4 + 6 * 2 + Refusal::ALL.len() + 6 * 2 + 4);
-            for line in [
+            let (name, value) = line.rsplit_once(' ').unwrap();
+            assert_eq!(name.split('{').next(), Some(&*family));
+            assert!(value.parse::<u64>().is_ok() && values.insert(name.to_string()));
+        }
+        // Four families by stream and network, six by stream, one by refusal, six by network and one more on a PRP line, four
+        // alone.
+        let by_network = 6 + usize::from(prp);
+        assert_eq!(families.len(), 15 + by_network);
+        assert_eq!(
+            values.len(),
+            4 * 4 + 6 * 2 + Refusal::ALL.len() + by_network * 2 + 4
+        );
+        let crossed = "nippitsun_crossed_total{network=\"1\"} 5";
+        assert_eq!(text.lines().any(|one| one == crossed), prp);
+        for line in [
                 "nippitsun_arrivals_total{slot=\"0\",dest=\"01:00:5e:00:00:07\",vlan=\"100\",network=\"0\"} 7",
                 "nippitsun_passed_total{slot=\"2\",dest=\"02:00:00:00:00:01\",vlan=\"0\"} 9",
                 "nippitsun_silent{slot=\"2\",dest=\"02:00:00:00:00:01\",vlan=\"0\",network=\"1\"} 1",
@@ -404,7 +437,6 @@ ticks 50 late 6 steps 1";
             ] {
                 assert!(text.lines().any(|one| one == line), "{line}");
             }
-        });
     }
 
     #[test]
