@@ -143,26 +143,25 @@ trailer-over k n w s d e p q = tail-over 4 (twoWords n ((0xA + w) * 4096 + s)) (
 
 -- ---- the type field of a frame whose tag is taken out
 
-module _ (f : List ℕ) (at : ℕ) (here : at ≡ typeAt f) (room : at + 8 ≤ length f) where
-  pub behind-vlan : at ≡ 16 → at ≡ typeAt (cutAt f at)
-  behind-vlan e = go (place f)
+module _ (f : List ℕ) (at : ℕ) (here : at ≡ typeAt f) (room : at + 8 ≤ length f) {t : ℕ} (former : t ≡ word f (at + 6)) where
+  -- behind a VLAN tag it stays
+  stays : word f 12 ≡ 0x8100 → at ≡ 16 → 16 ≡ typeAt (cutAt f at)
+  stays p e = sym (type-vlan (cutAt f at) (cut-front f at (omega arith) 12 (omega arith) ∙ p))
+
+  -- otherwise the former type comes to stand at 12
+  comes : at ≡ 12 → word (cutAt f at) 12 ≡ t
+  comes e = cut-behind f at (omega arith) 12 0 (omega arith) ∙ ap (word f) (omega arith) ∙ sym former
+
+  pub vlan-comes : t ≡ 0x8100 → 16 ≡ typeAt (cutAt f at)
+  vlan-comes e = go (place f)
+    where
+      go : Place f → 16 ≡ typeAt (cutAt f at)
+      go (plain p q v) = sym (type-vlan (cutAt f at) (comes (here ∙ q) ∙ e))
+      go (vlan p q v) = stays p (here ∙ q)
+
+  pub none-comes : (t ≡ 0x8100 → ⊥) → at ≡ typeAt (cutAt f at)
+  none-comes n = go (place f)
     where
       go : Place f → at ≡ typeAt (cutAt f at)
-      go (plain p q v) = absurd (omega arith)
-      go (vlan p q v) = e ∙ sym (type-vlan (cutAt f at) (cut-front f at (omega arith) 12 (omega arith) ∙ p))
-
-  at-12 : (at ≡ 16 → ⊥) → at ≡ 12
-  at-12 n = go (place f)
-    where
-      go : Place f → at ≡ 12
-      go (plain p q v) = here ∙ q
-      go (vlan p q v) = absurd (n (here ∙ q))
-
-  former : (at ≡ 16 → ⊥) → word (cutAt f at) 12 ≡ word f (at + 6)
-  former n = let e = at-12 n in cut-behind f at (omega arith) 12 0 (omega arith) ∙ ap (word f) (omega arith)
-
-  pub vlan-comes : (at ≡ 16 → ⊥) → {t : ℕ} → t ≡ word f (at + 6) → t ≡ 0x8100 → 16 ≡ typeAt (cutAt f at)
-  vlan-comes n p e = sym (type-vlan (cutAt f at) (former n ∙ sym p ∙ e))
-
-  pub none-comes : (at ≡ 16 → ⊥) → {t : ℕ} → t ≡ word f (at + 6) → (t ≡ 0x8100 → ⊥) → at ≡ typeAt (cutAt f at)
-  none-comes n p e = at-12 n ∙ sym (type-plain (cutAt f at) (λ z. e (p ∙ sym (former n) ∙ z)))
+      go (plain p q v) = here ∙ q ∙ sym (type-plain (cutAt f at) (λ z. n (sym (comes (here ∙ q)) ∙ z)))
+      go (vlan p q v) = here ∙ q ∙ stays p (here ∙ q)

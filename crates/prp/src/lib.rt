@@ -160,15 +160,13 @@ fn write_trailer(kind: Kind, number: u16, network: u8, size: usize, dst: &mut [u
     write_last(kind, &mut dst[4..]);
 }
 
-// Where the type field is once the tag at a place is taken out: 8100 may come to stand at 12.
+// Where the type field is once the tag at a place is taken out: 8100 may come to stand at 12. Behind a VLAN tag it stays at 16,
+// whatever follows.
 fn type_without(frame: &[u8], at: usize) -> usize
     requires { ⌜ at ≡ typeAt (now frame) ⌝ }
     requires { ⌜ at + 8 ≤ length (now frame) ⌝ }
     ensures { λ r. ⌜ r ≡ typeAt (cutAt (now (frame .entry)) at) ⌝ }
 {
-    if at == 16 {
-        return 16;
-    }
     if word_at(frame, at + 6) == 0x8100 {
         return 16;
     }
