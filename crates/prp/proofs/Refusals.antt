@@ -30,7 +30,7 @@ use Rattle.prp.proofs.Turns.{fromTurn, toTurn, from-length, trailed-len
 -- 3: the trailer goes, and a tag comes
 same-long : (l w : ℕ) → ltb frameMost (l - w + 6) ≡ ltb (frameMost - 6 + w) l
 same-long l w = elim (decLt frameMost (l - w + 6)) [
-  yes p ↦ lt-ltb _ _ p ∙ sym (lt-ltb (frameMost - 6 + w) l (omega arith))
+  | yes p ↦ lt-ltb _ _ p ∙ sym (lt-ltb (frameMost - 6 + w) l (omega arith))
   | no p ↦ le-ltb frameMost (l - w + 6) (omega arith) ∙ sym (le-ltb (frameMost - 6 + w) l (omega arith))
 ]
 

@@ -345,19 +345,18 @@ to-then-from k w f t b e =
     let r = tag-of f (i .tag) (i .read) in
     let number : t .number ≡ i .tag .number = ap (λ x. x .number) (i .same) in
     let law = to-then-from-is k w f t b e in
-    let same : tagged (untagged f) (t .number) ≡ tagged (untagged f) (i .tag .number) = ap (tagged (untagged f)) number in
-    (
+    let same : tagged (untagged f) (t .number) ≡ tagged (untagged f) (i .tag .number) = ap (tagged (untagged f)) number in (
       (λ p.
-      (let a = passed (isTagged (untagged f)) TAGGED (sym p ∙ law) in
-      let d = passed (ltb 4095 (afterType (untagged f) + widthOf k)) TRAILER (a .1) in
-      let g : f ≡ tagged (untagged f) (t .number) = ap (λ x. x .frame) (same-value (d .1)) in
-      let z = again-only f (i .tag) (i .read) (i .whole) (sym (g ∙ same)) in
-      (z .0, (λ x. eqb-false _ _ (sym (tag-then f (i .tag) (i .read) (kept f (i .tag) (i .read) (z .1))) ∙ a .0) x), z .1, omega (arith, ltb-false 4095 (afterType (untagged f) + widthOf k) (d .0))))),
+          (let a = passed (isTagged (untagged f)) TAGGED (sym p ∙ law) in
+          let d = passed (ltb 4095 (afterType (untagged f) + widthOf k)) TRAILER (a .1) in
+          let g : f ≡ tagged (untagged f) (t .number) = ap (λ x. x .frame) (same-value (d .1)) in
+          let z = again-only f (i .tag) (i .read) (i .whole) (sym (g ∙ same)) in
+          (z .0, (λ x. eqb-false _ _ (sym (tag-then f (i .tag) (i .read) (kept f (i .tag) (i .read) (z .1))) ∙ a .0) x), z .1, omega (arith, ltb-false 4095 (afterType (untagged f) + widthOf k) (d .0))))),
       (λ q.
-      (let c : isTagged (untagged f) ≡ false = tag-then f (i .tag) (i .read) (kept f (i .tag) (i .read) (q .2)) ∙ ne-eqb _ _ (q .1) in
-      let s : ltb 4095 (afterType (untagged f) + widthOf k) ≡ false = le-ltb 4095 (afterType (untagged f) + widthOf k) (omega (arith, q .3)) in
-      let g : tagged (untagged f) (t .number) ≡ f = same ∙ again f (i .tag) (i .read) b (q .0) (q .2) in
-      law ∙ rw (c, s, g) refl)),
+          (let c : isTagged (untagged f) ≡ false = tag-then f (i .tag) (i .read) (kept f (i .tag) (i .read) (q .2)) ∙ ne-eqb _ _ (q .1) in
+          let s : ltb 4095 (afterType (untagged f) + widthOf k) ≡ false = le-ltb 4095 (afterType (untagged f) + widthOf k) (omega (arith, q .3)) in
+          let g : tagged (untagged f) (t .number) ≡ f = same ∙ again f (i .tag) (i .read) b (q .0) (q .2) in
+          law ∙ rw (c, s, g) refl)),
     )
 
 -- ---- sizes
