@@ -20,6 +20,7 @@ worked = record {
   old-a = record { from = refl; to = refl };
   old-b = record { from = refl; to = refl };
   old-vlan = record { from = refl; to = refl };
+  new-wide = record { from = refl; to = refl };
   told = refl;
   behind = refl;
 }
@@ -34,6 +35,7 @@ from-edges = record {
   short-old = (refl, refl);
   short-vlan = (refl, refl);
   short-vlan-old = (refl, refl);
+  short-carries = refl;
   carries = refl;
   other = (refl, refl);
   lan = (refl, refl);
@@ -46,7 +48,7 @@ from-edges = record {
 pub to-edges : ToEdges
 unfolding head payload tag before typeAt hasVlan vlanOf isTagged headShort tagShort headerOf readOf cutAt tagAt widthOf trailerBytes same lanOf networkOf isLan afterType wears bodyOf fromOf trailed toAsRead toOf turnInto fromPrp toPrp overlay
 to-edges = record {
-  network = refl;
+  network = (refl, refl);
   long = (refl, refl);
   short = (refl, refl);
   bare = (refl, refl);

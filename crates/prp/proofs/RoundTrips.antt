@@ -22,10 +22,12 @@ use Rattle.frame.proofs.Words.{word-behind, word-take, word-drop, Place, plain,
 use Rattle.frame.proofs.PutThenTake.{inside, untag-tag, read-tagged}
 use Rattle.frame.proofs.Writes.{picks}
 use Rattle.frame.proofs.TakeThenPut.{cut-length, kept, tag-then, again, again-only}
-use Rattle.prp.specs.Prp.{Trailer, Turn, Told, first, of2012, widthOf, twoWords, trailerBytes, endAt, numberAt, lanAt, sizeAt, same, lanOf, networkOf, isLan, afterType, wears, bodyOf, fromOf, trailed, toAsRead, toOf, turnInto, fromPrp, toPrp}
+use Rattle.prp.specs.declared.Kind.{Kind}
+use Rattle.prp.specs.Prp.{Trailer, Turn, Told, first, of2012, trailerOf, widthOf, twoWords, trailerBytes, endAt, numberAt, lanAt, sizeAt, same, lanOf, networkOf, isLan, afterType, wears, bodyOf, fromOf, trailed, toAsRead, toOf, turnInto, fromPrp, toPrp}
 use Rattle.prp.specs.RoundTrips.{FromThenTo, FromThenToCalls, ReadAs, FromIsRead, NotBoth, ToThenFromIs, ToThenFrom, SizesFit}
-use Rattle.prp.proofs.Trailers.{EndsSo, WearsIs, wears-is, wears-no-size, wears-last, width-last}
-use Rattle.prp.proofs.Turns.{fromTurn, toTurn, type-front, tagged-front, body-length, body-type, from-length, trailed-length, from-tagged, from-none, from-is}
+use Rattle.prp.specs.Refusals.{Wears, TrailerWords}
+use Rattle.prp.proofs.Trailers.{EndsSo, WearsIs, wears-is, wears-no-size, wears-last, width-last, width-is}
+use Rattle.prp.proofs.Turns.{fromTurn, toTurn, type-front, tagged-front, body-length, body-type, from-length, trailer-length, trailed-length, from-tagged, from-none, from-is}
 
 -- ---- what an accepted PRP frame is
 
@@ -70,18 +72,13 @@ four (a ∷ b ∷ []) h = absurd (omega arith)
 four (a ∷ b ∷ c ∷ []) h = absurd (omega arith)
 four (a ∷ b ∷ c ∷ d ∷ l) h = refl
 
-module _ (k : Trailer) (f : List ℕ) (t : Turn) (b : Bytes f) (read : fromOf k f ≡ answers t) where
-  is : FromIs k f t
-  is = from-of k f read
-
+module _ (k : Trailer) (f : List ℕ) (b : Bytes f) (room : typeAt f + 2 + widthOf k ≤ length f) (h : WearsIs k f) where
   end-trailer : drop (endAt k f) f ≡ trailerBytes k (numberAt f (endAt k f)) (lanOf (networkOf (lanAt f (endAt k f)))) (afterType f)
   unfolding trailerBytes lanOf networkOf
   end-trailer =
-      let i = is in
-      let h = i .has in
       let e : ℕ = endAt k f in
       let l : List ℕ = drop e f in
-      let long : 4 ≤ length l = simp length-drop (omega (arith, i .room, width-last k)) in
+      let long : 4 ≤ length l = simp length-drop (omega (arith, room, width-last k)) in
       let small : (j : ℕ) → getD l j 0 < 256 = λ j. rw getD-drop (b (e + j)) in
       let w0 : word l 0 ≡ word f e = word-drop e f 0 ∙ ap (word f) (omega arith) in
       let w2 : word l 2 ≡ word f (e + 2) = word-drop e f 2 in
@@ -92,6 +89,10 @@ module _ (k : Trailer) (f : List ℕ) (t : Turn) (b : Bytes f) (read : fromOf k 
       let e3 : getD l 3 0 ≡ word f (e + 2) % 256 = omega (arith, small 2, small 3) in
       let r : drop 4 l ≡ k .last = drop-drop 4 e f ∙ same-bytes _ _ (h .last) in
       four l long ∙ rw (e0, e1, e2, e3, r, ← v) refl
+
+module _ (k : Trailer) (f : List ℕ) (t : Turn) (b : Bytes f) (read : fromOf k f ≡ answers t) where
+  is : FromIs k f t
+  is = from-of k f read
 
   -- with it, the frame without its trailer is the frame
   body : List ℕ
@@ -109,7 +110,7 @@ module _ (k : Trailer) (f : List ℕ) (t : Turn) (b : Bytes f) (read : fromOf k 
       let i = is in
       let s : length (take (endAt k f) f) - (typeAt (take (endAt k f) f) + 2) + widthOf k ≡ length f - (typeAt f + 2) =
       omega (arith, i .room, length-take-le (endAt k f) f (omega arith), type-front (endAt k f) f (omega (arith, i .room, type-least f))) in
-      rw s (ap (λ (l : List ℕ). take (endAt k f) f ++ l) (sym end-trailer) ∙ take-append-drop (endAt k f) f)
+      rw s (ap (λ (l : List ℕ). take (endAt k f) f ++ l) (sym (end-trailer k f b (i .room) (i .has))) ∙ take-append-drop (endAt k f) f)
 
   -- the tagged frame is read, and turned back
   body-room : typeAt body + 2 ≤ length body
@@ -330,11 +331,48 @@ module _ (k : Trailer) (w n : ℕ) (g : List ℕ) (known : w ≤ 1) (whole : typ
           let s : size < 4096 = omega (arith, ltb-false 4095 size q) in
           from-is k line (few h) room (line-tagged ∙ p) (line-wears s) ∙ ap answers (line-turn s)
 
+-- ---- 16 in the order's words
+
+-- the size of a frame and of what stands before its trailer
+after-parts : (k : Trailer) (f g : List ℕ) → length f ≡ length g + widthOf k → typeAt g ≡ typeAt f → typeAt f + 2 + widthOf k ≤ length f → afterType f ≡ afterType g + widthOf k
+unfolding afterType
+after-parts k f g l t room = omega arith
+
+made : (k : Trailer) (w n : ℕ) (g : List ℕ) {s : ℕ} → s ≡ afterType g + widthOf k → g ++ trailerBytes k n (lanOf w) s ≡ trailed k w n g
+unfolding trailed
+made k w n g e = ap (λ (m : ℕ). g ++ trailerBytes k n (lanOf w) m) e
+
+pub trailer-words : TrailerWords
+unfolding networkOf line size
+trailer-words k f b room = (to, from)
+  where
+    to : wears k f ≡ true → Wears k f
+    to e =
+        let h = wears-is k f e in
+        record {
+          body = take (endAt k f) f;
+          number = numberAt f (endAt k f);
+          network = networkOf (lanAt f (endAt k f));
+          known = omega (arith, h .most);
+          twelve = omega (arith, h .size);
+          same = sym (ap (λ (l : List ℕ). take (endAt k f) f ++ l) (sym (end-trailer k f b room h)) ∙ take-append-drop (endAt k f) f);
+        }
+
+    from : Wears k f → wears k f ≡ true
+    from x =
+        let g : List ℕ = x .body in
+        let l : length f ≡ length g + widthOf k = ap length (x .same) ∙ simp length-append (ap (λ (m : ℕ). length g + m) (trailer-length k (x .number) (lanOf (x .network)) (afterType f))) in
+        let o : take (length g) f ≡ g = ap (take (length g)) (x .same) ∙ take-at g _ (length g) refl in
+        let t : typeAt g ≡ typeAt f = ap typeAt (sym o) ∙ type-front (length g) f (omega (arith, type-least f)) in
+        let s : afterType f ≡ afterType g + widthOf k = after-parts k f g l t room in
+        let e : f ≡ trailed k (x .network) (x .number) g = x .same ∙ made k (x .network) (x .number) g s in
+        ap (wears k) e ∙ line-wears k (x .network) (x .number) g (x .known) (omega (arith, t, l)) (omega (arith, s, x .twelve))
+
 -- ---- to PRP, and back
 
 pub to-then-from-is : ToThenFromIs
 unfolding line size
-to-then-from-is k w f t b e =
+to-then-from-is k w f t e =
     let i = to-of k w f e in
     let r = tag-of f (i .tag) (i .read) in
     rw (i .same) (line-from k w (i .tag .number) (untagged f) (i .known) (i .whole) (omega (arith, r .few, cut-length f (typeAt f) (omega (arith, r .room)))))
@@ -344,7 +382,7 @@ to-then-from k w f t b e =
     let i = to-of k w f e in
     let r = tag-of f (i .tag) (i .read) in
     let number : t .number ≡ i .tag .number = ap (λ x. x .number) (i .same) in
-    let law = to-then-from-is k w f t b e in
+    let law = to-then-from-is k w f t e in
     let same : tagged (untagged f) (t .number) ≡ tagged (untagged f) (i .tag .number) = ap (tagged (untagged f)) number in (
       (λ p.
           (let a = passed (isTagged (untagged f)) TAGGED (sym p ∙ law) in
@@ -363,18 +401,21 @@ to-then-from k w f t b e =
 
 pub sizes-fit : SizesFit
 unfolding afterType
-sizes-fit k h = (from, to)
+sizes-fit = (from, to)
   where
-    from : (f : List ℕ) (t : Turn) → fromOf k f ≡ answers t → length (t .frame) ≤ frameMost
-    from f t e =
+    from : (k : Trailer) (f : List ℕ) (t : Turn) → fromOf k f ≡ answers t → length (t .frame) ≤ frameMost
+    from k f t e =
         let i = from-of k f e in
         let l : length (t .frame) ≡ length f - widthOf k + 6 = ap (λ x. length (x .frame)) (i .same) ∙ from-length k f (i .room) (numberAt f (endAt k f)) in
         omega (arith, i .few)
 
-    to : (w : ℕ) (f : List ℕ) (t : Turn) → toOf k w f ≡ answers t → (length (untagged f) - (typeAt (untagged f) + 2) + widthOf k < 4096) × (length (t .frame) ≤ frameMost)
-    to w f t e =
-        let i = to-of k w f e in
+    to : (k : Kind) (w : ℕ) (f : List ℕ) (t : Turn) → toOf (trailerOf k) w f ≡ answers t
+        → (length (untagged f) - (typeAt (untagged f) + 2) + widthOf (trailerOf k) < 4096) × (length (t .frame) ≤ frameMost)
+    to k w f t e =
+        let h = width-is k in
+        let i = to-of (trailerOf k) w f e in
         let r = tag-of f (i .tag) (i .read) in
         let c = cut-length f (typeAt f) (omega (arith, r .room)) in
-        let l : length (t .frame) ≡ length (untagged f) + widthOf k = ap (λ x. length (x .frame)) (i .same) ∙ trailed-length k w (i .tag .number) (untagged f) in
-        (omega (arith, r .few), omega (arith, r .few))
+        let l : length (t .frame) ≡ length (untagged f) + widthOf (trailerOf k) =
+        ap (λ x. length (x .frame)) (i .same) ∙ trailed-length (trailerOf k) w (i .tag .number) (untagged f) in
+        (omega (arith, r .few, h .1), omega (arith, r .few, h .1))

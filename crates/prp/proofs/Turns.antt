@@ -152,7 +152,7 @@ module _ (k : Trailer) (f out : List ℕ) where
 
 -- ---- to PRP
 
-trailer-length : (k : Trailer) (n l s : ℕ) → length (trailerBytes k n l s) ≡ widthOf k
+pub trailer-length : (k : Trailer) (n l s : ℕ) → length (trailerBytes k n l s) ≡ widthOf k
 unfolding trailerBytes widthOf
 trailer-length k n l s = omega arith
 

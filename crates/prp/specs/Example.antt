@@ -8,7 +8,7 @@ use Rattle.refusal.specs.Checks.Said.{refused, answers}
 use Rattle.refusal.specs.Numbers.{NETWORK, LONG, SHORT, UNTAGGED, ROOM, TAGGED, TRAILER}
 use Rattle.prp.specs.Prp.{Trailer, first, of2012, fromOf, toOf, fromPrp, toPrp}
 
--- Destination, source, and a VLAN tag with priority 1 and id 100.
+-- Destination and source; then with a VLAN tag of priority 1 and id 100.
 unfoldable pub head : List ℕ
 head = 2 ∷ 0 ∷ 0 ∷ 0 ∷ 0 ∷ 1 ∷ 2 ∷ 0 ∷ 0 ∷ 0 ∷ 0 ∷ 9 ∷ []
 
@@ -48,6 +48,8 @@ pub record Worked : Type 0 where
   pub old-a : Both first 0 (head ++ payload ++ old0) (head ++ tag ++ payload)
   pub old-b : Both first 1 (head ++ payload ++ old1) (head ++ tag ++ payload)
   pub old-vlan : Both first 0 (headVlan ++ payload ++ old0) (headVlan ++ tag ++ payload)
+  -- a size above one byte: 300 bytes of data and the trailer are 306, 132 hex
+  pub new-wide : Both of2012 0 (head ++ 8 ∷ 0 ∷ replicate 300 5 ++ 0x12 ∷ 0x34 ∷ 0xA1 ∷ 0x32 ∷ 0x88 ∷ 0xFB ∷ []) (head ++ tag ++ 8 ∷ 0 ∷ replicate 300 5)
   -- the answer, and bytes behind the result
   pub told : fromPrp first (head ++ payload ++ old1) (replicate 24 7) .said ≡ answers (record { network = 1; number = 0x1234; length = 22 })
   pub behind : fromPrp first (head ++ payload ++ old1) (replicate 24 7) .bytes ≡ head ++ tag ++ payload ++ 7 ∷ 7 ∷ []
@@ -68,6 +70,8 @@ pub record FromEdges : Type 0 where
   pub short-old : (fromOf first (replicate 17 0) ≡ refused SHORT) × (fromOf first (head ++ 8 ∷ 0 ∷ 0 ∷ 7 ∷ 0xA0 ∷ 4 ∷ []) ≡ answers (record { network = 0; number = 7; frame = head ++ 0xF1 ∷ 0xC1 ∷ 0 ∷ 0 ∷ 0 ∷ 7 ∷ 8 ∷ 0 ∷ [] }))
   pub short-vlan : (fromOf of2012 (headVlan ++ replicate 7 0) ≡ refused SHORT) × (fromOf of2012 (headVlan ++ replicate 8 0) ≡ refused TRAILER)
   pub short-vlan-old : (fromOf first (headVlan ++ replicate 5 0) ≡ refused SHORT) × (fromOf first (headVlan ++ replicate 6 0) ≡ refused TRAILER)
+  -- 4 before 13: F1C1 in a frame of 19 bytes
+  pub short-carries : fromOf of2012 (head ++ 0xF1 ∷ 0xC1 ∷ replicate 5 0) ≡ refused SHORT
   -- 13 before 16
   pub carries : fromOf of2012 (head ++ tag ++ payload) ≡ refused TAGGED
   -- 16: the other kind, LAN 9 and C, a size one off either way, a size without the trailer, 88FB missing
@@ -84,7 +88,8 @@ unfoldable pub before : (rest : List ℕ) → List ℕ
 before rest = head ++ tag ++ rest
 
 pub record ToEdges : Type 0 where
-  pub network : toOf first 2 [] ≡ refused NETWORK
+  -- 2 before 3 and 4
+  pub network : (toOf first 2 [] ≡ refused NETWORK) × (toOf first 2 (replicate 2001 0) ≡ refused NETWORK)
   pub long : (toOf first 0 (replicate 2001 0) ≡ refused LONG) × (toOf first 0 (replicate 2000 0) ≡ refused UNTAGGED)
   pub short : (toOf first 0 (replicate 13 0) ≡ refused SHORT) × (toOf first 0 (before (8 ∷ [])) ≡ refused SHORT)
   -- 4 again: 8100 comes to stand at 12, in a frame of 17 bytes; with 18 the size counts from the type field at 16

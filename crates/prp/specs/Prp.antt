@@ -1,5 +1,5 @@
 -- Document 02, order 7: the trailer of a PRP frame, and what it is to turn a frame from PRP and to PRP. What a tag is, and how it
--- is read, is `frame`'s. Every definition takes the kind of trailer as a parameter. Assumes nothing.
+-- is read, is `frame`'s. What hangs on the kind of trailer takes it as a parameter. Assumes nothing.
 use Prim.Native.Nat.{ℕ, _+_, _-_, _*_, _/_, _%_}
 use mathlib.Core.Bool.{Bool, true, false, _&&_, _||_, not}
 use mathlib.Core.List.{List, [], _∷_, _++_}

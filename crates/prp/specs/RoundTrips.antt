@@ -13,7 +13,8 @@ use Rattle.record.specs.Words.{if_then_else_}
 use Rattle.record.specs.Sizes.{frameMost}
 use Rattle.frame.specs.Bytes.{word, overlay, Bytes}
 use Rattle.frame.specs.Frame.{destOf, hasVlan, vlanOf, typeAt, isTagged, reservedOf, formerOf, readOf, untagged, tagged}
-use Rattle.prp.specs.Prp.{Trailer, first, of2012, widthOf, endAt, numberAt, lanAt, lanOf, afterType, Turn, Told, bodyOf, fromOf, toOf, fromPrp, toPrp}
+use Rattle.prp.specs.declared.Kind.{Kind}
+use Rattle.prp.specs.Prp.{Trailer, first, of2012, trailerOf, widthOf, endAt, numberAt, lanAt, lanOf, afterType, Turn, Told, bodyOf, fromOf, toOf, fromPrp, toPrp}
 
 -- ---- from PRP, and back
 
@@ -53,7 +54,7 @@ NotBoth = (f : List ℕ) (t u : Turn) → fromOf first f ≡ answers t → fromO
 -- number come back, and that frame with a tag put in.
 abbrev pub ToThenFromIs : Type 0
 ToThenFromIs =
-    (k : Trailer) (network : ℕ) (f : List ℕ) (t : Turn) → Bytes f → toOf k network f ≡ answers t
+    (k : Trailer) (network : ℕ) (f : List ℕ) (t : Turn) → toOf k network f ≡ answers t
     → fromOf k (t .frame)
     ≡ (if isTagged (untagged f) then refused TAGGED
     else if ltb 4095 (afterType (untagged f) + widthOf k) then refused TRAILER
@@ -67,12 +68,13 @@ ToThenFrom =
     → (fromOf k (t .frame) ≡ answers (record { network = network; number = t .number; frame = f }))
     ↔ ((reservedOf f ≡ 0) × (formerOf f ≡ 0xF1C1 → ⊥) × (hasVlan f ≡ false → formerOf f ≡ 0x8100 → ⊥) × (afterType (untagged f) + widthOf k < 4096))
 
--- The size has 12 bits under both trailers, and no frame comes to more than 2000 bytes, either way.
+-- The size has 12 bits under both trailers (so that the last condition always holds), and no frame comes to more than 2000 bytes,
+-- either way.
 abbrev pub SizesFit : Type 0
 SizesFit =
-    (k : Trailer) → widthOf k ≤ 6
-    → ((f : List ℕ) (t : Turn) → fromOf k f ≡ answers t → length (t .frame) ≤ frameMost)
-    × ((network : ℕ) (f : List ℕ) (t : Turn) → toOf k network f ≡ answers t → (afterType (untagged f) + widthOf k < 4096) × (length (t .frame) ≤ frameMost))
+    ((k : Trailer) (f : List ℕ) (t : Turn) → fromOf k f ≡ answers t → length (t .frame) ≤ frameMost)
+    × ((k : Kind) (network : ℕ) (f : List ℕ) (t : Turn) → toOf (trailerOf k) network f ≡ answers t
+    → (afterType (untagged f) + widthOf (trailerOf k) < 4096) × (length (t .frame) ≤ frameMost))
 
 -- ---- the premise is needed
 

@@ -137,7 +137,7 @@ fn write_last(kind: Kind, dst: &mut [u8])
     }
 }
 
-// The four bytes before them.
+// The four bytes before the last ones: the number, then LAN and size.
 fn write_words(number: u16, both: u16, dst: &mut [u8])
     requires { ⌜ 4 ≤ length (now dst) ⌝ }
     ensures { λ _. ⌜ now (dst .exit) ≡ overlay (twoWords number both) (now (dst .entry)) ⌝ }
