@@ -7,7 +7,7 @@ use mathlib.Core.List.{List, [], _∷_, _++_}
 use lib.ListN.{length, getD, take, drop, length-append, length-drop, take-append-drop}
 use lib.Seq.{getD-drop, length-take-le, take-at, drop-at, drop-drop}
 use lib.Dec.{ltb, eqb}
-use borrow.Author.Tests.{lt-ltb, le-ltb, eq-eqb, ne-eqb, ltb-true, ltb-false, eqb-true, eqb-false, not-false}
+use borrow.Author.Tests.{le-ltb, eq-eqb, ne-eqb, ltb-true, ltb-false, eqb-true, eqb-false, not-false}
 use Rattle.refusal.specs.Checks.{Said}
 use Rattle.refusal.specs.Checks.Said.{refused, answers}
 use Rattle.refusal.specs.Numbers.{NETWORK, LONG, SHORT, TAGGED, TRAILER}
@@ -15,16 +15,16 @@ use Rattle.refusal.proofs.Checks.{passed, same-value}
 use Rattle.record.specs.Words.{if_then_else_}
 use Rattle.record.specs.Sizes.{frameMost}
 use Rattle.frame.specs.Bytes.{word, overlay, Bytes}
-use Rattle.frame.specs.Frame.{Tag, destOf, hasVlan, vlanOf, typeAt, isTagged, headShort, reservedOf, formerOf, readOf, untagged, tagged, tagBytes}
+use Rattle.frame.specs.Frame.{Tag, destOf, hasVlan, vlanOf, typeAt, isTagged, headShort, formerOf, readOf, untagged, tagged, tagBytes}
 use Rattle.frame.proofs.Bytes.{overlay-front}
-use Rattle.frame.proofs.Heads.{type-least, head-whole, head-room, TagIs, tag-of}
+use Rattle.frame.proofs.Heads.{type-least, head-whole, head-room, tag-of}
 use Rattle.frame.proofs.Words.{word-behind, word-take, word-drop, Place, plain, vlan, place}
 use Rattle.frame.proofs.PutThenTake.{inside, untag-tag, read-tagged}
 use Rattle.frame.proofs.Writes.{picks}
 use Rattle.frame.proofs.TakeThenPut.{cut-length, kept, tag-then, again, again-only}
 use Rattle.prp.specs.declared.Kind.{Kind}
-use Rattle.prp.specs.Prp.{Trailer, Turn, Told, first, of2012, trailerOf, widthOf, twoWords, trailerBytes, endAt, numberAt, lanAt, sizeAt, same, lanOf, networkOf, isLan, afterType, wears, bodyOf, fromOf, trailed, toAsRead, toOf, turnInto, fromPrp, toPrp}
-use Rattle.prp.specs.RoundTrips.{FromThenTo, FromThenToCalls, ReadAs, FromIsRead, NotBoth, ToThenFromIs, ToThenFrom, SizesFit}
+use Rattle.prp.specs.Prp.{Trailer, Turn, Told, first, of2012, trailerOf, widthOf, trailerBytes, endAt, numberAt, lanAt, same, lanOf, networkOf, isLan, afterType, wears, bodyOf, fromOf, trailed, toAsRead, toOf, turnInto, fromPrp, toPrp}
+use Rattle.prp.specs.RoundTrips.{FromThenTo, FromThenToCalls, FromIsRead, NotBoth, ToThenFromIs, ToThenFrom, SizesFit}
 use Rattle.prp.specs.Refusals.{Wears, TrailerWords}
 use Rattle.prp.proofs.Trailers.{EndsSo, WearsIs, wears-is, wears-no-size, wears-last, width-last, width-is}
 use Rattle.prp.proofs.Turns.{fromTurn, toTurn, type-front, tagged-front, body-length, body-type, from-length, trailer-length, trailed-length, from-tagged, from-none, from-is}

@@ -2,20 +2,20 @@
 use mathlib.Core.Path.{_≡_, refl, sym, ap, _∙_}
 use Prim.Native.Nat.{ℕ, _+_, _-_, _≤_, _<_}
 use native.Mathlib.Omega.{arith}
-use mathlib.Core.Bool.{Bool, true, false, cond, not}
+use mathlib.Core.Bool.{true, false, cond}
 use mathlib.Core.List.{List, _++_, append-assoc}
 use lib.ListN.{length, take, drop, length-append, length-drop, take-append-drop}
 use lib.Seq.{length-take-le, drop-at}
-use lib.Dec.{ltb, eqb}
+use lib.Dec.{eqb}
 use borrow.Author.Tests.{lt-ltb, le-ltb, ltb-true}
 use borrow.Rule.Slice.PartMut.{midOf, putMid}
 use Rattle.refusal.specs.Checks.{Said}
 use Rattle.refusal.specs.Checks.Said.{refused, answers}
 use Rattle.refusal.specs.Numbers.{NETWORK, LONG, SHORT, ROOM, TAGGED, TRAILER}
 use Rattle.record.specs.Sizes.{frameMost}
-use Rattle.frame.specs.Bytes.{word, overlay}
+use Rattle.frame.specs.Bytes.{overlay}
 use Rattle.frame.specs.Frame.{typeAt, hasVlan, isTagged, headShort, readOf, cutAt, untagged, tagAt, tagged}
-use Rattle.frame.specs.TagCalls.{saidHead, saidRead, refusalOf, typePlace, writtenWith, writtenWithout}
+use Rattle.frame.specs.TagCalls.{saidRead, refusalOf, writtenWith, writtenWithout}
 use Rattle.frame.specs.declared.Header.{Header}
 use Rattle.frame.specs.declared.TagRead.{TagRead}
 use Rattle.frame.specs.declared.TagRead.the-variants.{Refused, Tagged}

@@ -1,6 +1,5 @@
 // PRP lines (document 02, order 7): a frame with a trailer is turned into one with a tag, and back.
 ghost use mathlib.Core.Path.{_≡_};
-ghost use mathlib.Core.List.{List};
 ghost use Prim.Native.Nat.{_+_, _≤_, _<_};
 ghost use lib.ListN.{length, drop};
 ghost use Rattle.frame.specs.Bytes.{word, overlay};

@@ -5,7 +5,7 @@ use native.Mathlib.Omega.{arith}
 use lib.ListN.{length}
 use borrow.Author.Tests.{not-true, not-false}
 use Rattle.frame.specs.Bytes.{word}
-use Rattle.prp.specs.Prp.{trailerOf, widthOf, endAt, afterType, isLan}
+use Rattle.prp.specs.Prp.{trailerOf, endAt, afterType, isLan}
 use Rattle.prp.proofs.Trailers.{width-is, wears-no-lan, wears-no-size, wears-last}
 use borrow.Author.Needs.{needs}
 use Rattle.prp.proofs.has_trailer.Statement.{statement}

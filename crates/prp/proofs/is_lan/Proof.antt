@@ -1,8 +1,6 @@
 -- `prp::is_lan` meets its contract. Assumes nothing.
-use mathlib.Core.Path.{sym}
 use borrow.Author.Tests.{eq-eqb, ne-eqb}
 use Rattle.prp.specs.Prp.{isLan}
-use borrow.Author.Needs.{needs}
 use Rattle.prp.proofs.is_lan.Statement.{statement}
 use Rattle.prp.proofs.is_lan.Tie as tie
 

@@ -5,7 +5,7 @@ use native.Mathlib.Omega.{arith}
 use lib.ListN.{length, length-take, length-drop}
 use Rattle.frame.specs.Frame.{typeAt, cutAt, untagged}
 use Rattle.frame.proofs.Heads.{type-least, TagIs, tag-is}
-use Rattle.prp.specs.Prp.{trailerOf, widthOf}
+use Rattle.prp.specs.Prp.{trailerOf}
 use Rattle.prp.proofs.Trailers.{width-is, width-last}
 use Rattle.prp.proofs.Turns.{toTurn, to-network, to-refused, to-short, to-is, to-length, to-written, to-refuses, to-small, to-done}
 use borrow.Author.Needs.{needs}

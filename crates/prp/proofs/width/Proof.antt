@@ -1,6 +1,5 @@
 -- `prp::width` meets its contract. Assumes nothing.
-use mathlib.Core.Path.{ap, sym, _∙_}
-use Rattle.prp.specs.Prp.{trailerOf, widthOf}
+use mathlib.Core.Path.{sym}
 use Rattle.prp.proofs.Trailers.{width-first, width-2012}
 use borrow.Author.Needs.{needs}
 use Rattle.prp.proofs.width.Statement.{statement}

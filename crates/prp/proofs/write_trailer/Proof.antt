@@ -1,6 +1,5 @@
 -- `prp::write_trailer` meets its contract: two words, and the last bytes behind them. Assumes nothing.
 use mathlib.Core.Path.{refl}
-use native.Mathlib.Omega.{arith}
 use Rattle.prp.specs.Prp.{trailerOf}
 use Rattle.prp.proofs.Trailers.{trailer-over}
 use borrow.Author.Needs.{needs}
