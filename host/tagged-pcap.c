@@ -7,7 +7,6 @@
 
 #include <getopt.h>
 #include <stdio.h>
-#include <string.h>
 
 static unsigned two_bytes(const uint8_t *at)
 {
@@ -39,13 +38,6 @@ static const char usage[] =
     "  --prp KIND  of a PRP line: a trailer of this kind, first or 2012, in place of the tag, and both copies are written, LAN A first\n"
     "  --help      print this text\n";
 
-static uint8_t read_kind(const char *text)
-{
-    if (strcmp(text, "first") == 0) return NIPPITSUN_PRP_FIRST;
-    if (strcmp(text, "2012") == 0) return NIPPITSUN_PRP_2012;
-    refuse("'%s' is no kind of trailer: first or 2012", text);
-}
-
 int main(int count, char **words)
 {
     static const struct option options[] = {
@@ -55,18 +47,14 @@ int main(int count, char **words)
         {NULL, 0, NULL, 0},
     };
     nippitsun_sender sender = {0};
-    int by_sender = 0, by_prp = 0;
-    uint8_t kind = 0;
+    int by_sender = 0, prp = NO_PRP;
     for (int o; (o = getopt_long(count, words, "", options, NULL)) != -1;) {
         switch (o) {
         case 's':
             by_sender = 1;
             sender.next = (uint16_t)read_number("number", optarg, 0, UINT16_MAX);
             break;
-        case 'p':
-            by_prp = 1;
-            kind = read_kind(optarg);
-            break;
+        case 'p': prp = read_prp(optarg); break;
         default: say_usage(usage, o == 'h');
         }
     }
@@ -89,11 +77,11 @@ int main(int count, char **words)
         nippitsun_tag_answer a = by_sender ? nippitsun_send(&sender, frame, length, tagged[0], sizeof tagged[0], tagged[1], sizeof tagged[1])
                                            : nippitsun_write_tag(frame, length, (uint16_t)two_bytes(head), tagged[0], sizeof tagged[0]);
         if (a.refusal != 0) refuse("record %u: %u, %s", record, a.refusal, refusal_words(a.refusal));
-        for (int copy = 0; copy < (by_sender || by_prp ? NETWORKS : 1); copy++) {
+        for (int copy = 0; copy < (by_sender || prp != NO_PRP ? NETWORKS : 1); copy++) {
             const uint8_t *its = tagged[by_sender ? copy : 0];
             size_t bytes = a.length;
-            if (by_prp) {
-                nippitsun_prp_answer t = nippitsun_to_prp(its, bytes, (uint8_t)copy, kind, turned, sizeof turned);
+            if (prp != NO_PRP) {
+                nippitsun_prp_answer t = nippitsun_to_prp(its, bytes, (uint8_t)copy, (uint8_t)prp, turned, sizeof turned);
                 if (t.refusal != 0) refuse("record %u, to PRP: %u, %s", record, t.refusal, refusal_words(t.refusal));
                 its = turned;
                 bytes = t.length;

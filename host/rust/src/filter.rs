@@ -2,7 +2,8 @@
 //! program nothing: what the machine itself sends, and every frame that the library would refuse with 5 or 6 in any case. On a
 //! PRP line: with 6, and with 16 for want of 88FB at the end.
 
-use crate::frame::{Trailer, PRP_MARK, REDUNDANCY_TAG, TYPE_AT, VLAN_MARK, VLAN_TAG};
+use crate::frame::{PRP_MARK, REDUNDANCY_TAG, TYPE_AT, VLAN_MARK, VLAN_TAG};
+use nippitsun::prp::Kind;
 
 /// `struct sock_filter`: where a comparison holds, `yes` instructions are passed over, else `no`.
 #[repr(C)]
@@ -62,13 +63,13 @@ const fn equal(k: u32, yes: u8, no: u8) -> Instruction {
 /// Lets through what has F1C1 at the type field and one of these keys; on a PRP line what has one of the keys, and with the
 /// trailer of 2012 only if it ends in 88FB. A load from behind the frame's end stops the frame, as the library would, with
 /// refusal 4.
-pub fn program(keys: &[Key], prp: Option<Trailer>) -> Vec<Instruction> {
+pub fn program(keys: &[Key], prp: Option<Kind>) -> Vec<Instruction> {
     let mut program = vec![
         plain(LOAD_WORD, PACKET_TYPE),
         equal(PACKET_OUTGOING, 0, 1),
         plain(END, NONE),
     ];
-    if prp == Some(Trailer::Of2012) {
+    if prp == Some(Kind::Of2012) {
         program.extend(ends_in_mark());
     }
     match prp {
@@ -366,10 +367,10 @@ mod tests {
     }
 
     /// Writes a trailer over the end.
-    fn end_in(frame: &mut [u8], kind: Trailer, lan: u16, size: usize) {
+    fn end_in(frame: &mut [u8], kind: Kind, lan: u16, size: usize) {
         let mut trailer = vec![0, 7];
         trailer.extend_from_slice(&(lan << 12 | size as u16 & 0xFFF).to_be_bytes());
-        if kind == Trailer::Of2012 {
+        if kind == Kind::Of2012 {
             trailer.extend_from_slice(&PRP_MARK.to_be_bytes());
         }
         if let Some(at) = frame.len().checked_sub(trailer.len()) {
@@ -382,7 +383,7 @@ mod tests {
     fn hold_prp_to_the_library(
         program: &[Instruction],
         library: &Receiver,
-        kind: Trailer,
+        kind: Kind,
         frame: &Queued,
     ) -> bool {
         let kept = run(program, frame);
@@ -407,7 +408,7 @@ mod tests {
             Err(refusal) => panic!("{refusal}"),
             Ok(_) => true,
         };
-        let ends = kind == Trailer::First || frame.bytes.ends_with(&PRP_MARK.to_be_bytes());
+        let ends = kind == Kind::First || frame.bytes.ends_with(&PRP_MARK.to_be_bytes());
         assert_eq!(kept != 0, is_open && ends, "{kind:?}, {frame:?}");
         kept != 0
     }
@@ -416,11 +417,11 @@ mod tests {
     fn a_prp_line_as_the_library() {
         let keys = [(DEST, 100), (DEST, 0), (DEST + 1, 4094)];
         let library = receiver(&keys);
-        for kind in [Trailer::First, Trailer::Of2012] {
+        for kind in [Kind::First, Kind::Of2012] {
             let program = program(&keys, Some(kind));
             let other = match kind {
-                Trailer::First => Trailer::Of2012,
-                Trailer::Of2012 => Trailer::First,
+                Kind::First => Kind::Of2012,
+                Kind::Of2012 => Kind::First,
             };
             // Kind, LAN and size; or none at all.
             let trailers = [
@@ -488,19 +489,19 @@ mod tests {
             bytes
         };
         for (kind, last, packet, through) in [
-            (Trailer::Of2012, &[0xA0, 46, 0x88, 0xFB][..], 2, true),
-            (Trailer::Of2012, &[0xA0, 46, 0x88, 0xFA], 2, false),
-            (Trailer::Of2012, &[0xA0, 46, 0xFB, 0x88], 2, false),
-            (Trailer::Of2012, &[0x88, 0xFB, 0], 2, false),
+            (Kind::Of2012, &[0xA0, 46, 0x88, 0xFB][..], 2, true),
+            (Kind::Of2012, &[0xA0, 46, 0x88, 0xFA], 2, false),
+            (Kind::Of2012, &[0xA0, 46, 0xFB, 0x88], 2, false),
+            (Kind::Of2012, &[0x88, 0xFB, 0], 2, false),
             (
-                Trailer::Of2012,
+                Kind::Of2012,
                 &[0xA0, 46, 0x88, 0xFB],
                 PACKET_OUTGOING,
                 false,
             ),
-            (Trailer::First, &[0xA0, 46], 2, true),
-            (Trailer::First, &[0, 0], 2, true),
-            (Trailer::First, &[0xA0, 46], PACKET_OUTGOING, false),
+            (Kind::First, &[0xA0, 46], 2, true),
+            (Kind::First, &[0, 0], 2, true),
+            (Kind::First, &[0xA0, 46], PACKET_OUTGOING, false),
         ] {
             let queued = Queued {
                 bytes: ends(last),
@@ -511,7 +512,7 @@ mod tests {
             assert_eq!(kept != 0, through, "{kind:?}, {last:?}, {packet}");
         }
         // Short ones, with nothing to load.
-        for kind in [Trailer::First, Trailer::Of2012] {
+        for kind in [Kind::First, Kind::Of2012] {
             for length in 0..6 {
                 for beside in [None, Some((VLAN_MARK, 0))] {
                     let queued = Queued {

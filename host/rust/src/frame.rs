@@ -10,13 +10,6 @@ pub const REDUNDANCY_TAG: u16 = 0xF1C1;
 /// The last two bytes of a PRP trailer of 2012.
 pub const PRP_MARK: u16 = 0x88FB;
 
-/// The trailer of a PRP line, by the library's number of its kind.
-#[derive(Clone, Copy, Debug, PartialEq, Eq)]
-pub enum Trailer {
-    First = 0,
-    Of2012 = 1,
-}
-
 /// The frame of this length that stands in the room behind `VLAN_TAG` free bytes, with the tag put back that the kernel has
 /// taken out of it. Without it the key would have VLAN id 0.
 pub fn put_back(room: &mut [u8], length: usize, tag: Option<[u8; VLAN_TAG]>) -> &[u8] {

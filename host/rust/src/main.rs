@@ -15,7 +15,7 @@ mod trouble;
 
 use clock::Clock;
 use filter::Key;
-use nippitsun::{archive, Arrival, Receiver, Stream, Verdict};
+use nippitsun::{prp, Arrival, Receiver, Stream, Verdict};
 use options::{Asked, Give, Options};
 use order::{Call, Order, Time};
 use port::{Port, Setup};
@@ -102,11 +102,13 @@ impl Host {
         let (network, frame) = match self.options.prp {
             None => (port, frame),
             Some(kind) => {
-                let turned = archive::from_prp(frame, kind as u8, &mut self.tagged[..]);
-                if turned.refusal != 0 {
-                    self.refused[usize::from(turned.refusal)] += 1;
-                    return Ok(());
-                }
+                let turned = match prp::from(frame, kind, &mut self.tagged[..]) {
+                    Ok(turned) => turned,
+                    Err(refusal) => {
+                        self.refused[usize::from(refusal.number())] += 1;
+                        return Ok(());
+                    }
+                };
                 let network = usize::from(turned.network);
                 if network != port {
                     self.ports[port].count_crossed(network);

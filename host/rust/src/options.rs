@@ -1,8 +1,8 @@
 //! The words of the command line. The library judges a stream's settings; here only what no such field can hold is refused.
 
-use crate::frame::Trailer;
 use crate::order::Time;
 use crate::trouble::Trouble;
+use nippitsun::prp::Kind;
 use nippitsun::{Receiver, Settings, Stream};
 use std::path::PathBuf;
 use std::str::FromStr;
@@ -38,7 +38,7 @@ pub struct Options {
     pub period: Time,
     pub room_kb: i32,
     /// The trailer of a PRP line; none is a line with tags.
-    pub prp: Option<Trailer>,
+    pub prp: Option<Kind>,
     pub all: bool,
     /// In milliseconds; 0 is never.
     pub alarm_ms: Time,
@@ -185,10 +185,10 @@ fn read_address(text: &str) -> Result<[u8; 6], String> {
     }
 }
 
-fn read_prp(text: &str) -> Result<Trailer, String> {
+fn read_prp(text: &str) -> Result<Kind, String> {
     match text {
-        "first" => Ok(Trailer::First),
-        "2012" => Ok(Trailer::Of2012),
+        "first" => Ok(Kind::First),
+        "2012" => Ok(Kind::Of2012),
         _ => Err("--prp is first or 2012".to_string()),
     }
 }
@@ -258,13 +258,13 @@ mod tests {
         ));
         assert_eq!((o.period, o.room_kb, o.alarm_ms), (10_000_000, 8, 0));
         assert_eq!((o.all, o.give, o.quiet), (true, Give::Raw, Some(9_000_000)));
-        assert_eq!(o.prp, Some(Trailer::Of2012));
+        assert_eq!(o.prp, Some(Kind::Of2012));
         assert_eq!(
             (o.stats, o.interfaces),
             (Some("f".into()), ["a".into(), "b".into()])
         );
         let first = options(&format!("{OPEN} --prp=first a b"));
-        assert_eq!(first.prp, Some(Trailer::First));
+        assert_eq!(first.prp, Some(Kind::First));
     }
 
     #[test]
