@@ -172,7 +172,8 @@ fn type_without(frame: &[u8], at: usize) -> usize
     at
 }
 
-// To PRP: the frame without its tag and with a trailer, at the start of out.
+// To PRP: the frame without its tag and with a trailer, at the start of out. The trailer is written first: so less has to be kept
+// while the frame is copied.
 pub fn to_prp(frame: &[u8], network: u8, kind: Kind, out: &mut [u8]) -> Turned
     ensures { λ r. ⌜ saidTurned r ≡ toPrp (trailerOf kind) network (now (frame .entry)) (now (out .entry)) .said ⌝ }
     ensures { λ _. ⌜ now (out .exit) ≡ toPrp (trailerOf kind) network (now (frame .entry)) (now (out .entry)) .bytes ⌝ }
