@@ -1,9 +1,12 @@
 // PRP lines (document 02, order 7): a frame with a trailer is turned into one with a tag, and back.
 ghost use mathlib.Core.Path.{_≡_};
+ghost use mathlib.Core.Bool.{false};
 ghost use Prim.Native.Nat.{_+_, _≤_, _<_};
 ghost use lib.ListN.{length, drop};
 ghost use Rattle.frame.specs.Bytes.{word, overlay};
-ghost use Rattle.frame.specs.Frame.{typeAt, cutAt};
+ghost use Rattle.frame.specs.Frame.{typeAt, isTagged, cutAt, headerOf, readOf};
+ghost use Rattle.record.specs.Sizes.{untaggedMost};
+ghost use Rattle.refusal.specs.Checks.Said.{answers};
 ghost use Rattle.prp.specs.Prp.{trailerOf, widthOf, endAt, same, isLan, wears, lanOf, twoWords, trailerBytes, fromPrp, toPrp, saidTurned};
 use frame::Head;
 use frame::TagRead;
@@ -83,9 +86,58 @@ fn has_trailer(frame: &[u8], at: usize, end: usize, kind: Kind) -> bool
     ends_so(frame, kind)
 }
 
+// A frame whose header has no tag and whose type field is at a place: its trailer is looked at, and the tagged frame written to the
+// start of out.
+fn from_at(frame: &[u8], at: usize, end: usize, kind: Kind, out: &mut [u8]) -> Turned
+    requires { ⌜ at ≡ typeAt (now frame) ⌝ }
+    requires { ⌜ at + 2 + widthOf (trailerOf kind) ≤ length (now frame) ⌝ }
+    requires { ⌜ end ≡ endAt (trailerOf kind) (now frame) ⌝ }
+    requires { ⌜ end ≤ untaggedMost ⌝ }
+    requires { ⌜ isTagged (now frame) ≡ false ⌝ }
+    ensures { λ r. ⌜ saidTurned r ≡ fromPrp (trailerOf kind) (now (frame .entry)) (now (out .entry)) .said ⌝ }
+    ensures { λ _. ⌜ now (out .exit) ≡ fromPrp (trailerOf kind) (now (frame .entry)) (now (out .entry)) .bytes ⌝ }
+{
+    if !has_trailer(frame, at, end, kind) {
+        return Turned::Refused(refusal::TRAILER);
+    }
+    let len = end + 6;
+    if out.len() < len {
+        return Turned::Refused(refusal::ROOM);
+    }
+    let number = word_at(frame, end);
+    let network = (word_at(frame, end + 2) / 4096 - 0xA) as u8;
+    frame::write_with(&frame[..end], at, number, out);
+    Turned::Out(network, number, len)
+}
+
+// The same with a constant for the place, so that the front is one or two moves: 12,
+fn from_plain(frame: &[u8], end: usize, kind: Kind, out: &mut [u8]) -> Turned
+    requires { ⌜ 12 ≡ typeAt (now frame) ⌝ }
+    requires { ⌜ 12 + 2 + widthOf (trailerOf kind) ≤ length (now frame) ⌝ }
+    requires { ⌜ end ≡ endAt (trailerOf kind) (now frame) ⌝ }
+    requires { ⌜ end ≤ untaggedMost ⌝ }
+    requires { ⌜ isTagged (now frame) ≡ false ⌝ }
+    ensures { λ r. ⌜ saidTurned r ≡ fromPrp (trailerOf kind) (now (frame .entry)) (now (out .entry)) .said ⌝ }
+    ensures { λ _. ⌜ now (out .exit) ≡ fromPrp (trailerOf kind) (now (frame .entry)) (now (out .entry)) .bytes ⌝ }
+{
+    from_at(frame, 12, end, kind, out)
+}
+
+// or 16 behind a VLAN tag.
+fn from_behind_vlan(frame: &[u8], end: usize, kind: Kind, out: &mut [u8]) -> Turned
+    requires { ⌜ 16 ≡ typeAt (now frame) ⌝ }
+    requires { ⌜ 16 + 2 + widthOf (trailerOf kind) ≤ length (now frame) ⌝ }
+    requires { ⌜ end ≡ endAt (trailerOf kind) (now frame) ⌝ }
+    requires { ⌜ end ≤ untaggedMost ⌝ }
+    requires { ⌜ isTagged (now frame) ≡ false ⌝ }
+    ensures { λ r. ⌜ saidTurned r ≡ fromPrp (trailerOf kind) (now (frame .entry)) (now (out .entry)) .said ⌝ }
+    ensures { λ _. ⌜ now (out .exit) ≡ fromPrp (trailerOf kind) (now (frame .entry)) (now (out .entry)) .bytes ⌝ }
+{
+    from_at(frame, 16, end, kind, out)
+}
+
 // From PRP: the tagged frame, at the start of out. No frame is both short and too long, so that the order of the first two tests
-// is open: like this the compiler knows the frame's length where it is written, and with a constant for the place the front is
-// one or two moves.
+// is open: like this the compiler knows the frame's length where it is written.
 pub fn from_prp(frame: &[u8], kind: Kind, out: &mut [u8]) -> Turned
     ensures { λ r. ⌜ saidTurned r ≡ fromPrp (trailerOf kind) (now (frame .entry)) (now (out .entry)) .said ⌝ }
     ensures { λ _. ⌜ now (out .exit) ≡ fromPrp (trailerOf kind) (now (frame .entry)) (now (out .entry)) .bytes ⌝ }
@@ -104,22 +156,10 @@ pub fn from_prp(frame: &[u8], kind: Kind, out: &mut [u8]) -> Turned
     if h.tagged {
         return Turned::Refused(refusal::TAGGED);
     }
-    let at = h.at;
-    if !has_trailer(frame, at, end, kind) {
-        return Turned::Refused(refusal::TRAILER);
+    if h.at == 12 {
+        return from_plain(frame, end, kind, out);
     }
-    let len = end + 6;
-    if out.len() < len {
-        return Turned::Refused(refusal::ROOM);
-    }
-    let number = word_at(frame, end);
-    let network = (word_at(frame, end + 2) / 4096 - 0xA) as u8;
-    if at == 12 {
-        frame::write_with(&frame[..end], 12, number, out);
-        return Turned::Out(network, number, len);
-    }
-    frame::write_with(&frame[..end], 16, number, out);
-    Turned::Out(network, number, len)
+    from_behind_vlan(frame, end, kind, out)
 }
 
 // The last bytes of a trailer, at the start of dst.
@@ -172,20 +212,15 @@ fn type_without(frame: &[u8], at: usize) -> usize
     at
 }
 
-// To PRP: the frame without its tag and with a trailer, at the start of out. The trailer is written first: so less has to be kept
-// while the frame is copied.
-pub fn to_prp(frame: &[u8], network: u8, kind: Kind, out: &mut [u8]) -> Turned
+// The frame without the tag at a place and with a trailer, at the start of out. The trailer is written first: so less has to be
+// kept while the frame is copied.
+fn to_at(frame: &[u8], at: usize, number: u16, network: u8, kind: Kind, out: &mut [u8]) -> Turned
+    requires { ⌜ network ≤ 1 ⌝ }
+    requires { ⌜ at ≡ typeAt (now frame) ⌝ }
+    requires { ⌜ readOf (now frame) ≡ answers (record { header = headerOf (now frame); number = number }) ⌝ }
     ensures { λ r. ⌜ saidTurned r ≡ toPrp (trailerOf kind) network (now (frame .entry)) (now (out .entry)) .said ⌝ }
     ensures { λ _. ⌜ now (out .exit) ≡ toPrp (trailerOf kind) network (now (frame .entry)) (now (out .entry)) .bytes ⌝ }
 {
-    if network > 1 {
-        return Turned::Refused(refusal::NETWORK);
-    }
-    let got = frame::read_tag(frame);
-    let TagRead::Tagged(h, number) = got else {
-        return Turned::Refused(frame::refusal_of(got));
-    };
-    let at = h.at;
     let bare = frame.len() - 6;
     let head = type_without(frame, at) + 2;
     if bare < head {
@@ -198,4 +233,44 @@ pub fn to_prp(frame: &[u8], network: u8, kind: Kind, out: &mut [u8]) -> Turned
     write_trailer(kind, number, network, len - head, &mut out[bare..]);
     frame::write_without(frame, at, out);
     Turned::Out(network, number, len)
+}
+
+// The same with a constant for the place: 12,
+fn to_plain(frame: &[u8], number: u16, network: u8, kind: Kind, out: &mut [u8]) -> Turned
+    requires { ⌜ network ≤ 1 ⌝ }
+    requires { ⌜ 12 ≡ typeAt (now frame) ⌝ }
+    requires { ⌜ readOf (now frame) ≡ answers (record { header = headerOf (now frame); number = number }) ⌝ }
+    ensures { λ r. ⌜ saidTurned r ≡ toPrp (trailerOf kind) network (now (frame .entry)) (now (out .entry)) .said ⌝ }
+    ensures { λ _. ⌜ now (out .exit) ≡ toPrp (trailerOf kind) network (now (frame .entry)) (now (out .entry)) .bytes ⌝ }
+{
+    to_at(frame, 12, number, network, kind, out)
+}
+
+// or 16 behind a VLAN tag.
+fn to_behind_vlan(frame: &[u8], number: u16, network: u8, kind: Kind, out: &mut [u8]) -> Turned
+    requires { ⌜ network ≤ 1 ⌝ }
+    requires { ⌜ 16 ≡ typeAt (now frame) ⌝ }
+    requires { ⌜ readOf (now frame) ≡ answers (record { header = headerOf (now frame); number = number }) ⌝ }
+    ensures { λ r. ⌜ saidTurned r ≡ toPrp (trailerOf kind) network (now (frame .entry)) (now (out .entry)) .said ⌝ }
+    ensures { λ _. ⌜ now (out .exit) ≡ toPrp (trailerOf kind) network (now (frame .entry)) (now (out .entry)) .bytes ⌝ }
+{
+    to_at(frame, 16, number, network, kind, out)
+}
+
+// To PRP: the frame without its tag and with a trailer, at the start of out.
+pub fn to_prp(frame: &[u8], network: u8, kind: Kind, out: &mut [u8]) -> Turned
+    ensures { λ r. ⌜ saidTurned r ≡ toPrp (trailerOf kind) network (now (frame .entry)) (now (out .entry)) .said ⌝ }
+    ensures { λ _. ⌜ now (out .exit) ≡ toPrp (trailerOf kind) network (now (frame .entry)) (now (out .entry)) .bytes ⌝ }
+{
+    if network > 1 {
+        return Turned::Refused(refusal::NETWORK);
+    }
+    let got = frame::read_tag(frame);
+    let TagRead::Tagged(h, number) = got else {
+        return Turned::Refused(frame::refusal_of(got));
+    };
+    if h.at == 12 {
+        return to_plain(frame, number, network, kind, out);
+    }
+    to_behind_vlan(frame, number, network, kind, out)
 }
