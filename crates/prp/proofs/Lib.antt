@@ -2,5 +2,6 @@
 pub mod Trailers
 pub mod Turns
 pub mod Refusals
-pub mod RoundTrips
+pub mod FromThenTo
+pub mod ToThenFrom
 pub mod Computed

@@ -1,4 +1,5 @@
 pub mod Prp
+pub mod Steps
 pub mod Refusals
 pub mod RoundTrips
 pub mod Example

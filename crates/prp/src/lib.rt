@@ -1,13 +1,11 @@
 // PRP lines (document 02, order 7): a frame with a trailer is turned into one with a tag, and back.
 ghost use mathlib.Core.Path.{_≡_};
-ghost use mathlib.Core.Bool.{false};
 ghost use Prim.Native.Nat.{_+_, _≤_, _<_};
 ghost use lib.ListN.{length, drop};
 ghost use Rattle.frame.specs.Bytes.{word, overlay};
-ghost use Rattle.frame.specs.Frame.{typeAt, isTagged, cutAt, headerOf, readOf};
-ghost use Rattle.record.specs.Sizes.{untaggedMost};
-ghost use Rattle.refusal.specs.Checks.Said.{answers};
+ghost use Rattle.frame.specs.Frame.{typeAt, cutAt};
 ghost use Rattle.prp.specs.Prp.{trailerOf, widthOf, endAt, same, isLan, wears, lanOf, twoWords, trailerBytes, fromPrp, toPrp, saidTurned};
+ghost use Rattle.prp.specs.Steps.{Headed, HasTag};
 use frame::Head;
 use frame::TagRead;
 use record::Stream;
@@ -89,11 +87,7 @@ fn has_trailer(frame: &[u8], at: usize, end: usize, kind: Kind) -> bool
 // A frame whose header has no tag and whose type field is at a place: its trailer is looked at, and the tagged frame written to the
 // start of out.
 fn from_at(frame: &[u8], at: usize, end: usize, kind: Kind, out: &mut [u8]) -> Turned
-    requires { ⌜ at ≡ typeAt (now frame) ⌝ }
-    requires { ⌜ at + 2 + widthOf (trailerOf kind) ≤ length (now frame) ⌝ }
-    requires { ⌜ end ≡ endAt (trailerOf kind) (now frame) ⌝ }
-    requires { ⌜ end ≤ untaggedMost ⌝ }
-    requires { ⌜ isTagged (now frame) ≡ false ⌝ }
+    requires { ⌜ Headed (trailerOf kind) (now frame) at end ⌝ }
     ensures { λ r. ⌜ saidTurned r ≡ fromPrp (trailerOf kind) (now (frame .entry)) (now (out .entry)) .said ⌝ }
     ensures { λ _. ⌜ now (out .exit) ≡ fromPrp (trailerOf kind) (now (frame .entry)) (now (out .entry)) .bytes ⌝ }
 {
@@ -112,11 +106,7 @@ fn from_at(frame: &[u8], at: usize, end: usize, kind: Kind, out: &mut [u8]) -> T
 
 // The same with a constant for the place, so that the front is one or two moves: 12,
 fn from_plain(frame: &[u8], end: usize, kind: Kind, out: &mut [u8]) -> Turned
-    requires { ⌜ 12 ≡ typeAt (now frame) ⌝ }
-    requires { ⌜ 12 + 2 + widthOf (trailerOf kind) ≤ length (now frame) ⌝ }
-    requires { ⌜ end ≡ endAt (trailerOf kind) (now frame) ⌝ }
-    requires { ⌜ end ≤ untaggedMost ⌝ }
-    requires { ⌜ isTagged (now frame) ≡ false ⌝ }
+    requires { ⌜ Headed (trailerOf kind) (now frame) 12 end ⌝ }
     ensures { λ r. ⌜ saidTurned r ≡ fromPrp (trailerOf kind) (now (frame .entry)) (now (out .entry)) .said ⌝ }
     ensures { λ _. ⌜ now (out .exit) ≡ fromPrp (trailerOf kind) (now (frame .entry)) (now (out .entry)) .bytes ⌝ }
 {
@@ -125,11 +115,7 @@ fn from_plain(frame: &[u8], end: usize, kind: Kind, out: &mut [u8]) -> Turned
 
 // or 16 behind a VLAN tag.
 fn from_behind_vlan(frame: &[u8], end: usize, kind: Kind, out: &mut [u8]) -> Turned
-    requires { ⌜ 16 ≡ typeAt (now frame) ⌝ }
-    requires { ⌜ 16 + 2 + widthOf (trailerOf kind) ≤ length (now frame) ⌝ }
-    requires { ⌜ end ≡ endAt (trailerOf kind) (now frame) ⌝ }
-    requires { ⌜ end ≤ untaggedMost ⌝ }
-    requires { ⌜ isTagged (now frame) ≡ false ⌝ }
+    requires { ⌜ Headed (trailerOf kind) (now frame) 16 end ⌝ }
     ensures { λ r. ⌜ saidTurned r ≡ fromPrp (trailerOf kind) (now (frame .entry)) (now (out .entry)) .said ⌝ }
     ensures { λ _. ⌜ now (out .exit) ≡ fromPrp (trailerOf kind) (now (frame .entry)) (now (out .entry)) .bytes ⌝ }
 {
@@ -215,9 +201,7 @@ fn type_without(frame: &[u8], at: usize) -> usize
 // The frame without the tag at a place and with a trailer, at the start of out. The trailer is written first: so less has to be
 // kept while the frame is copied.
 fn to_at(frame: &[u8], at: usize, number: u16, network: u8, kind: Kind, out: &mut [u8]) -> Turned
-    requires { ⌜ network ≤ 1 ⌝ }
-    requires { ⌜ at ≡ typeAt (now frame) ⌝ }
-    requires { ⌜ readOf (now frame) ≡ answers (record { header = headerOf (now frame); number = number }) ⌝ }
+    requires { ⌜ HasTag (now frame) at number network ⌝ }
     ensures { λ r. ⌜ saidTurned r ≡ toPrp (trailerOf kind) network (now (frame .entry)) (now (out .entry)) .said ⌝ }
     ensures { λ _. ⌜ now (out .exit) ≡ toPrp (trailerOf kind) network (now (frame .entry)) (now (out .entry)) .bytes ⌝ }
 {
@@ -237,9 +221,7 @@ fn to_at(frame: &[u8], at: usize, number: u16, network: u8, kind: Kind, out: &mu
 
 // The same with a constant for the place: 12,
 fn to_plain(frame: &[u8], number: u16, network: u8, kind: Kind, out: &mut [u8]) -> Turned
-    requires { ⌜ network ≤ 1 ⌝ }
-    requires { ⌜ 12 ≡ typeAt (now frame) ⌝ }
-    requires { ⌜ readOf (now frame) ≡ answers (record { header = headerOf (now frame); number = number }) ⌝ }
+    requires { ⌜ HasTag (now frame) 12 number network ⌝ }
     ensures { λ r. ⌜ saidTurned r ≡ toPrp (trailerOf kind) network (now (frame .entry)) (now (out .entry)) .said ⌝ }
     ensures { λ _. ⌜ now (out .exit) ≡ toPrp (trailerOf kind) network (now (frame .entry)) (now (out .entry)) .bytes ⌝ }
 {
@@ -248,9 +230,7 @@ fn to_plain(frame: &[u8], number: u16, network: u8, kind: Kind, out: &mut [u8]) 
 
 // or 16 behind a VLAN tag.
 fn to_behind_vlan(frame: &[u8], number: u16, network: u8, kind: Kind, out: &mut [u8]) -> Turned
-    requires { ⌜ network ≤ 1 ⌝ }
-    requires { ⌜ 16 ≡ typeAt (now frame) ⌝ }
-    requires { ⌜ readOf (now frame) ≡ answers (record { header = headerOf (now frame); number = number }) ⌝ }
+    requires { ⌜ HasTag (now frame) 16 number network ⌝ }
     ensures { λ r. ⌜ saidTurned r ≡ toPrp (trailerOf kind) network (now (frame .entry)) (now (out .entry)) .said ⌝ }
     ensures { λ _. ⌜ now (out .exit) ≡ toPrp (trailerOf kind) network (now (frame .entry)) (now (out .entry)) .bytes ⌝ }
 {

@@ -17,16 +17,16 @@ use Rattle.prp.proofs.from_at.Tie as tie
 
 -- what is known of the frame at the start, and once its trailer is looked at
 few : (c : tie.After-slice-known) → let a = c .before .before .args in length (a .frame .now) - widthOf (trailerOf (a .kind)) + 6 ≤ frameMost
-few c = let p = c .before .before .pre in omega (arith, p .1 .1 .0, p .1 .1 .1 .0)
+few c = let p = c .before .before .pre in omega (arith, p .there, p .few)
 
 room : (c : tie.After-slice-known) → let a = c .before .before .args in typeAt (a .frame .now) + 2 + widthOf (trailerOf (a .kind)) ≤ length (a .frame .now)
-room c = let p = c .before .before .pre in omega (arith, p .0, p .1 .0)
+room c = let p = c .before .before .pre in omega (arith, p .here, p .whole)
 
 has : (c : tie.Else1) → let a = c .before .before .before .before .args in wears (trailerOf (a .kind)) (a .frame .now) ≡ true
 has c = sym (c .before .has-trailer .ensures) ∙ not-false _ (c .if1 .left)
 
 lan-word : (c : tie.After-word-at2) → let a = c .before .before .before .before .before .before .before .args in c .word-at2 .result ≡ word (a .frame .now) (endAt (trailerOf (a .kind)) (a .frame .now) + 2)
-lan-word c = let s = c .before .before .before .before .before .before .before in c .word-at2 .ensures ∙ ap (λ x. word (s .args .frame .now) (x + 2)) (s .pre .1 .1 .0)
+lan-word c = let s = c .before .before .before .before .before .before .before in c .word-at2 .ensures ∙ ap (λ x. word (s .args .frame .now) (x + 2)) (s .pre .there)
 
 has-trailer-requires : tie.Need-has-trailer-requires
 has-trailer-requires c κs = search needs
@@ -34,7 +34,7 @@ has-trailer-requires c κs = search needs
 returns : tie.Need-returns
 returns c =
     let s = c .before .before in
-    from-refused _ _ _ _ (from-none _ _ (few s) (room s) (s .before .before .pre .1 .1 .1 .1) (sym (c .before .has-trailer .ensures) ∙ not-true _ (c .if1 .taken)))
+    from-refused _ _ _ _ (from-none _ _ (few s) (room s) (s .before .before .pre .bare) (sym (c .before .has-trailer .ensures) ∙ not-true _ (c .if1 .taken)))
 
 add-len : tie.Need-add-len
 add-len c = search needs
@@ -42,16 +42,16 @@ add-len c = search needs
 returns-2 : tie.Need-returns-2
 returns-2 c =
     let s = c .before .before .before in
-    from-small _ _ _ (few s) (room s) (s .before .before .pre .1 .1 .1 .1) (has (c .before)) (omega (arith, s .before .before .pre .1 .1 .0, c .if2 .taken))
+    from-small _ _ _ (few s) (room s) (s .before .before .pre .bare) (has (c .before)) (omega (arith, s .before .before .pre .there, c .if2 .taken))
 
 word-at-requires : tie.Need-word-at-requires
-word-at-requires c κs = let s = c .before .before .before .before .before in let w = width-is (s .args .kind) in omega (arith, s .pre .1 .0, s .pre .1 .1 .0)
+word-at-requires c κs = let s = c .before .before .before .before .before in let w = width-is (s .args .kind) in omega (arith, s .pre .whole, s .pre .there)
 
 add-word-at : tie.Need-add-word-at
 add-word-at c = search needs
 
 word-at-requires-2 : tie.Need-word-at-requires-2
-word-at-requires-2 c κs = let s = c .before .before .before .before .before .before in let w = width-is (s .args .kind) in omega (arith, s .pre .1 .0, s .pre .1 .1 .0)
+word-at-requires-2 c κs = let s = c .before .before .before .before .before .before in let w = width-is (s .args .kind) in omega (arith, s .pre .whole, s .pre .there)
 
 sub-network : tie.Need-sub-network
 sub-network c = let a = c .before .before .before .before .before .before .before .args in let l = wears-is (trailerOf (a .kind)) (a .frame .now) (has (c .before .before .before)) in omega (arith, lan-word c, l .least)
@@ -75,11 +75,11 @@ returns-3 c =
     let e = u .before .before in
     let s = e .before .before .before in
     let p = s .before .before .pre in
-    from-done _ _ _ (few s) (room s) (p .1 .1 .1 .1) (has (e .before))
-    (p .1 .1 .0)
-    (p .0)
+    from-done _ _ _ (few s) (room s) (p .bare) (has (e .before))
+    (p .there)
+    (p .here)
     (ap (λ x. x / 4096 - 10) (lan-word u))
-    (u .before .word-at .ensures ∙ ap (word (s .before .before .args .frame .now)) (p .1 .1 .0))
+    (u .before .word-at .ensures ∙ ap (word (s .before .before .args .frame .now)) (p .there))
     refl
     (e .if2 .left)
     (c .before .before .write-with .ensures)

@@ -83,7 +83,7 @@ from-plain-requires c κs =
     let e = h .before .before .before .before in
     let w = e .before .before in
     let t = sym (c .before .if4 .taken) ∙ k .1 in
-    (t, (omega (arith, k .0, t), (ap (λ x. length (w .before .before .before .args .frame .now) - x) (w .width .ensures), (e .if2 .left, plain (c .before .before .before)))))
+    record { here = t; whole = omega (arith, k .0, t); there = ap (λ x. length (w .before .before .before .args .frame .now) - x) (w .width .ensures); few = e .if2 .left; bare = plain (c .before .before .before) }
 
 same-length : tie.Need-same-length
 same-length c = search needs
@@ -99,7 +99,7 @@ from-behind-vlan-requires c κs =
     let w = e .before .before in
     let f = w .before .before .before .args .frame .now in
     let t = sym (type-other f (λ z. c .before .if4 .left (k .1 ∙ z))) in
-    (t, (omega (arith, k .0, t), (ap (λ x. length f - x) (w .width .ensures), (e .if2 .left, plain (c .before .before .before)))))
+    record { here = t; whole = omega (arith, k .0, t); there = ap (λ x. length f - x) (w .width .ensures); few = e .if2 .left; bare = plain (c .before .before .before) }
 
 same-length-2 : tie.Need-same-length-2
 same-length-2 c = search needs

@@ -15,10 +15,10 @@ use Rattle.prp.proofs.to_at.Tie as tie
 
 -- what the tag says of the frame, and where its type field is without it
 known : (c : tie.After-slice-known) → let a = c .before .before .args in TagIs (a .frame .now) (headerOf (a .frame .now)) (a .number)
-known c = tag-is _ {r = Tagged (headerOf (c .before .before .args .frame .now)) (c .before .before .args .number)} _ _ (sym (c .before .before .pre .1 .1)) refl
+known c = tag-is _ {r = Tagged (headerOf (c .before .before .args .frame .now)) (c .before .before .args .number)} _ _ (sym (c .before .before .pre .read)) refl
 
 bare-type : (c : tie.After-type-without) → c .type-without .result ≡ typeAt (untagged (c .before .before .before .args .frame .now))
-bare-type c = let s = c .before .before .before in c .type-without .ensures ∙ ap (λ o. typeAt (cutAt (s .args .frame .now) o)) (s .pre .1 .0)
+bare-type c = let s = c .before .before .before in c .type-without .ensures ∙ ap (λ o. typeAt (cutAt (s .args .frame .now) o)) (s .pre .here)
 
 roomy : (c : tie.Else1) → let f = c .before .before .before .before .args .frame .now in
     typeAt (untagged f) + 2 ≤ length f - 6
@@ -28,7 +28,7 @@ sub-bare : tie.Need-sub-bare
 sub-bare c = let k = known c in omega arith
 
 type-without-requires : tie.Need-type-without-requires
-type-without-requires c κs = let k = known c in let p = c .before .before .pre in (p .1 .0, omega (arith, p .1 .0, k .room))
+type-without-requires c κs = let k = known c in let p = c .before .before .pre in (p .here, omega (arith, p .here, k .room))
 
 add-head : tie.Need-add-head
 add-head c = let t = type-least (untagged (c .before .before .before .args .frame .now)) in omega (arith, bare-type c)
@@ -37,7 +37,7 @@ returns : tie.Need-returns
 returns c =
     let s = c .before .before .before .before in
     let a = s .args in
-    to-refuses _ _ _ _ _ (to-short (trailerOf (a .kind)) (a .network) (a .frame .now) (s .pre .0) {r = Tagged _ _} _ _ (sym (s .pre .1 .1)) refl (omega (arith, bare-type (c .before), c .if1 .taken)))
+    to-refuses _ _ _ _ _ (to-short (trailerOf (a .kind)) (a .network) (a .frame .now) (s .pre .known) {r = Tagged _ _} _ _ (sym (s .pre .read)) refl (omega (arith, bare-type (c .before), c .if1 .taken)))
 
 width-requires : tie.Need-width-requires
 width-requires c κs = search needs
@@ -52,8 +52,8 @@ returns-2 c =
     let k = trailerOf (a .kind) in
     let f = a .frame .now in
     let room = roomy (c .before .before) in
-    to-small k (a .network) f (a .out .now) (toTurn k (a .network) (a .number) f) (to-is k (a .network) f (s .pre .0) {r = Tagged _ _} _ _ (sym (s .pre .1 .1)) refl room)
-    (omega (arith, to-length k (a .network) f (s .pre .0) {r = Tagged _ _} _ _ (sym (s .pre .1 .1)) refl room, c .before .width .ensures, c .if2 .taken))
+    to-small k (a .network) f (a .out .now) (toTurn k (a .network) (a .number) f) (to-is k (a .network) f (s .pre .known) {r = Tagged _ _} _ _ (sym (s .pre .read)) refl room)
+    (omega (arith, to-length k (a .network) f (s .pre .known) {r = Tagged _ _} _ _ (sym (s .pre .read)) refl room, c .before .width .ensures, c .if2 .taken))
 
 sub-write-trailer : tie.Need-sub-write-trailer
 sub-write-trailer c = search needs
@@ -74,7 +74,7 @@ write-trailer-requires c κs =
     let w = c .before .before in
     let k = known (c .before .before .before .before .before) in
     let i = width-is (a .kind) in
-    (s .pre .0, (omega (arith, k .few, w .width .ensures), simp (length-take, length-drop) (omega (arith, width-last (trailerOf (a .kind)), w .width .ensures, c .before .if2 .left))))
+    (s .pre .known, (omega (arith, k .few, w .width .ensures), simp (length-take, length-drop) (omega (arith, width-last (trailerOf (a .kind)), w .width .ensures, c .before .if2 .left))))
 
 write-without-requires : tie.Need-write-without-requires
 write-without-requires c κs = search needs
@@ -91,11 +91,11 @@ returns-3 c =
     let e = c .before .before .before .before .before .before .before .before in
     let w = e .before in
     let room = roomy (w .before) in
-    let long = to-length k (a .network) f (s .pre .0) {r = Tagged _ _} _ _ (sym (s .pre .1 .1)) refl room in
-    to-done k (a .network) f (a .out .now) (toTurn k (a .network) (a .number) f) (to-is k (a .network) f (s .pre .0) {r = Tagged _ _} _ _ (sym (s .pre .1 .1)) refl room)
+    let long = to-length k (a .network) f (s .pre .known) {r = Tagged _ _} _ _ (sym (s .pre .read)) refl room in
+    to-done k (a .network) f (a .out .now) (toTurn k (a .network) (a .number) f) (to-is k (a .network) f (s .pre .known) {r = Tagged _ _} _ _ (sym (s .pre .read)) refl room)
     (omega (arith, long, w .width .ensures))
     (e .if2 .left)
-    (to-written k (a .network) f (s .pre .0) {r = Tagged _ _} _ _ (sym (s .pre .1 .1)) refl room (a .out .now) (s .pre .1 .0 ∙ sym (known (c .before .before .before .before .before .before .before .before .before .before .before .before) .at)) refl
+    (to-written k (a .network) f (s .pre .known) {r = Tagged _ _} _ _ (sym (s .pre .read)) refl room (a .out .now) (s .pre .here ∙ sym (known (c .before .before .before .before .before .before .before .before .before .before .before .before) .at)) refl
     (omega (arith, w .width .ensures, bare-type (w .before .before)))
     (omega (arith, w .width .ensures, e .if2 .left))
     (c .before .before .before .before .before .before .write-trailer .ensures)

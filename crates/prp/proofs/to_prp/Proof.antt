@@ -41,7 +41,7 @@ returns-2 c =
     to-refuses _ _ _ _ _ (to-refused _ _ _ (r .before .if1 .left) (r .read-tag .ensures) (c .before .enum-told .given .1) (c .refusal-of .ensures))
 
 to-plain-requires : tie.Need-to-plain-requires
-to-plain-requires c κs = let g = c .before .before .before .before in (c .before .before .before .before .before .before .before .if1 .left, (sym (c .before .if2 .taken) ∙ known g .at, read g))
+to-plain-requires c κs = let g = c .before .before .before .before in record { known = c .before .before .before .before .before .before .before .if1 .left; here = sym (c .before .if2 .taken) ∙ known g .at; read = read g }
 
 same-length : tie.Need-same-length
 same-length c = search needs
@@ -50,7 +50,7 @@ returns-3 : tie.Need-returns-3
 returns-3 c = search needs
 
 to-behind-vlan-requires : tie.Need-to-behind-vlan-requires
-to-behind-vlan-requires c κs = let g = c .before .before .before .before in (c .before .before .before .before .before .before .before .if1 .left, (sym (type-other _ (λ z. c .before .if2 .left (known g .at ∙ z))), read g))
+to-behind-vlan-requires c κs = let g = c .before .before .before .before in record { known = c .before .before .before .before .before .before .before .if1 .left; here = sym (type-other _ (λ z. c .before .if2 .left (known g .at ∙ z))); read = read g }
 
 same-length-2 : tie.Need-same-length-2
 same-length-2 c = search needs
