@@ -19,13 +19,13 @@ unfoldable pub memory : (l : ℕ) (hs xs : List ℕ) → List ℕ
 memory l hs [] = hs
 memory l hs (x ∷ xs) = memory l (remembered l hs x) xs
 
-swap : (a b c : Bool) → a || (b || c) ≡ (b || a) || c
+pub swap : (a b c : Bool) → a || (b || c) ≡ (b || a) || c
 swap true true c = refl
 swap true false c = refl
 swap false true c = refl
 swap false false c = refl
 
-or-none : (a : Bool) → a || false ≡ a
+pub or-none : (a : Bool) → a || false ≡ a
 or-none true = refl
 or-none false = refl
 
@@ -62,7 +62,7 @@ same-high l xs = high-memory l xs [] ∙ omega arith
 
 -- ---- the count
 
-absent-same : (f : ℕ) (hs is : List ℕ) → ((y : ℕ) → elem y hs ≡ elem y is) → (n : ℕ) → absent f hs n ≡ absent f is n
+pub absent-same : (f : ℕ) (hs is : List ℕ) → ((y : ℕ) → elem y hs ≡ elem y is) → (n : ℕ) → absent f hs n ≡ absent f is n
 unfolding absent
 absent-same f hs is e zero = refl
 absent-same f hs is e (suc n) = rw (e (f + suc n), absent-same f hs is e n)

@@ -12,6 +12,8 @@ pub mod Parts
 pub mod Once
 pub mod Sums
 pub mod Stepping
+pub mod Sent
+pub mod Missed
 pub mod Runs
 pub mod Computing
 pub mod StepRuns
@@ -26,3 +28,4 @@ mod Linked
 mod Counting
 mod Follow
 mod Turns
+mod Firsts

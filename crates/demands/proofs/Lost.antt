@@ -4,6 +4,7 @@ use mathlib.Core.Path.{_≡_, refl, ap, sym, _∙_}
 use mathlib.Core.Bool.{Bool, true, false, false≢true}
 use mathlib.Core.List.{List, [], _∷_, map, nil≢cons, cons≢nil, head-eq-of-cons-eq, tail-eq-of-cons-eq}
 use native.Mathlib.Omega.{arith}
+use Rattle.record.specs.declared.Counts.{Counts}
 use Rattle.record.specs.declared.Stream.{Stream}
 use Rattle.record.specs.Words.{yes}
 use Rattle.record.specs.Sizes.{windowLeast, windowMost, vectorRule}
@@ -29,12 +30,12 @@ use Rattle.demands.proofs.After.{begun}
 use Rattle.demands.proofs.Absent.{memory, same-missed}
 use Rattle.demands.proofs.Counting.{Counted, on-first-counted, on-later-counted}
 
--- A tick that resets nothing changes neither early nor lost.
-tick-counts : (s : Stream) → expires s ≡ false → ticked s .counts .lost ≡ s .counts .lost
+-- A tick that resets nothing changes neither early nor a counter.
+pub tick-counts : (s : Stream) → expires s ≡ false → ticked s .counts ≡ s .counts
 unfolding ticked
 tick-counts s e = go (lawful s) refl
   where
-    go : (b : Bool) → lawful s ≡ b → ticked s .counts .lost ≡ s .counts .lost
+    go : (b : Bool) → lawful s ≡ b → ticked s .counts ≡ s .counts
     go true q = rw (e, q)
     go false q = rw (e, q)
 
@@ -76,7 +77,7 @@ module _ (l : ℕ) (least : windowLeast ≤ l) (most : l ≤ windowMost) where
       let a = simp tests at p in
       let x : expires s ≡ false = reset-seen s ∙ sym (rw z at e) ∙ a .0 in
       goes-on o es u f c hs xs (rw z (on-tick l s hs k x))
-      (rw z (record { has = m .has; early = tick-early s x ∙ m .early; lost = tick-counts s x ∙ m .lost })) r (a .1) i q
+      (rw z (record { has = m .has; early = tick-early s x ∙ m .early; lost = ap (λ (c : Counts). c .lost) (tick-counts s x) ∙ m .lost })) r (a .1) i q
   goes-on s (ended ∷ es) u f c hs xs k m t p i q = absurd (false≢true p)
   goes-on s (nothing ∷ es) u f c hs xs k m (o, e, r) p i q =
       goes-on o es u f c hs xs (rw (e (k .used)) k) (rw (e (k .used)) m) r p i q
@@ -97,7 +98,7 @@ module _ (l : ℕ) (least : windowLeast ≤ l) (most : l ≤ windowMost) where
   starts s (tick b ∷ es) u c f xs k m (o, (e, z), r) p i q =
       let a = simp tests at p in
       let x : expires s ≡ false = reset-seen s ∙ sym (rw z at e) ∙ a .0 in
-      starts o es u c f xs (rw z (on-tick l s [] k x)) (rw z (tick-counts s x ∙ m)) r (a .1) i q
+      starts o es u c f xs (rw z (on-tick l s [] k x)) (rw z (ap (λ (c : Counts). c .lost) (tick-counts s x) ∙ m)) r (a .1) i q
   starts s (ended ∷ es) u c f xs k m t p i q = absurd (false≢true p)
   starts s (nothing ∷ es) u c f xs k m (o, e, r) p i q =
       starts o es u c f xs (rw (e (k .used)) k) (rw (e (k .used)) m) r p i q

@@ -30,7 +30,7 @@ same-machine : {m : Machine} → MeetsAll m → m ≡ theMachine
 unfolding theMachine
 same-machine k = λ i. record { receive = alike (k .receive) i; batch = λ t b. k .batch t b i }
 
-carried : (P : Machine → Type 0) → P theMachine → {m : Machine} → MeetsAll m → P m
+pub carried : (P : Machine → Type 0) → P theMachine → {m : Machine} → MeetsAll m → P m
 carried P p k = subst P (sym (same-machine k)) p
 
 pub the-machine-meets : MeetsAll theMachine

@@ -11,6 +11,8 @@ use Rattle.demands.proofs.After.{never-twice, unlimited-never-twice, op
 use Rattle.demands.proofs.Absent.{lost-for-good}
 use Rattle.demands.proofs.Lost.{fresh-lost, opened-lost}
 use Rattle.demands.proofs.Stepping.{the-machine-meets, steps-are-calls, batches-are-calls, seen-as-calls, demand-1-steps, demand-3-steps, fresh-lost-steps, steps-coincide}
+use Rattle.demands.proofs.Sent.{seen-or-refused, refused-with}
+use Rattle.demands.proofs.Missed.{nothing-seen-missed, nothing-missed, nothing-seen-missed-steps, nothing-missed-steps}
 use Rattle.demands.proofs.Runs.{wrap-meets, bound-reached, premises-are, bound-sharp, premises-needed}
 use Rattle.demands.proofs.StepRuns.{wrap-in-one}
 use Rattle.demands.proofs.Wrong.{right-otherwise, ruled-out}
@@ -29,6 +31,10 @@ demands m = record {
   resets-seen = resets-seen m;
   fresh-lost = fresh-lost m;
   opened-lost = opened-lost m;
+  nothing-seen-missed = nothing-seen-missed m;
+  nothing-missed = nothing-missed m;
+  seen-or-refused = seen-or-refused m;
+  refused-with = refused-with m;
 }
 
 pub step-demands : {m : Machine} → MeetsAll m → StepDemands m
@@ -39,6 +45,8 @@ step-demands k = record {
   batches-are-calls = batches-are-calls k;
   seen-as-calls = seen-as-calls k;
   fresh-lost-steps = fresh-lost-steps k;
+  nothing-seen-missed-steps = nothing-seen-missed-steps k;
+  nothing-missed-steps = nothing-missed-steps k;
 }
 
 pub theorems : Theorems

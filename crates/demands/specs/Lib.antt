@@ -9,6 +9,7 @@ pub mod Demand3
 pub mod Steps
 pub mod Corollaries
 pub mod Lost
+pub mod Missed
 pub mod Examples
 pub mod Needed
 pub mod StepExamples

@@ -10,6 +10,7 @@ use Rattle.demands.specs.Demand3.{Demand3}
 use Rattle.demands.specs.Steps.{Machine, MeetsAll, theMachine, StepsAreCalls, BatchesAreCalls, SeenAsCalls, Demand1Steps, Demand3Steps, StepsCoincide}
 use Rattle.demands.specs.Corollaries.{NeverTwice, UnlimitedNeverTwice, FreshDecides, OpenedDecides, RestartGetsThrough, CountsOnce}
 use Rattle.demands.specs.Lost.{FreshLost, OpenedLost, FreshLostSteps, LostForGood}
+use Rattle.demands.specs.Missed.{NothingSeenMissed, NothingMissed, SeenOrRefused, RefusedWith, NothingSeenMissedSteps, NothingMissedSteps}
 use Rattle.demands.specs.Wrong.{RightOtherwise, RuledOut}
 use Rattle.demands.specs.Examples.{WrapMeets}
 use Rattle.demands.specs.Needed.{BoundReached, PremisesAre, BoundSharp, PremisesNeeded}
@@ -29,9 +30,13 @@ pub record Demands (receive : Receiver) : Type 0 where
   pub resets-seen : ResetsSeen receive
   pub fresh-lost : FreshLost receive
   pub opened-lost : OpenedLost receive
+  pub nothing-seen-missed : NothingSeenMissed receive
+  pub nothing-missed : NothingMissed receive
+  pub seen-or-refused : SeenOrRefused receive
+  pub refused-with : RefusedWith receive
 
--- Of a receiver with the batch beside it: demands 1 and 3 of steps that are single calls and batches, what lost means there, and
--- that these are read as the calls that they are.
+-- Of a receiver with the batch beside it: demands 1 and 3 of steps that are single calls and batches, what lost means there, that
+-- nothing is missed there, and that these are read as the calls that they are.
 pub record StepDemands (m : Machine) : Type 0 where
   pub demand-1-steps : Demand1Steps m
   pub demand-3-steps : Demand3Steps m
@@ -39,6 +44,8 @@ pub record StepDemands (m : Machine) : Type 0 where
   pub batches-are-calls : BatchesAreCalls m
   pub seen-as-calls : SeenAsCalls m
   pub fresh-lost-steps : FreshLostSteps m
+  pub nothing-seen-missed-steps : NothingSeenMissedSteps m
+  pub nothing-missed-steps : NothingMissedSteps m
 
 pub record Theorems : Type 2 where
   -- Every receiver that meets the contract fulfils the demands,

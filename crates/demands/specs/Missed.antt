@@ -1,0 +1,153 @@
+-- Document 02, order 8. "Show that nothing is missed. Operators can live with a late command but not with a silent hole. In any run
+-- of a vector stream from the fresh state, with no reset, closing or refused arrival, suppose a frame's number is its index modulo
+-- 65536 and every arrival after the first has an index less than L from the highest that arrived before it on either network. Then
+-- every index that arrives is handed up exactly once, at its first arrival." Assumes nothing.
+use Prim.Native.Nat.{ℕ, suc, _+_}
+use mathlib.Core.Path.{_≡_}
+use mathlib.Core.Bool.{Bool, true, _&&_, not}
+use mathlib.Core.List.{List, [], _∷_, _++_, map}
+use lib.Dec.{eqb, ltb}
+use lib.IntN.{ℤ}
+use Rattle.refusal.specs.Checks.{Said}
+use Rattle.refusal.specs.Checks.Said.{refused, answers}
+use Rattle.refusal.specs.Numbers.{TABLE, NETWORK, DAMAGED, ROOM}
+use Rattle.record.specs.declared.Stream.{Stream}
+use Rattle.record.specs.Words.{if_then_else_, yes}
+use Rattle.record.specs.Sizes.{vectorRule}
+use Rattle.frame.specs.Frame.{Tag, readOf}
+use Rattle.stream.specs.History.{one}
+use Rattle.stream.specs.Record.{lawful}
+use Rattle.stream.specs.Decisions.{Verdict, isUp, rise}
+use Rattle.calls.specs.Table.{Table, at, search, someSlot, hasKey}
+use Rattle.calls.specs.Calls.{Call, arriving, opening, closing, resetting, ticking, Answer, admitted}
+use Rattle.demands.specs.Receiver.{Receiver, run}
+use Rattle.demands.specs.Seen.{seen, log, numbers, verdicts, lasting, every}
+use Rattle.demands.specs.Unlimited.{elem, highest, apart}
+use Rattle.demands.specs.Demand3.{numberOf}
+use Rattle.demands.specs.Corollaries.{handedOf, sumOf, sumOnce}
+use Rattle.demands.specs.Steps.{Step, Machine, ranSteps, readAs, logSteps}
+use Rattle.demands.specs.Lost.{missed}
+
+-- ---- of the indices
+
+-- "Every arrival after the first has an index less than L from the highest that arrived before it on either network": neither the
+-- network nor what was handed up is asked for.
+unfoldable pub allClose : (window : ℕ) (before indices : List ℕ) → Bool
+allClose window before [] = true
+allClose window [] (x ∷ xs) = allClose window (x ∷ []) xs
+allClose window (b ∷ bs) (x ∷ xs) = ltb (apart x (highest (b ∷ bs))) window && allClose window (x ∷ b ∷ bs) xs
+
+-- Which arrivals are the first of their index.
+unfoldable pub firsts : (before indices : List ℕ) → List Bool
+firsts before [] = []
+firsts before (x ∷ xs) = not (elem x before) ∷ firsts (x ∷ before) xs
+
+-- how often an index stands in a list
+unfoldable pub times : ℕ → List ℕ → ℕ
+times x [] = 0
+times x (y ∷ ys) = one (eqb x y) + times x ys
+
+-- A counter that has risen, modulo 2^64, by the indices above the first and at most highest - L that never arrived.
+abbrev pub withHoles : (window count : ℕ) (indices : List ℕ) → ℕ
+withHoles window count [] = count
+withHoles window count (first ∷ rest) = rise count (missed window first (first ∷ rest))
+
+-- What is promised: of a record before and after a run, of the verdicts on its arrivals and of their indices.
+pub record NoneMissed (before after : Stream) (vs : List Verdict) (indices : List ℕ) : Type 0 where
+  -- "at its first arrival": the k-th arrival is handed up exactly if no arrival before it had its index;
+  pub at-first : map isUp vs ≡ firsts [] indices
+  -- "every index that arrives is handed up exactly once", and no other;
+  pub once : (x : ℕ) → times x (handedOf vs indices) ≡ one (elem x indices)
+  -- so a sum over what is handed up is the sum over the indices that arrived, each of them once;
+  pub sums : (f : ℕ → ℤ) → sumOf f (handedOf vs indices) ≡ sumOnce f (suc (highest indices)) indices
+  -- no arrival is a rogue;
+  pub no-rogue : after .counts .rogue ≡ before .counts .rogue
+  -- and no hole is silent: lost counts what never arrived.
+  pub lost : after .counts .lost ≡ withHoles (before .window) (before .counts .lost) indices
+
+-- ---- over what the stream sees
+
+-- The premises: a run of calls from a table t for the stream in its slot i, the numbers of its arrivals and their true indices.
+pub record Unbroken (receive : Receiver) (t : Table) (i : ℕ) (calls : List Call) (arrived indices : List ℕ) : Type 0 where
+  -- "any run of a vector stream from the fresh state": lawful, and take-any holds;
+  pub vector : at t i .rule ≡ vectorRule
+  pub lawful : lawful (at t i) ≡ true
+  pub fresh : yes (at t i .state .any) ≡ true
+  -- "with no reset", by call or by tick, and no "closing";
+  pub lasts : every lasting (log receive i t calls) ≡ true
+  -- "a frame's number is its index modulo 65536",
+  pub numbered : arrived ≡ map numberOf indices
+  pub close : allClose (at t i .window) [] indices ≡ true
+
+-- A refused call is no arrival in the log of a stream, and so no word of refusals is needed.
+abbrev pub NothingSeenMissed : Receiver → Type 0
+NothingSeenMissed receive =
+    (t : Table) (i : ℕ) (calls : List Call) (indices : List ℕ)
+    → Unbroken receive t i calls (numbers (log receive i t calls)) indices
+    → NoneMissed (at t i) (at (run receive t calls) i) (verdicts (log receive i t calls)) indices
+
+-- ---- in the order's words: over all that arrives
+
+-- The number of a frame for the stream in slot i: one that passes 3, 4, 5 and 14, and i is the lowest slot with its key.
+unfoldable pub numberFor : (slot : ℕ) → Table → Said Tag → List ℕ
+numberFor i t (refused n) = []
+numberFor i t (answers g) =
+    let key : Stream → Bool = hasKey (g .header .dest) (g .header .vlan) in
+    if someSlot key t && eqb (search key t) i then g .number ∷ [] else []
+
+-- An arrival of that stream, refused or not, by its number. (Ordinary traffic to the same address has no tag and is none.)
+abbrev pub sentTo : (slot : ℕ) → Table → Call → List ℕ
+sentTo i t (arriving network f out) = numberFor i t (admitted f (readOf f))
+sentTo i t (opening dest vlan rule window time) = []
+sentTo i t (closing j) = []
+sentTo i t (resetting j) = []
+sentTo i t ticking = []
+
+-- one that is refused
+abbrev pub turnedAway : (slot : ℕ) → Table → Call → Said Answer → List ℕ
+turnedAway i t c (refused n) = sentTo i t c
+turnedAway i t c (answers a) = []
+
+-- Those of a run, and the refused ones among them.
+unfoldable pub arrivals : Receiver → (slot : ℕ) → Table → List Call → List ℕ
+arrivals receive i t [] = []
+arrivals receive i t (c ∷ cs) = sentTo i t c ++ arrivals receive i (receive t c .table) cs
+
+unfoldable pub refusedArrivals : Receiver → (slot : ℕ) → Table → List Call → List ℕ
+refusedArrivals receive i t [] = []
+refusedArrivals receive i t (c ∷ cs) = turnedAway i t c (receive t c .said) ++ refusedArrivals receive i (receive t c .table) cs
+
+-- The order: "with no .. refused arrival".
+abbrev pub NothingMissed : Receiver → Type 0
+NothingMissed receive =
+    (t : Table) (i : ℕ) (calls : List Call) (indices : List ℕ)
+    → Unbroken receive t i calls (arrivals receive i t calls) indices → refusedArrivals receive i t calls ≡ []
+    → NoneMissed (at t i) (at (run receive t calls) i) (verdicts (log receive i t calls)) indices
+
+-- The two readings fit: each arrival of a stream is seen by it, with its number, or refused; and none but these is seen.
+abbrev pub SeenOrRefused : Receiver → Type 0
+SeenOrRefused receive =
+    (t : Table) (i : ℕ) (c : Call)
+    → sentTo i t c ≡ numbers (seen i t c (receive t c) ∷ []) ++ turnedAway i t c (receive t c .said)
+
+-- It can be refused with 1, 2, 7 or 8 only.
+abbrev pub RefusedWith : Receiver → Type 0
+RefusedWith receive =
+    (t : Table) (i : ℕ) (c : Call) (number n : ℕ)
+    → sentTo i t c ≡ number ∷ [] → receive t c .said ≡ refused n
+    → elem n (TABLE ∷ NETWORK ∷ DAMAGED ∷ ROOM ∷ []) ≡ true
+
+-- ---- with batches: over runs of steps, both ways
+
+abbrev pub NothingSeenMissedSteps : Machine → Type 0
+NothingSeenMissedSteps m =
+    (t : Table) (i : ℕ) (steps : List Step) (indices : List ℕ)
+    → Unbroken (m .receive) t i (readAs m t steps) (numbers (logSteps m i t steps)) indices
+    → NoneMissed (at t i) (at (ranSteps m t steps) i) (verdicts (logSteps m i t steps)) indices
+
+abbrev pub NothingMissedSteps : Machine → Type 0
+NothingMissedSteps m =
+    (t : Table) (i : ℕ) (steps : List Step) (indices : List ℕ)
+    → Unbroken (m .receive) t i (readAs m t steps) (arrivals (m .receive) i t (readAs m t steps)) indices
+    → refusedArrivals (m .receive) i t (readAs m t steps) ≡ []
+    → NoneMissed (at t i) (at (ranSteps m t steps) i) (verdicts (logSteps m i t steps)) indices
