@@ -119,8 +119,8 @@ seen-so t i calls indices p =
       at-first = rw d (m .ups);
       once = λ x. rw d (times-distinct x (handedBy l indices) o ∙ ap one (same-indices l indices m x));
       sums = λ f. rw d (
-        sums f (suc (highest indices)) (handedBy l indices) (omega (arith, same-highest l indices m)) o
-        ∙ sum-same f (suc (highest indices)) (handedBy l indices) indices (same-indices l indices m));
+          sums f (suc (highest indices)) (handedBy l indices) (omega (arith, same-highest l indices m)) o
+          ∙ sum-same f (suc (highest indices)) (handedBy l indices) indices (same-indices l indices m));
       no-rogue = counter-stays t i calls indices p tame (λ (c : Counts). c .rogue) rogue-leaves (rw d (m .tames));
       lost = lost-so t i calls indices p;
     }

@@ -1,0 +1,179 @@
+-- The runs of `specs/MissedRuns` compute. Assumes nothing.
+use Prim.Native.Nat.{ℕ}
+use mathlib.Core.Path.{_≡_, refl}
+use mathlib.Core.Bool.{Bool, true, false, false≢true}
+use mathlib.Core.List.{List, [], _∷_, flatMap, cons≢nil, head-eq-of-cons-eq, tail-eq-of-cons-eq}
+use native.Mathlib.Omega.{arith}
+use lib.Dec.{eqb}
+use Rattle.record.specs.declared.Stream.{Stream}
+use Rattle.record.specs.Words.{if_then_else_}
+use Rattle.frame.specs.Bytes.{overlay}
+use Rattle.stream.specs.Decisions.{duplicate}
+use Rattle.calls.specs.Table.{Table}
+use Rattle.calls.specs.Calls.{Call, arriving, opening, closing, resetting, ticking, Act, refuse, arrive, opens, closes, resets, ticks, act, answer, Answer, outOf, Result}
+use Rattle.batch.specs.Batch.{runsPast, framesIn, addsFor, ends, turnsIn, comesTo, reached, tableAfter, packed, before, answersOf, bundle, batchOf}
+use Rattle.demands.specs.Steps.{theMachine, tableOf, ranSteps, callsOf, readAs, seenIn, seenOfStep, logSteps}
+use Rattle.demands.specs.Seen.{Seen, arrived, tick, ended, nothing, heard, answered, seenOf, seen, log, verdicts}
+use Rattle.demands.specs.Corollaries.{handedOf, distinct}
+use Rattle.demands.specs.Missed.{allClose, firsts, numberFor, arrivals, refusedArrivals}
+use Rattle.demands.specs.Wrong.{byAct, deciding, findsDuplicates}
+use Rattle.demands.proofs.Alike.{the-receiver-meets}
+use Rattle.demands.proofs.Missed.{nothing-missed}
+use Rattle.demands.proofs.Computing.{computing}
+use Rattle.lost_runs.specs.LostRuns.{begin, sent}
+use Rattle.missed_runs.specs.MissedRuns.{dead, deadIndices, swapped, swappedIndices, drawn, drawnIndices, drawnSteps, cutSteps, onlyHigher, MissedPremisesAre, MissedShown, ClosePinned, MissedPremisesNeeded, ArrivalsShown, MissedStepsShown, HandsUpNothing, OnlyHigher}
+
+pub missed-premises-are : MissedPremisesAre
+missed-premises-are t calls indices a =
+    nothing-missed the-receiver-meets t 0 calls indices
+    (record {
+      vector = a .0;
+      lawful = a .1 .0;
+      fresh = a .1 .1 .0;
+      lasts = a .1 .1 .1 .0;
+      numbered = a .1 .1 .1 .1 .1 .0;
+      close = a .1 .1 .1 .1 .1 .1 .0;
+    })
+    (a .1 .1 .1 .1 .0)
+
+pub missed-shown : MissedShown
+unfolding computing allClose firsts numberFor arrivals refusedArrivals begin sent dead deadIndices swapped swappedIndices drawn drawnIndices
+missed-shown = record {
+  dead = record { premises = (refl, (refl, (refl, (refl, (refl, (refl, (refl, tt))))))); given = refl; rogue = refl; lost = refl };
+  swapped = record { premises = (refl, (refl, (refl, (refl, (refl, (refl, (refl, tt))))))); given = refl; rogue = refl; lost = refl };
+  drawn = record { premises = (refl, (refl, (refl, (refl, (refl, (refl, (refl, tt))))))); given = refl; rogue = refl; lost = refl };
+  silent = record { premises = (refl, (refl, (refl, (refl, (refl, (refl, (refl, tt))))))); given = refl; rogue = refl; lost = refl };
+}
+
+pub close-pinned : ClosePinned
+unfolding computing allClose firsts numberFor arrivals refusedArrivals sent
+close-pinned = record {
+  reached = (
+    record { within = refl; shown = record { premises = (refl, (refl, (refl, (refl, (refl, (refl, (refl, tt))))))); given = refl; rogue = refl; lost = refl } },
+    record { within = refl; shown = record { premises = (refl, (refl, (refl, (refl, (refl, (refl, (refl, tt))))))); given = refl; rogue = refl; lost = refl } },
+    record { within = refl; shown = record { premises = (refl, (refl, (refl, (refl, (refl, (refl, (refl, tt))))))); given = refl; rogue = refl; lost = refl } },
+    record { within = refl; shown = record { premises = (refl, (refl, (refl, (refl, (refl, (refl, (refl, tt))))))); given = refl; rogue = refl; lost = refl } },
+    record { within = refl; shown = record { premises = (refl, (refl, (refl, (refl, (refl, (refl, (refl, tt))))))); given = refl; rogue = refl; lost = refl } },
+    record { within = refl; shown = record { premises = (refl, (refl, (refl, (refl, (refl, (refl, (refl, tt))))))); given = refl; rogue = refl; lost = refl } },
+  );
+  sharp = (
+    record { beyond = refl; close = record { broken = (refl, (refl, (refl, (refl, (refl, (refl, (false≢true, tt))))))); given = refl; wanted = refl } },
+    record { beyond = refl; close = record { broken = (refl, (refl, (refl, (refl, (refl, (refl, (false≢true, tt))))))); given = refl; wanted = refl } },
+    record { beyond = refl; close = record { broken = (refl, (refl, (refl, (refl, (refl, (refl, (false≢true, tt))))))); given = refl; wanted = refl } },
+    record { beyond = refl; close = record { broken = (refl, (refl, (refl, (refl, (refl, (refl, (false≢true, tt))))))); given = refl; wanted = refl } },
+    record { beyond = refl; close = record { broken = (refl, (refl, (refl, (refl, (refl, (refl, (false≢true, tt))))))); given = refl; wanted = refl } },
+    record { beyond = refl; close = record { broken = (refl, (refl, (refl, (refl, (refl, (refl, (false≢true, tt))))))); given = refl; wanted = refl } },
+  );
+}
+
+-- A list that is not empty is no empty one, and 7 is not 8.
+some-refused : _≡_ {A = List ℕ} (8 ∷ []) [] → ⊥
+some-refused = cons≢nil
+
+no-number : _≡_ {A = List ℕ} (7 ∷ 7 ∷ []) (7 ∷ 8 ∷ []) → ⊥
+no-number e = let z : _≡_ {A = ℕ} 7 8 = head-eq-of-cons-eq (tail-eq-of-cons-eq e) in omega arith
+
+pub missed-premises-needed : MissedPremisesNeeded
+unfolding computing allClose firsts numberFor arrivals refusedArrivals begin sent
+missed-premises-needed = record {
+  matching = record { broken = (λ e. (let z : _≡_ {A = ℕ} 2 1 = e in omega arith), (refl, (refl, (refl, (refl, (refl, (refl, tt))))))); given = refl; wanted = refl };
+  free = record { broken = (refl, (false≢true, (refl, (refl, (refl, (refl, (refl, tt))))))); given = refl; wanted = refl };
+  begun = record { broken = (refl, (refl, (false≢true, (refl, (refl, (refl, (refl, tt))))))); given = refl; wanted = refl };
+  ticked = record { broken = (refl, (refl, (refl, (false≢true, (refl, (refl, (refl, tt))))))); given = refl; wanted = refl };
+  reset = record { broken = (refl, (refl, (refl, (false≢true, (refl, (refl, (refl, tt))))))); given = refl; wanted = refl };
+  reopened = record { broken = (refl, (refl, (refl, (false≢true, (refl, (refl, (refl, tt))))))); given = refl; wanted = refl };
+  no-room = record { broken = (refl, (refl, (refl, (refl, (some-refused, (refl, (refl, tt))))))); given = refl; wanted = refl };
+  no-network = record { broken = (refl, (refl, (refl, (refl, (some-refused, (refl, (refl, tt))))))); given = refl; wanted = refl };
+  renumbered = record { broken = (refl, (refl, (refl, (refl, (refl, (no-number, (refl, tt))))))); given = refl; wanted = refl };
+  ahead = record { broken = (refl, (refl, (refl, (refl, (refl, (refl, (false≢true, tt))))))); given = refl; wanted = refl };
+  ahead-lost = refl;
+  behind = record { broken = (refl, (refl, (refl, (refl, (refl, (refl, (false≢true, tt))))))); given = refl; wanted = refl };
+}
+
+pub arrivals-shown : ArrivalsShown
+unfolding computing numberFor begin
+arrivals-shown = record {
+  many-slots = (refl, refl);
+  no-network = (refl, refl);
+  damaged = (refl, refl);
+  no-room = (refl, refl);
+  untagged = refl;
+  grouped = refl;
+  other-key = (refl, refl);
+  lower-slot = (refl, refl);
+}
+
+pub missed-steps-shown : MissedStepsShown
+unfolding computing allClose numberFor arrivals refusedArrivals begin drawnIndices flatMap overlay runsPast framesIn addsFor ends turnsIn comesTo reached tableAfter packed before answersOf bundle batchOf theMachine tableOf ranSteps callsOf readAs seenIn seenOfStep logSteps drawnSteps cutSteps
+missed-steps-shown = record {
+  premises = record { vector = refl; lawful = refl; fresh = refl; lasts = refl; numbered = refl; close = refl };
+  none-refused = refl;
+  given = refl;
+  cut-arrivals = refl;
+  cut-refused = refl;
+}
+
+-- ---- two wrong receivers
+
+-- What a stream sees is no hand-up.
+abbrev Quiet : Seen → Type 0
+Quiet (arrived n v) = v ≡ duplicate
+Quiet (tick b) = Unit {0}
+Quiet ended = Unit {0}
+Quiet nothing = Unit {0}
+
+quiet-if : (b : Bool) (x y : Seen) → Quiet x → Quiet y → Quiet (if b then x else y)
+quiet-if true x y p q = p
+quiet-if false x y p q = q
+
+quiet-answer : (i : ℕ) (t : Table) (c : Call) (r : Result) (a : Answer) → Quiet (heard i a) → Quiet (answered i t c r a)
+unfolding answered
+quiet-answer i t (arriving network f out) r a q = q
+quiet-answer i t (opening dest vlan rule window time) r a q = tt
+quiet-answer i t (closing j) r a q = quiet-if (eqb j i) ended nothing tt tt
+quiet-answer i t (resetting j) r a q = quiet-if (eqb j i) ended nothing tt tt
+quiet-answer i t ticking r a q = tt
+
+-- A receiver that finds every arrival a duplicate, whatever it stores.
+module _ (d : Stream → (number network : ℕ) → Stream) where
+  quiet-act : (i : ℕ) (t : Table) (c : Call) (a : Act) → Quiet (seen i t c (byAct (λ s n. duplicate) d t (outOf c) a))
+  unfolding byAct seenOf answer
+  quiet-act i t c (refuse n) = tt
+  quiet-act i t c (arrive j n w bare) =
+      quiet-answer i t c (byAct (λ s n. duplicate) d t (outOf c) (arrive j n w bare)) _ (quiet-if (eqb j i) (arrived n duplicate) nothing refl tt)
+  quiet-act i t c (opens j s) = quiet-answer i t c (byAct (λ s n. duplicate) d t (outOf c) (opens j s)) _ tt
+  quiet-act i t c (closes j) = quiet-answer i t c (byAct (λ s n. duplicate) d t (outOf c) (closes j)) _ tt
+  quiet-act i t c (resets j) = quiet-answer i t c (byAct (λ s n. duplicate) d t (outOf c) (resets j)) _ tt
+  quiet-act i t c ticks = quiet-answer i t c (byAct (λ s n. duplicate) d t (outOf c) ticks) _ tt
+
+one-more : (e : Seen) (es : List Seen) (xs : List ℕ) → Quiet e → ((ys : List ℕ) → handedOf (verdicts es) ys ≡ [])
+    → handedOf (verdicts (e ∷ es)) xs ≡ []
+unfolding verdicts handedOf
+one-more (arrived n v) es [] q f = refl
+one-more (arrived n v) es (x ∷ xs) q f = rw q (f xs)
+one-more (tick b) es xs q f = f xs
+one-more ended es xs q f = f xs
+one-more nothing es xs q f = f xs
+
+none-up : (i : ℕ) (t : Table) (calls : List Call) (xs : List ℕ) → handedOf (verdicts (log findsDuplicates i t calls)) xs ≡ []
+unfolding log verdicts handedOf findsDuplicates deciding
+none-up i t [] xs = refl
+none-up i t (c ∷ cs) xs =
+    one-more (seen i t c (findsDuplicates t c)) (log findsDuplicates i (findsDuplicates t c .table) cs) xs
+    (quiet-act _ i t c (act t c)) (none-up i (findsDuplicates t c .table) cs)
+
+pub hands-up-nothing : HandsUpNothing
+unfolding computing allClose firsts numberFor arrivals refusedArrivals begin sent distinct byAct deciding findsDuplicates
+hands-up-nothing = record {
+  at-most-once = λ t i calls indices p e. rw (none-up i t calls indices);
+  misses = λ h. false≢true (head-eq-of-cons-eq (h begin 0 (sent (7 ∷ [])) (7 ∷ [])
+      (record { vector = refl; lawful = refl; fresh = refl; lasts = refl; numbered = refl; close = refl }) refl .at-first));
+}
+
+pub only-higher : OnlyHigher
+unfolding computing allClose firsts numberFor arrivals refusedArrivals begin sent drawn drawnIndices handedOf byAct deciding onlyHigher
+only-higher = record {
+  given = refl;
+  misses = λ h. false≢true (head-eq-of-cons-eq (tail-eq-of-cons-eq (h begin 0 (sent (8 ∷ 7 ∷ [])) (8 ∷ 7 ∷ [])
+      (record { vector = refl; lawful = refl; fresh = refl; lasts = refl; numbered = refl; close = refl }) refl .at-first)));
+}
