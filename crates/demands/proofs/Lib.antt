@@ -13,6 +13,7 @@ pub mod Once
 pub mod Sums
 pub mod Stepping
 pub mod Sent
+pub mod Begins
 pub mod Missed
 pub mod Runs
 pub mod Computing

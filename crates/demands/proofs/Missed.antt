@@ -1,7 +1,7 @@
 -- Order 8: nothing is missed. Assumes nothing.
 use Prim.Native.Nat.{ℕ, suc}
 use mathlib.Core.Path.{_≡_, refl, ap, sym, _∙_, subst}
-use mathlib.Core.Bool.{Bool, true, false, not, false≢true}
+use mathlib.Core.Bool.{Bool, true, false, false≢true}
 use mathlib.Core.List.{List, [], _∷_}
 use native.Mathlib.Omega.{arith}
 use Rattle.record.specs.declared.Counts.{Counts}
@@ -17,10 +17,10 @@ use Rattle.calls.specs.Calls.{Call}
 use Rattle.demands.specs.Receiver.{Receiver, MeetsContract, theReceiver, run}
 use Rattle.demands.specs.Seen.{Seen, arrived, tick, ended, nothing, log, numbers, verdicts, lasting, every}
 use Rattle.demands.specs.Unlimited.{elem, highest, unlimited}
-use Rattle.demands.specs.Corollaries.{handedOf, Lasting}
+use Rattle.demands.specs.Corollaries.{Lasting}
 use Rattle.demands.specs.Lost.{missed, handedBy}
 use Rattle.demands.specs.Steps.{Step, Machine, MeetsAll, theMachine, ranSteps, readAs, logSteps}
-use Rattle.demands.specs.Missed.{withHoles, NoneMissed, Unbroken, NothingSeenMissed, arrivals, refusedArrivals, NothingMissed, NothingSeenMissedSteps, NothingMissedSteps}
+use Rattle.demands.specs.Missed.{withHoles, NoneMissed, Unbroken, NothingSeenMissed, NothingMissed, NothingSeenMissedSteps, NothingMissedSteps}
 use Rattle.demands.proofs.Alike.{carried, the-receiver-meets}
 use Rattle.demands.proofs.Moves.{Trace}
 use Rattle.demands.proofs.Slot.{traced}
@@ -84,20 +84,20 @@ module _ (l : ℕ) (xs : List ℕ) (m : Unmissed l [] [] xs) where
 module _ (t : Table) (i : ℕ) (calls : List Call) (indices : List ℕ)
     (p : Unbroken theReceiver t i calls (numbers (log theReceiver i t calls)) indices) where
   here : Unmissed (at t i .window) [] [] indices
-  here = unmissed (at t i .window) (size (law (p .lawful)) .most) indices (p .close)
+  here = unmissed (at t i .window) (size (law (p .fresh .lawful)) .most) indices (p .close)
 
   lasting-so : Lasting theReceiver t i (at t i .window) calls indices
   lasting-so = record { lasts = p .lasts; numbered = p .numbered; near = here .nears }
 
   decides : verdicts (log theReceiver i t calls) ≡ unlimited (at t i .window) [] indices
-  decides = fresh-decides the-receiver-meets t i calls indices (p .lawful) (p .fresh) (p .vector) lasting-so
+  decides = fresh-decides the-receiver-meets t i calls indices (p .fresh .lawful) (p .fresh .any) (p .fresh .vector) lasting-so
 
   counter-stays : (kind : Verdict → Bool) (count : Counts → ℕ)
       → ((s : Stream) (n w : ℕ) → kind (verdict s n) ≡ true → count (decided s n w .counts) ≡ count (s .counts))
       → all kind (verdicts (log theReceiver i t calls)) ≡ true → count (at (run theReceiver t calls) i .counts) ≡ count (at t i .counts)
   counter-stays kind count leaves a =
-      stays kind count leaves (at t i) (log theReceiver i t calls) (at (run theReceiver t calls) i) (law (p .lawful) .used)
-      (traced t i calls (inside t i (p .lawful))) (p .lasts) a
+      stays kind count leaves (at t i) (log theReceiver i t calls) (at (run theReceiver t calls) i) (law (p .fresh .lawful) .used)
+      (traced t i calls (inside t i (p .fresh .lawful))) (p .lasts) a
 
 lost-so : (t : Table) (i : ℕ) (calls : List Call) (indices : List ℕ)
     → Unbroken theReceiver t i calls (numbers (log theReceiver i t calls)) indices
@@ -106,7 +106,7 @@ unfolding unlimited all
 lost-so t i calls [] p =
     counter-stays t i calls [] p (λ v. false) (λ (c : Counts). c .lost) (λ s n w e. absurd (false≢true e)) (rw (decides t i calls [] p))
 lost-so t i calls (first ∷ rest) p =
-    fresh-lost the-receiver-meets t i calls first rest (p .lawful) (p .fresh) (p .vector) (lasting-so t i calls (first ∷ rest) p)
+    fresh-lost the-receiver-meets t i calls first rest (p .fresh .lawful) (p .fresh .any) (p .fresh .vector) (lasting-so t i calls (first ∷ rest) p)
     ∙ ap (rise (at t i .counts .lost)) (rw (decides t i calls (first ∷ rest) p) (same-holes (at t i .window) (first ∷ rest) (here t i calls (first ∷ rest) p) first))
 
 seen-so : NothingSeenMissed theReceiver
@@ -134,8 +134,6 @@ nothing-seen-missed m = carried NothingSeenMissed seen-so m
 numbers-are : {t : Table} {i : ℕ} {calls : List Call} {ns ms indices : List ℕ} → ns ≡ ms
     → Unbroken theReceiver t i calls ms indices → Unbroken theReceiver t i calls ns indices
 numbers-are e p = record {
-  vector = p .vector;
-  lawful = p .lawful;
   fresh = p .fresh;
   lasts = p .lasts;
   numbered = e ∙ p .numbered;

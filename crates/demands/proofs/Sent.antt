@@ -1,7 +1,7 @@
 -- Each arrival of a stream is seen by it or refused, and then with 1, 2, 7 or 8. Assumes nothing.
 use Prim.Native.Nat.{ℕ, _-_}
 use mathlib.Core.Path.{_≡_, refl, ap, sym, _∙_}
-use mathlib.Core.Bool.{Bool, true, false, _&&_, not}
+use mathlib.Core.Bool.{Bool, true, false, not}
 use mathlib.Core.List.{List, [], _∷_, _++_, nil≢cons, cons≢nil}
 use native.Mathlib.Omega.{arith}
 use lib.Dec.{eqb, leb, ltb}
@@ -17,7 +17,7 @@ use Rattle.frame.specs.Frame.{Tag, destOf, readOf, untagged}
 use Rattle.stream.specs.Record.{settled, lawful, opened}
 use Rattle.stream.specs.Decisions.{verdict}
 use Rattle.calls.specs.Table.{Table, at, search, someSlot, hasKey, isFree}
-use Rattle.calls.specs.Calls.{Call, arriving, opening, closing, resetting, ticking, Act, refuse, arrive, opens, closes, resets, ticks, admitted, arrivalAt, arrival, inUse, open-call, checked, act, after, answer, verdictWith}
+use Rattle.calls.specs.Calls.{Call, arriving, opening, closing, resetting, ticking, Act, refuse, arrive, admitted, arrivalAt, arrival, inUse, open-call, checked, act, answer, verdictWith}
 use Rattle.demands.specs.Receiver.{Receiver, MeetsContract, theReceiver}
 use Rattle.demands.specs.Seen.{Seen, arrived, tick, ended, nothing, told, answered, seenOf, seen, log, numbers}
 use Rattle.demands.specs.Unlimited.{elem}

@@ -12,6 +12,7 @@ use Rattle.demands.proofs.Absent.{lost-for-good}
 use Rattle.demands.proofs.Lost.{fresh-lost, opened-lost}
 use Rattle.demands.proofs.Stepping.{the-machine-meets, steps-are-calls, batches-are-calls, seen-as-calls, demand-1-steps, demand-3-steps, fresh-lost-steps, steps-coincide}
 use Rattle.demands.proofs.Sent.{seen-or-refused, refused-with}
+use Rattle.demands.proofs.Begins.{begins-fresh}
 use Rattle.demands.proofs.Missed.{nothing-seen-missed, nothing-missed, nothing-seen-missed-steps, nothing-missed-steps}
 use Rattle.demands.proofs.Runs.{wrap-meets, bound-reached, premises-are, bound-sharp, premises-needed}
 use Rattle.demands.proofs.StepRuns.{wrap-in-one}
@@ -35,6 +36,7 @@ demands m = record {
   nothing-missed = nothing-missed m;
   seen-or-refused = seen-or-refused m;
   refused-with = refused-with m;
+  begins-fresh = begins-fresh m;
 }
 
 pub step-demands : {m : Machine} → MeetsAll m → StepDemands m

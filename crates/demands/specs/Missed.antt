@@ -19,9 +19,9 @@ use Rattle.stream.specs.History.{one}
 use Rattle.stream.specs.Record.{lawful}
 use Rattle.stream.specs.Decisions.{Verdict, isUp, rise}
 use Rattle.calls.specs.Table.{Table, at, search, someSlot, hasKey}
-use Rattle.calls.specs.Calls.{Call, arriving, opening, closing, resetting, ticking, Answer, admitted}
+use Rattle.calls.specs.Calls.{Call, arriving, opening, closing, resetting, ticking, Answer, placed, done, admitted}
 use Rattle.demands.specs.Receiver.{Receiver, run}
-use Rattle.demands.specs.Seen.{seen, log, numbers, verdicts, lasting, every}
+use Rattle.demands.specs.Seen.{wasReset, seen, log, numbers, verdicts, lasting, every}
 use Rattle.demands.specs.Unlimited.{elem, highest, apart}
 use Rattle.demands.specs.Demand3.{numberOf}
 use Rattle.demands.specs.Corollaries.{handedOf, sumOf, sumOnce}
@@ -67,12 +67,15 @@ pub record NoneMissed (before after : Stream) (vs : List Verdict) (indices : Lis
 
 -- ---- over what the stream sees
 
+-- "A vector stream from the fresh state": lawful, and take-any holds.
+pub record FreshVector (s : Stream) : Type 0 where
+  pub vector : s .rule ≡ vectorRule
+  pub lawful : lawful s ≡ true
+  pub any : yes (s .state .any) ≡ true
+
 -- The premises: a run of calls from a table t for the stream in its slot i, the numbers of its arrivals and their true indices.
 pub record Unbroken (receive : Receiver) (t : Table) (i : ℕ) (calls : List Call) (arrived indices : List ℕ) : Type 0 where
-  -- "any run of a vector stream from the fresh state": lawful, and take-any holds;
-  pub vector : at t i .rule ≡ vectorRule
-  pub lawful : lawful (at t i) ≡ true
-  pub fresh : yes (at t i .state .any) ≡ true
+  pub fresh : FreshVector (at t i)
   -- "with no reset", by call or by tick, and no "closing";
   pub lasts : every lasting (log receive i t calls) ≡ true
   -- "a frame's number is its index modulo 65536",
@@ -136,6 +139,19 @@ RefusedWith receive =
     (t : Table) (i : ℕ) (c : Call) (number n : ℕ)
     → sentTo i t c ≡ number ∷ [] → receive t c .said ≡ refused n
     → elem n (TABLE ∷ NETWORK ∷ DAMAGED ∷ ROOM ∷ []) ≡ true
+
+-- ---- where such a run begins: an open leaves the stream fresh, and so does a reset, by call or by tick
+
+pub record Begins (receive : Receiver) (t : Table) (i : ℕ) : Type 0 where
+  pub opened : (dest : List ℕ) (vlan window time : ℕ)
+      → receive t (opening dest vlan vectorRule window time) .said ≡ answers (placed i)
+      → FreshVector (at (receive t (opening dest vlan vectorRule window time) .table) i)
+  pub reset : at t i .rule ≡ vectorRule → receive t (resetting i) .said ≡ answers done → FreshVector (at (receive t (resetting i) .table) i)
+  pub ticked : at t i .rule ≡ vectorRule → wasReset (at t i) (at (receive t ticking .table) i) ≡ true
+      → FreshVector (at (receive t ticking .table) i)
+
+abbrev pub BeginsFresh : Receiver → Type 0
+BeginsFresh receive = (t : Table) (i : ℕ) → Begins receive t i
 
 -- ---- with batches: over runs of steps, both ways
 

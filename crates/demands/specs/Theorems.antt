@@ -10,7 +10,7 @@ use Rattle.demands.specs.Demand3.{Demand3}
 use Rattle.demands.specs.Steps.{Machine, MeetsAll, theMachine, StepsAreCalls, BatchesAreCalls, SeenAsCalls, Demand1Steps, Demand3Steps, StepsCoincide}
 use Rattle.demands.specs.Corollaries.{NeverTwice, UnlimitedNeverTwice, FreshDecides, OpenedDecides, RestartGetsThrough, CountsOnce}
 use Rattle.demands.specs.Lost.{FreshLost, OpenedLost, FreshLostSteps, LostForGood}
-use Rattle.demands.specs.Missed.{NothingSeenMissed, NothingMissed, SeenOrRefused, RefusedWith, NothingSeenMissedSteps, NothingMissedSteps}
+use Rattle.demands.specs.Missed.{NothingSeenMissed, NothingMissed, SeenOrRefused, RefusedWith, BeginsFresh, NothingSeenMissedSteps, NothingMissedSteps}
 use Rattle.demands.specs.Wrong.{RightOtherwise, RuledOut}
 use Rattle.demands.specs.Examples.{WrapMeets}
 use Rattle.demands.specs.Needed.{BoundReached, PremisesAre, BoundSharp, PremisesNeeded}
@@ -34,6 +34,7 @@ pub record Demands (receive : Receiver) : Type 0 where
   pub nothing-missed : NothingMissed receive
   pub seen-or-refused : SeenOrRefused receive
   pub refused-with : RefusedWith receive
+  pub begins-fresh : BeginsFresh receive
 
 -- Of a receiver with the batch beside it: demands 1 and 3 of steps that are single calls and batches, what lost means there, that
 -- nothing is missed there, and that these are read as the calls that they are.

@@ -21,15 +21,13 @@ use Rattle.demands.proofs.Alike.{the-receiver-meets}
 use Rattle.demands.proofs.Missed.{nothing-missed}
 use Rattle.demands.proofs.Computing.{computing}
 use Rattle.lost_runs.specs.LostRuns.{begin, sent}
-use Rattle.missed_runs.specs.MissedRuns.{dead, deadIndices, swapped, swappedIndices, drawn, drawnIndices, drawnSteps, cutSteps, onlyHigher, MissedPremisesAre, MissedShown, ClosePinned, MissedPremisesNeeded, ArrivalsShown, MissedStepsShown, HandsUpNothing, OnlyHigher}
+use Rattle.missed_runs.specs.MissedRuns.{dead, deadIndices, swapped, swappedIndices, drawn, drawnIndices, drawnSteps, cutSteps, onlyHigher, MissedPremisesAre, MissedShown, ClosePinned, MissedPremisesNeeded, ArrivalsShown, BeginsShown, MissedStepsShown, HandsUpNothing, OnlyHigher}
 
 pub missed-premises-are : MissedPremisesAre
 missed-premises-are t calls indices a =
     nothing-missed the-receiver-meets t 0 calls indices
     (record {
-      vector = a .0;
-      lawful = a .1 .0;
-      fresh = a .1 .1 .0;
+      fresh = record { vector = a .0; lawful = a .1 .0; any = a .1 .1 .0 };
       lasts = a .1 .1 .1 .0;
       numbered = a .1 .1 .1 .1 .1 .0;
       close = a .1 .1 .1 .1 .1 .1 .0;
@@ -103,10 +101,14 @@ arrivals-shown = record {
   lower-slot = (refl, refl);
 }
 
+pub begins-shown : BeginsShown
+unfolding computing
+begins-shown = record { opened = refl; reset = refl; ticked = refl }
+
 pub missed-steps-shown : MissedStepsShown
 unfolding computing allClose numberFor arrivals refusedArrivals begin drawnIndices flatMap overlay runsPast framesIn addsFor ends turnsIn comesTo reached tableAfter packed before answersOf bundle batchOf theMachine tableOf ranSteps callsOf readAs seenIn seenOfStep logSteps drawnSteps cutSteps
 missed-steps-shown = record {
-  premises = record { vector = refl; lawful = refl; fresh = refl; lasts = refl; numbered = refl; close = refl };
+  premises = record { fresh = record { vector = refl; lawful = refl; any = refl }; lasts = refl; numbered = refl; close = refl };
   none-refused = refl;
   given = refl;
   cut-arrivals = refl;
@@ -167,7 +169,7 @@ unfolding computing allClose firsts numberFor arrivals refusedArrivals begin sen
 hands-up-nothing = record {
   at-most-once = λ t i calls indices p e. rw (none-up i t calls indices);
   misses = λ h. false≢true (head-eq-of-cons-eq (h begin 0 (sent (7 ∷ [])) (7 ∷ [])
-      (record { vector = refl; lawful = refl; fresh = refl; lasts = refl; numbered = refl; close = refl }) refl .at-first));
+      (record { fresh = record { vector = refl; lawful = refl; any = refl }; lasts = refl; numbered = refl; close = refl }) refl .at-first));
 }
 
 pub only-higher : OnlyHigher
@@ -175,5 +177,5 @@ unfolding computing allClose firsts numberFor arrivals refusedArrivals begin sen
 only-higher = record {
   given = refl;
   misses = λ h. false≢true (head-eq-of-cons-eq (tail-eq-of-cons-eq (h begin 0 (sent (8 ∷ 7 ∷ [])) (8 ∷ 7 ∷ [])
-      (record { vector = refl; lawful = refl; fresh = refl; lasts = refl; numbered = refl; close = refl }) refl .at-first)));
+      (record { fresh = record { vector = refl; lawful = refl; any = refl }; lasts = refl; numbered = refl; close = refl }) refl .at-first)));
 }

@@ -6,30 +6,30 @@ use mathlib.Core.Path.{_≡_}
 use mathlib.Core.Bool.{Bool, true, false}
 use mathlib.Core.List.{List, [], _∷_, _++_, map, flatMap}
 use lib.ListN.{replicate}
-use Rattle.refusal.specs.Checks.Said.{refused}
+use Rattle.refusal.specs.Checks.Said.{refused, answers}
 use Rattle.refusal.specs.Numbers.{TABLE, NETWORK, DAMAGED, ROOM}
 use Rattle.record.specs.Words.{if_then_else_, yes}
 use Rattle.record.specs.Sizes.{vectorRule, matchRule}
 use Rattle.stream.specs.Record.{fresh, lawful, closed}
-use Rattle.stream.specs.Decisions.{Case, first, far, again, late, next, moved, caseOf, Verdict, up, duplicate, rogue, with, tally, verdict, decided}
+use Rattle.stream.specs.Decisions.{Case, first, far, again, late, next, moved, caseOf, up, duplicate, rogue, with, tally, verdict, decided}
 use Rattle.calls.specs.Table.{Table, blank, at}
-use Rattle.calls.specs.Calls.{Call, arriving, opening, closing, resetting, ticking}
+use Rattle.calls.specs.Calls.{Call, arriving, opening, closing, resetting, ticking, placed, done}
 use Rattle.batch.specs.Laws.{preceded}
 use Rattle.demands.specs.Receiver.{Receiver, theReceiver, run}
-use Rattle.demands.specs.Seen.{Seen, arrived, tick, ended, nothing, log, numbers, verdicts, lasting, every}
+use Rattle.demands.specs.Seen.{wasReset, Seen, arrived, tick, ended, nothing, log, verdicts, lasting, every}
 use Rattle.demands.specs.Unlimited.{apart}
 use Rattle.demands.specs.Demand3.{numberOf}
 use Rattle.demands.specs.Corollaries.{handedOf, distinct}
-use Rattle.demands.specs.Steps.{Step, single, batch, theMachine, ranSteps, readAs, logSteps}
-use Rattle.demands.specs.Missed.{allClose, firsts, NoneMissed, Unbroken, NothingSeenMissed, sentTo, arrivals, refusedArrivals, NothingMissed}
+use Rattle.demands.specs.Steps.{Step, single, batch, theMachine, readAs, logSteps}
+use Rattle.demands.specs.Missed.{allClose, firsts, NoneMissed, Unbroken, sentTo, arrivals, refusedArrivals, NothingMissed}
 use Rattle.demands.specs.Wrong.{deciding, findsDuplicates}
-use Rattle.demands.specs.Examples.{address, frame, from, stream, since, alone}
+use Rattle.demands.specs.Examples.{address, frame, from, stream, alone}
 use Rattle.demands.specs.Needed.{All, AllBut}
 use Rattle.lost_runs.specs.LostRuns.{begin, sent, most}
 
 -- ---- runs of the stream in slot 0
 
--- What `NothingMissed` asks of it: 0 vector, 1 lawful, 2 fresh, 3 lasts, 4 none refused, 5 numbered, 6 close.
+-- What `NothingMissed` asks of it: 0 vector, 1 lawful, 2 take-any, 3 lasts, 4 none refused, 5 numbered, 6 close.
 abbrev pub premisesOf : Table → (calls : List Call) → (indices : List ℕ) → List (Type 0)
 premisesOf t calls indices =
     (at t 0 .rule ≡ vectorRule)
@@ -200,6 +200,13 @@ pub record ArrivalsShown : Type 0 where
   pub grouped : sentTo 0 begin (arriving 0 (address 1 ++ (3 ∷ 0 ∷ 0 ∷ 0 ∷ 0 ∷ 9 ∷ 0xF1 ∷ 0xC1 ∷ 0 ∷ 0 ∷ 0 ∷ 7 ∷ 8 ∷ 0 ∷ [])) (replicate 14 0)) ≡ []
   pub other-key : (sentTo 0 begin (from 0 2 7) ≡ []) × (sentTo 1 begin (from 0 2 7) ≡ [])
   pub lower-slot : (sentTo 1 (begin ++ begin) (from 0 1 7) ≡ []) × (sentTo 0 (begin ++ begin) (from 0 1 7) ≡ 7 ∷ [])
+
+-- ---- runs that begin: what `BeginsFresh` asks for is met
+
+pub record BeginsShown : Type 0 where
+  pub opened : theReceiver (blank ∷ []) (opening (address 1) 0 vectorRule 4 3) .said ≡ answers (placed 0)
+  pub reset : theReceiver (alone 4 3 3) (resetting 0) .said ≡ answers done
+  pub ticked : wasReset (at (alone 4 3 1) 0) (at (theReceiver (alone 4 3 1) ticking .table) 0) ≡ true
 
 -- ---- with batches
 
