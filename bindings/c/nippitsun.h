@@ -29,7 +29,7 @@
 #include <stddef.h>
 #include <stdint.h>
 
-#define NIPPITSUN_VERSION "0.8.0"
+#define NIPPITSUN_VERSION "0.9.0"
 #define NIPPITSUN_VERSION_MAJOR 0
 #define NIPPITSUN_VERSION_MINOR 8
 #define NIPPITSUN_VERSION_PATCH 0
