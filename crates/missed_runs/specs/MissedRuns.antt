@@ -57,7 +57,7 @@ pub record Shows (t : Table) (calls : List Call) (indices : List ℕ) (es : List
   pub rogue : at (run theReceiver t calls) 0 .counts .rogue ≡ rogues
   pub lost : at (run theReceiver t calls) 0 .counts .lost ≡ losts
 
--- One network is dead: 1 gives nothing. 0 loses 10 and 13 to 14 too, which never arrive; 10 has left the window at the end.
+-- One network is dead: 1 gives nothing. 0 loses 10, 13 and 14, which so never arrive; at the end 10 counts as lost.
 unfoldable pub dead : List Call
 dead =
     from 0 1 7
