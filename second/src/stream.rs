@@ -253,7 +253,9 @@ impl Stream {
                 i32::from(number.wrapping_sub(self.anchor) as i16),
                 PlainComparison: i32::from(number) - i32::from(self.anchor)
             );
-            if self.rule == Stream::VECTOR {
+            if rule!(false, LateFromZero: self.rule == Stream::VECTOR && d < 0 && second_network) {
+                Decision::Duplicate
+            } else if self.rule == Stream::VECTOR {
                 self.decide_vector(d, number)
             } else {
                 self.decide_match(d, number)
@@ -284,7 +286,9 @@ impl Stream {
 
     fn decide_vector(&mut self, d: i32, number: u16) -> Decision {
         let window = i32::from(self.window);
-        if d >= rule!(window, TakesL: window + 1) || d <= rule!(-window, TakesMinusL: -window - 1) {
+        if d >= rule!(window, TakesL: window + 1)
+            || d <= rule!(-window, TakesMinusL: -window - 1, LastIsRogue: 1 - window)
+        {
             return Decision::Rogue;
         }
         if d <= 0 {

@@ -1,7 +1,7 @@
 //! Wrong variants of this program, each with one slip. A comparison with
 //! another program is only worth something if it finds them, so it is tried
 //! against each. Document 01 names some under "Errors that look right"; the
-//! others are slips that its text, or that of orders 1 to 7 of document 02, makes
+//! others are slips that its text, or that of orders 1 to 8 of document 02, makes
 //! easy.
 //!
 //! No variant is set at first. In the code a slip stands behind the right rule:
@@ -254,6 +254,8 @@ variants! {
     ToPrpSizeFromTag, CallsOnly, "to PRP the size counts from where the tag was";
     ToPrpRoomBeforeBare, CallsOnly, "to PRP refusal 8 comes before the second 4";
     ToPrpRoomFirst, CallsOnly, "to PRP refusal 8 comes first";
+    LateFromZero, Files, "a number before the anchor is a duplicate on network 1";
+    LastIsRogue, Files, "d = -(L - 1) is a rogue";
 }
 
 #[cfg(feature = "wrong")]

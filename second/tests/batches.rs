@@ -25,16 +25,6 @@ fn bare(frame: &[u8]) -> Vec<u8> {
     [&frame[..12], &frame[18..]].concat()
 }
 
-/// Frames, each behind its length.
-fn packed(frames: &[Vec<u8>]) -> Vec<u8> {
-    let mut buffer = Vec::new();
-    for frame in frames {
-        buffer.extend((frame.len() as u16).to_be_bytes());
-        buffer.extend(frame);
-    }
-    buffer
-}
-
 /// A frame for each refusal that lets a batch go on, with a table that gives
 /// it: slot 0 is sound, slot 1 is damaged.
 fn refused() -> (Vec<Stream>, Vec<(u8, Vec<u8>)>) {

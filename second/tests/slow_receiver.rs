@@ -77,10 +77,6 @@ impl Slow {
     }
 }
 
-fn number(index: i64) -> u16 {
-    index.rem_euclid(65536) as u16
-}
-
 fn compare(table: &[Stream], slow: &Slow) {
     let stream = table[0];
     assert_eq!(stream.anchor, number(slow.highest));

@@ -89,6 +89,11 @@ pub fn with_early(stream: Stream, early: u16) -> Stream {
     Stream { early, ..stream }
 }
 
+/// The number of a frame with this index.
+pub fn number(index: i64) -> u16 {
+    index.rem_euclid(65536) as u16
+}
+
 /// A tagged frame without a VLAN tag.
 pub fn tagged(number: u16) -> Vec<u8> {
     tagged_to(DESTINATION, None, number)
@@ -151,6 +156,16 @@ pub fn with_trailer(bare: &[u8], number: u16, lan: u8, width: usize) -> Vec<u8> 
         0xFB,
     ];
     [bare, &trailer[..width]].concat()
+}
+
+/// Frames, each behind its length.
+pub fn packed(frames: &[Vec<u8>]) -> Vec<u8> {
+    let mut buffer = Vec::new();
+    for frame in frames {
+        buffer.extend((frame.len() as u16).to_be_bytes());
+        buffer.extend(frame);
+    }
+    buffer
 }
 
 /// The frame with another first source byte.
