@@ -6,9 +6,9 @@ use mathlib.Core.Bool.{Bool, true, false, _&&_, _||_, not, false≢true}
 use mathlib.Core.List.{List, [], _∷_, map}
 use native.Mathlib.Omega.{arith}
 use native.Mathlib.Decide.{decLt}
-use lib.Dec.{eqb, ltb, leb}
+use lib.Dec.{eqb, ltb}
 use lib.IntN.{ℤ}
-use borrow.Author.Tests.{lt-ltb, le-leb, eqb-true}
+use borrow.Author.Tests.{lt-ltb, eqb-true}
 use Rattle.record.specs.Sizes.{windowMost}
 use Rattle.stream.specs.History.{one}
 use Rattle.stream.specs.Decisions.{Verdict, isUp, isRogue}
@@ -68,18 +68,23 @@ pub record Unmissed (l : ℕ) (hs bs xs : List ℕ) : Type 0 where
   pub tops : highest (memory l hs xs) ≡ max (highest xs) (highest bs)
 
 module _ (l : ℕ) (most : l ≤ windowMost) where
+  -- demand 3's second premise
+  is-near : (x h : ℕ) (hs : List ℕ) → apart x (highest (h ∷ hs)) < l → near l (h ∷ hs) x ≡ true
+  unfolding near
+  is-near x h hs d = simp tests (omega (arith, d))
+
   later : (x : ℕ) (xs : List ℕ) (h : ℕ) (hs : List ℕ) (b : ℕ) (bs : List ℕ) → Alike (h ∷ hs) (b ∷ bs)
       → apart x (highest (b ∷ bs)) < l
       → ((is : List ℕ) → Agree is (x ∷ b ∷ bs) → Unmissed l is (x ∷ b ∷ bs) xs)
       → Unmissed l (h ∷ hs) (b ∷ bs) (x ∷ xs)
-  unfolding allNear unlimited firsts near judged remembered all memory
+  unfolding allNear unlimited firsts judged remembered all memory
   later x xs h hs b bs a c f = go (elem x (h ∷ hs)) refl
     where
       d : apart x (highest (h ∷ hs)) < l
       d = rw (a .tops) c
 
-      n : leb (apart x (highest (h ∷ hs))) (65536 - l) ≡ true
-      n = le-leb (apart x (highest (h ∷ hs))) (65536 - l) (omega (arith, d))
+      n : near l (h ∷ hs) x ≡ true
+      n = is-near x h hs d
 
       w : ltb (apart x (highest (h ∷ hs))) l ≡ true
       w = lt-ltb (apart x (highest (h ∷ hs))) l d
@@ -94,7 +99,7 @@ module _ (l : ℕ) (most : l ≤ windowMost) where
           let r = f (h ∷ hs) (again x (h ∷ hs) (b ∷ bs) a e) in
           record {
             nears = rw (n, w, e) (r .nears);
-            ups = rw (w, e, ← a .elems x, e) (ap (λ (bs : List Bool). false ∷ bs) (r .ups));
+            ups = rw (w, e) (λ j. ap not (sym e ∙ a .elems x) j ∷ r .ups j);
             tames = rw (w, e) (r .tames);
             elems = λ y. rw (w, e) (both (h ∷ hs) r y);
             tops = rw (w, e) (omega (arith, r .tops, top x xs, top x (b ∷ bs)));
@@ -103,7 +108,7 @@ module _ (l : ℕ) (most : l ≤ windowMost) where
           let r = f (x ∷ h ∷ hs) (anew x (h ∷ hs) (b ∷ bs) a) in
           record {
             nears = rw (n, w, e) (r .nears);
-            ups = rw (w, e, ← a .elems x, e) (ap (λ (bs : List Bool). true ∷ bs) (r .ups));
+            ups = rw (w, e) (λ j. ap not (sym e ∙ a .elems x) j ∷ r .ups j);
             tames = rw (w, e) (r .tames);
             elems = λ y. rw (w, e) (both (x ∷ h ∷ hs) r y);
             tops = rw (w, e) (omega (arith, r .tops, top x xs, top x (b ∷ bs)));
