@@ -1,6 +1,6 @@
 -- Where every arrival is close to the highest that arrived, the receiver with unlimited memory hands up the first arrival of each
 -- index. Assumes nothing.
-use Prim.Native.Nat.{ℕ, zero, suc, _+_, _-_, _≤_, _<_, max}
+use Prim.Native.Nat.{ℕ, zero, suc, _≤_, _<_, max}
 use mathlib.Core.Path.{_≡_, refl, ap, sym, _∙_}
 use mathlib.Core.Bool.{Bool, true, false, _&&_, _||_, not, false≢true}
 use mathlib.Core.List.{List, [], _∷_, map}
@@ -10,12 +10,11 @@ use lib.Dec.{eqb, ltb}
 use lib.IntN.{ℤ}
 use borrow.Author.Tests.{lt-ltb, eqb-true}
 use Rattle.record.specs.Sizes.{windowMost}
-use Rattle.stream.specs.History.{one}
 use Rattle.stream.specs.Decisions.{Verdict, isUp, isRogue}
 use Rattle.stream.proofs.Logic.{tests}
 use Rattle.demands.specs.Unlimited.{elem, highest, apart, judged, remembered, near, unlimited, allNear}
-use Rattle.demands.specs.Corollaries.{distinct, sumOnce}
-use Rattle.demands.specs.Missed.{allClose, firsts, times}
+use Rattle.demands.specs.Corollaries.{sumOnce}
+use Rattle.demands.specs.Missed.{allClose, firsts}
 use Rattle.demands.proofs.Handed.{above, top, more}
 use Rattle.demands.proofs.Absent.{memory, swap}
 
@@ -137,18 +136,6 @@ module _ (l : ℕ) (most : l ≤ windowMost) where
 
   pub unmissed : (xs : List ℕ) → allClose l [] xs ≡ true → Unmissed l [] [] xs
   unmissed xs c = goes-on xs [] [] tt c
-
--- ---- exactly once
-
--- In a list without repeats each index stands once or not at all.
-pub times-distinct : (y : ℕ) (hs : List ℕ) → distinct hs ≡ true → times y hs ≡ one (elem y hs)
-unfolding times distinct elem
-times-distinct y [] d = refl
-times-distinct y (x ∷ xs) d = let p = simp tests at d in go (eqb y x) refl (p .0) (times-distinct y xs (p .1))
-  where
-    go : (v : Bool) → eqb y x ≡ v → elem x xs ≡ false → times y xs ≡ one (elem y xs) → one (eqb y x) + times y xs ≡ one (eqb y x || elem y xs)
-    go true q n r = rw (q, r, ap (λ (z : ℕ). elem z xs) (eqb-true y x q) ∙ n)
-    go false q n r = rw (q, r) (omega arith)
 
 -- A sum that counts each index once asks only which there are.
 pub sum-same : (f : ℕ → ℤ) (n : ℕ) (hs is : List ℕ) → ((y : ℕ) → elem y hs ≡ elem y is) → sumOnce f n hs ≡ sumOnce f n is

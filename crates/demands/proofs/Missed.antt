@@ -7,7 +7,6 @@ use native.Mathlib.Omega.{arith}
 use Rattle.record.specs.declared.Counts.{Counts}
 use Rattle.record.specs.declared.Stream.{Stream}
 use Rattle.record.specs.Words.{yes}
-use Rattle.stream.specs.History.{one}
 use Rattle.stream.specs.Record.{lawful}
 use Rattle.stream.specs.Decisions.{Verdict, isRogue, rise, verdictOf, caseOf, tally, countsAfter, verdict, decided, expires, ticked}
 use Rattle.stream.proofs.Logic.{tests, not-iff}
@@ -30,7 +29,7 @@ use Rattle.demands.proofs.Absent.{or-none, same-elem, same-high, absent
 use Rattle.demands.proofs.Lost.{tick-counts, fresh-lost}
 use Rattle.demands.proofs.Once.{once}
 use Rattle.demands.proofs.Sums.{sums}
-use Rattle.demands.proofs.Firsts.{all, tame, Unmissed, unmissed, times-distinct, sum-same}
+use Rattle.demands.proofs.Firsts.{all, tame, Unmissed, unmissed, sum-same}
 use Rattle.demands.proofs.Sent.{all-seen}
 use Rattle.demands.proofs.Stepping.{carried as carried-steps, the-machine-meets, steps-are-calls, seen-as-calls}
 
@@ -117,7 +116,8 @@ seen-so t i calls indices p =
     let o = once l indices [] .apart in
     record {
       at-first = rw d (m .ups);
-      once = λ x. rw d (times-distinct x (handedBy l indices) o ∙ ap one (same-indices l indices m x));
+      each = λ x. rw d (same-indices l indices m x);
+      once = rw d o;
       sums = λ f. rw d (
           sums f (suc (highest indices)) (handedBy l indices) (omega (arith, same-highest l indices m)) o
           ∙ sum-same f (suc (highest indices)) (handedBy l indices) indices (same-indices l indices m));

@@ -2,7 +2,7 @@
 use Prim.Native.Nat.{ℕ, _-_}
 use mathlib.Core.Path.{_≡_, refl, ap, sym, _∙_}
 use mathlib.Core.Bool.{Bool, true, false, not}
-use mathlib.Core.List.{List, [], _∷_, _++_, nil≢cons, cons≢nil}
+use mathlib.Core.List.{List, [], _∷_, _++_, nil≢cons, append-eq-nil-iff}
 use native.Mathlib.Omega.{arith}
 use lib.Dec.{eqb, leb, ltb}
 use lib.ListN.{length}
@@ -21,31 +21,27 @@ use Rattle.calls.specs.Calls.{Call, arriving, opening, closing, resetting, tick
 use Rattle.demands.specs.Receiver.{Receiver, MeetsContract, theReceiver}
 use Rattle.demands.specs.Seen.{Seen, arrived, tick, ended, nothing, told, answered, seenOf, seen, log, numbers}
 use Rattle.demands.specs.Unlimited.{elem}
-use Rattle.demands.specs.Missed.{numberFor, sentTo, turnedAway, arrivals, refusedArrivals, SeenOrRefused, RefusedWith}
+use Rattle.demands.specs.Missed.{numberFor, arrivalOf, turnedAway, arrivals, refusedArrivals, SeenOrRefused, refusals, RefusedWith}
 use Rattle.demands.proofs.Alike.{carried}
 use Rattle.demands.proofs.Slot.{resultOf}
-
--- the numbers that it may be refused with
-abbrev four : List ℕ
-four = TABLE ∷ NETWORK ∷ DAMAGED ∷ ROOM ∷ []
 
 module _ (i : ℕ) (t : Table) where
   -- The call c comes to a.
   record Tells (c : Call) (a : Act) : Type 0 where
-    fits : sentTo i t c ≡ numbers (seen i t c (resultOf t c a) ∷ []) ++ turnedAway i t c (answer t a)
-    refuses : (number n : ℕ) → sentTo i t c ≡ number ∷ [] → answer t a ≡ refused n → elem n four ≡ true
+    fits : arrivalOf i t c ≡ numbers (seen i t c (resultOf t c a) ∷ []) ++ turnedAway i t c (answer t a)
+    refuses : (number n : ℕ) → arrivalOf i t c ≡ number ∷ [] → answer t a ≡ refused n → elem n refusals ≡ true
 
   branch : {c : Call} (b : Bool) {x y : Act} → (b ≡ true → Tells c x) → (b ≡ false → Tells c y) → Tells c (if b then x else y)
   branch true f g = f refl
   branch false f g = g refl
 
   -- a refusal with one of the four,
-  of-four : {c : Call} (k : ℕ) → elem k four ≡ true → Tells c (refuse k)
+  of-four : {c : Call} (k : ℕ) → elem k refusals ≡ true → Tells c (refuse k)
   unfolding answer seenOf numbers
-  of-four k e = record { fits = refl; refuses = λ number n s r. (let z : k ≡ n = cc in ap (λ (m : ℕ). elem m four) (sym z) ∙ e) }
+  of-four k e = record { fits = refl; refuses = λ number n s r. (let z : k ≡ n = cc in ap (λ (m : ℕ). elem m refusals) (sym z) ∙ e) }
 
   -- and one of a call that is no arrival of this stream.
-  not-sent : {c : Call} (k : ℕ) → sentTo i t c ≡ [] → Tells c (refuse k)
+  not-sent : {c : Call} (k : ℕ) → arrivalOf i t c ≡ [] → Tells c (refuse k)
   unfolding answer seenOf numbers
   not-sent k e = record { fits = refl; refuses = λ number n s r. absurd (nil≢cons (sym e ∙ s)) }
 
@@ -81,7 +77,7 @@ module _ (i : ℕ) (t : Table) where
   unheard true = refl
   unheard false = refl
 
-  -- Nor are the other calls.
+  -- Of the calls, an arrival alone is one.
   checked-tells : (c : Call) → Tells c (checked t c)
   unfolding checked open-call answer seenOf answered numbers elem
   checked-tells (arriving network f out) =
@@ -119,10 +115,6 @@ refused-with m = carried RefusedWith with-so m
 
 -- ---- over a run
 
-none-of : (xs ys : List ℕ) → xs ++ ys ≡ [] → (xs ≡ []) × (ys ≡ [])
-none-of [] ys e = (refl, e)
-none-of (x ∷ xs) ys e = absurd (cons≢nil e)
-
 joined : (s : Seen) (es : List Seen) → (numbers (s ∷ []) ++ []) ++ numbers es ≡ numbers (s ∷ es)
 unfolding numbers
 joined (arrived n v) es = refl
@@ -138,6 +130,6 @@ all-seen t i [] e = refl
 all-seen t i (c ∷ cs) e =
     let u : Table = theReceiver t c .table in
     let s : Seen = seen i t c (theReceiver t c) in
-    let p = none-of (turnedAway i t c (theReceiver t c .said)) (refusedArrivals theReceiver i u cs) e in
-    let q : sentTo i t c ≡ numbers (s ∷ []) ++ [] = seen-or-so t i c ∙ ap (λ (ns : List ℕ). numbers (s ∷ []) ++ ns) (p .0) in
+    let p = append-eq-nil-iff {p = turnedAway i t c (theReceiver t c .said)} {q = refusedArrivals theReceiver i u cs} .0 e in
+    let q : arrivalOf i t c ≡ numbers (s ∷ []) ++ [] = seen-or-so t i c ∙ ap (λ (ns : List ℕ). numbers (s ∷ []) ++ ns) (p .0) in
     (λ j. q j ++ all-seen u i cs (p .1) j) ∙ joined s (log theReceiver i u cs)

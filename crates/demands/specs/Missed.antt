@@ -2,7 +2,7 @@
 -- of a vector stream from the fresh state, with no reset, closing or refused arrival, suppose a frame's number is its index modulo
 -- 65536 and every arrival after the first has an index less than L from the highest that arrived before it on either network. Then
 -- every index that arrives is handed up exactly once, at its first arrival." Assumes nothing.
-use Prim.Native.Nat.{ℕ, suc, _+_}
+use Prim.Native.Nat.{ℕ, suc}
 use mathlib.Core.Path.{_≡_}
 use mathlib.Core.Bool.{Bool, true, _&&_, not}
 use mathlib.Core.List.{List, [], _∷_, _++_, map}
@@ -15,7 +15,6 @@ use Rattle.record.specs.declared.Stream.{Stream}
 use Rattle.record.specs.Words.{if_then_else_, yes}
 use Rattle.record.specs.Sizes.{vectorRule}
 use Rattle.frame.specs.Frame.{Tag, readOf}
-use Rattle.stream.specs.History.{one}
 use Rattle.stream.specs.Record.{lawful}
 use Rattle.stream.specs.Decisions.{Verdict, isUp, rise}
 use Rattle.calls.specs.Table.{Table, at, search, someSlot, hasKey}
@@ -24,7 +23,7 @@ use Rattle.demands.specs.Receiver.{Receiver, run}
 use Rattle.demands.specs.Seen.{wasReset, seen, log, numbers, verdicts, lasting, every}
 use Rattle.demands.specs.Unlimited.{elem, highest, apart}
 use Rattle.demands.specs.Demand3.{numberOf}
-use Rattle.demands.specs.Corollaries.{handedOf, sumOf, sumOnce}
+use Rattle.demands.specs.Corollaries.{handedOf, distinct, sumOf, sumOnce}
 use Rattle.demands.specs.Steps.{Step, Machine, ranSteps, readAs, logSteps}
 use Rattle.demands.specs.Lost.{missed}
 
@@ -42,11 +41,6 @@ unfoldable pub firsts : (before indices : List ℕ) → List Bool
 firsts before [] = []
 firsts before (x ∷ xs) = not (elem x before) ∷ firsts (x ∷ before) xs
 
--- how often an index stands in a list
-unfoldable pub times : ℕ → List ℕ → ℕ
-times x [] = 0
-times x (y ∷ ys) = one (eqb x y) + times x ys
-
 -- A counter that has risen, modulo 2^64, by the indices above the first and at most highest - L that never arrived.
 abbrev pub withHoles : (window count : ℕ) (indices : List ℕ) → ℕ
 withHoles window count [] = count
@@ -56,13 +50,15 @@ withHoles window count (first ∷ rest) = rise count (missed window first (first
 pub record NoneMissed (before after : Stream) (vs : List Verdict) (indices : List ℕ) : Type 0 where
   -- "at its first arrival": the k-th arrival is handed up exactly if no arrival before it had its index;
   pub at-first : map isUp vs ≡ firsts [] indices
-  -- "every index that arrives is handed up exactly once", and no other;
-  pub once : (x : ℕ) → times x (handedOf vs indices) ≡ one (elem x indices)
+  -- "every index that arrives is handed up", and no other,
+  pub each : (x : ℕ) → elem x (handedOf vs indices) ≡ elem x indices
+  -- "exactly once";
+  pub once : distinct (handedOf vs indices) ≡ true
   -- so a sum over what is handed up is the sum over the indices that arrived, each of them once;
   pub sums : (f : ℕ → ℤ) → sumOf f (handedOf vs indices) ≡ sumOnce f (suc (highest indices)) indices
   -- no arrival is a rogue;
   pub no-rogue : after .counts .rogue ≡ before .counts .rogue
-  -- and no hole is silent: lost counts what never arrived.
+  -- and no hole is silent: of the indices above the first and at most highest - L lost counts those that never arrived.
   pub lost : after .counts .lost ≡ withHoles (before .window) (before .counts .lost) indices
 
 -- ---- over what the stream sees
@@ -82,7 +78,8 @@ pub record Unbroken (receive : Receiver) (t : Table) (i : ℕ) (calls : List Cal
   pub numbered : arrived ≡ map numberOf indices
   pub close : allClose (at t i .window) [] indices ≡ true
 
--- A refused call is no arrival in the log of a stream, and so no word of refusals is needed.
+-- A refused call is no arrival in the log of a stream, and so no word of refusals is needed. (Which calls are refused is the
+-- receiver's own answer, here and below: that it refuses no other than it should is demand 1.)
 abbrev pub NothingSeenMissed : Receiver → Type 0
 NothingSeenMissed receive =
     (t : Table) (i : ℕ) (calls : List Call) (indices : List ℕ)
@@ -99,22 +96,22 @@ numberFor i t (answers g) =
     if someSlot key t && eqb (search key t) i then g .number ∷ [] else []
 
 -- An arrival of that stream, refused or not, by its number. (Ordinary traffic to the same address has no tag and is none.)
-abbrev pub sentTo : (slot : ℕ) → Table → Call → List ℕ
-sentTo i t (arriving network f out) = numberFor i t (admitted f (readOf f))
-sentTo i t (opening dest vlan rule window time) = []
-sentTo i t (closing j) = []
-sentTo i t (resetting j) = []
-sentTo i t ticking = []
+abbrev pub arrivalOf : (slot : ℕ) → Table → Call → List ℕ
+arrivalOf i t (arriving network f out) = numberFor i t (admitted f (readOf f))
+arrivalOf i t (opening dest vlan rule window time) = []
+arrivalOf i t (closing j) = []
+arrivalOf i t (resetting j) = []
+arrivalOf i t ticking = []
 
 -- one that is refused
 abbrev pub turnedAway : (slot : ℕ) → Table → Call → Said Answer → List ℕ
-turnedAway i t c (refused n) = sentTo i t c
+turnedAway i t c (refused n) = arrivalOf i t c
 turnedAway i t c (answers a) = []
 
 -- Those of a run, and the refused ones among them.
 unfoldable pub arrivals : Receiver → (slot : ℕ) → Table → List Call → List ℕ
 arrivals receive i t [] = []
-arrivals receive i t (c ∷ cs) = sentTo i t c ++ arrivals receive i (receive t c .table) cs
+arrivals receive i t (c ∷ cs) = arrivalOf i t c ++ arrivals receive i (receive t c .table) cs
 
 unfoldable pub refusedArrivals : Receiver → (slot : ℕ) → Table → List Call → List ℕ
 refusedArrivals receive i t [] = []
@@ -131,14 +128,17 @@ NothingMissed receive =
 abbrev pub SeenOrRefused : Receiver → Type 0
 SeenOrRefused receive =
     (t : Table) (i : ℕ) (c : Call)
-    → sentTo i t c ≡ numbers (seen i t c (receive t c) ∷ []) ++ turnedAway i t c (receive t c .said)
+    → arrivalOf i t c ≡ numbers (seen i t c (receive t c) ∷ []) ++ turnedAway i t c (receive t c .said)
 
--- It can be refused with 1, 2, 7 or 8 only.
+-- It can be refused with these only.
+abbrev pub refusals : List ℕ
+refusals = TABLE ∷ NETWORK ∷ DAMAGED ∷ ROOM ∷ []
+
 abbrev pub RefusedWith : Receiver → Type 0
 RefusedWith receive =
     (t : Table) (i : ℕ) (c : Call) (number n : ℕ)
-    → sentTo i t c ≡ number ∷ [] → receive t c .said ≡ refused n
-    → elem n (TABLE ∷ NETWORK ∷ DAMAGED ∷ ROOM ∷ []) ≡ true
+    → arrivalOf i t c ≡ number ∷ [] → receive t c .said ≡ refused n
+    → elem n refusals ≡ true
 
 -- ---- where such a run begins: an open leaves the stream fresh, and so does a reset, by call or by tick
 

@@ -65,8 +65,8 @@ pub record Theorems : Type 2 where
   pub tags-2 : (tagger : Tagger) → MeetsTags tagger → Demand2Tags tagger
   -- The receiver with unlimited memory hands no index up twice.
   pub unlimited-never-twice : UnlimitedNeverTwice
-  -- An index that counts as lost is not handed up later. (Runs that pin what lost means, and that its premises are needed: the
-  -- crate `lost_runs`.)
+  -- An index that counts as lost is not handed up later. (Runs that pin what lost means and what order 8 says, and that their
+  -- premises are needed: the crates `lost_runs` and `missed_runs`.)
   pub lost-for-good : LostForGood
   -- The wrong receivers of document 01 fail, and those that are made by `deciding` are wrong in nothing else.
   pub ruled-out : RuledOut

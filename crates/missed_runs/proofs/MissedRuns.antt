@@ -1,38 +1,51 @@
 -- The runs of `specs/MissedRuns` compute. Assumes nothing.
-use Prim.Native.Nat.{ℕ}
+use Prim.Native.Nat.{ℕ, _-_, _^_}
 use mathlib.Core.Path.{_≡_, refl}
 use mathlib.Core.Bool.{Bool, true, false, false≢true}
 use mathlib.Core.List.{List, [], _∷_, flatMap, cons≢nil, head-eq-of-cons-eq, tail-eq-of-cons-eq}
 use native.Mathlib.Omega.{arith}
 use lib.Dec.{eqb}
+use lib.IntN.{ℤ, pos}
 use Rattle.record.specs.declared.Stream.{Stream}
 use Rattle.record.specs.Words.{if_then_else_}
 use Rattle.frame.specs.Bytes.{overlay}
 use Rattle.stream.specs.Decisions.{duplicate}
-use Rattle.calls.specs.Table.{Table}
+use Rattle.calls.specs.Table.{Table, blank}
 use Rattle.calls.specs.Calls.{Call, arriving, opening, closing, resetting, ticking, Act, refuse, arrive, opens, closes, resets, ticks, act, answer, Answer, outOf, Result}
 use Rattle.batch.specs.Batch.{runsPast, framesIn, addsFor, ends, turnsIn, comesTo, reached, tableAfter, packed, before, answersOf, bundle, batchOf}
 use Rattle.demands.specs.Steps.{theMachine, tableOf, ranSteps, callsOf, readAs, seenIn, seenOfStep, logSteps}
 use Rattle.demands.specs.Seen.{Seen, arrived, tick, ended, nothing, heard, answered, seenOf, seen, log, verdicts}
-use Rattle.demands.specs.Corollaries.{handedOf, distinct}
-use Rattle.demands.specs.Missed.{allClose, firsts, numberFor, arrivals, refusedArrivals}
-use Rattle.demands.specs.Wrong.{byAct, deciding, findsDuplicates}
+use Rattle.demands.specs.Corollaries.{handedOf, distinct, sumOf, sumOnce}
+use Rattle.demands.specs.Lost.{absent}
+use Rattle.demands.specs.Examples.{from, alone}
+use Rattle.demands.specs.Needed.{All}
+use Rattle.demands.specs.Receiver.{theReceiver}
+use Rattle.demands.specs.Missed.{allClose, firsts, Unbroken, numberFor, arrivals, refusedArrivals}
+use Rattle.demands.specs.Wrong.{byAct, deciding, findsDuplicates, marksNothing, handsUpAll}
 use Rattle.demands.proofs.Alike.{the-receiver-meets}
-use Rattle.demands.proofs.Missed.{nothing-missed}
+use Rattle.demands.proofs.Stepping.{the-machine-meets}
+use Rattle.demands.proofs.Missed.{nothing-seen-missed, nothing-missed, nothing-seen-missed-steps, nothing-missed-steps}
 use Rattle.demands.proofs.Computing.{computing}
 use Rattle.lost_runs.specs.LostRuns.{begin, sent}
-use Rattle.missed_runs.specs.MissedRuns.{dead, deadIndices, swapped, swappedIndices, drawn, drawnIndices, drawnSteps, cutSteps, onlyHigher, MissedPremisesAre, MissedShown, ClosePinned, MissedPremisesNeeded, ArrivalsShown, BeginsShown, MissedStepsShown, HandsUpNothing, OnlyHigher}
+use Rattle.missed_runs.specs.MissedRuns.{dead, deadIndices, swapped, swappedIndices, drawn, drawnIndices, strides, drawnSteps, cutSteps, wholeSteps, onlyHigher, duplicateIsRogue, countsNoLoss, saysDone, findsUnknown, asked, MissedPremisesAre, MissedShown, ClosePinned, MissedPremisesNeeded, ArrivalsShown, BeginsShown, MissedStepsShown, HandsUpNothing, OnlyHigher, RuledOutByOne, NoneDropped}
+
+unbroken : {t : Table} {i : ℕ} {calls : List Call} {turned came indices : List ℕ} → All (asked t i calls turned came indices)
+    → Unbroken theReceiver t i calls came indices
+unbroken a = record {
+  fresh = record { vector = a .0; lawful = a .1 .0; any = a .1 .1 .0 };
+  lasts = a .1 .1 .1 .0;
+  numbered = a .1 .1 .1 .1 .1 .0;
+  close = a .1 .1 .1 .1 .1 .1 .0;
+}
 
 pub missed-premises-are : MissedPremisesAre
-missed-premises-are t calls indices a =
-    nothing-missed the-receiver-meets t 0 calls indices
-    (record {
-      fresh = record { vector = a .0; lawful = a .1 .0; any = a .1 .1 .0 };
-      lasts = a .1 .1 .1 .0;
-      numbered = a .1 .1 .1 .1 .1 .0;
-      close = a .1 .1 .1 .1 .1 .1 .0;
-    })
-    (a .1 .1 .1 .1 .0)
+unfolding theMachine
+missed-premises-are = record {
+  arriving = λ t i calls indices a. nothing-missed the-receiver-meets t i calls indices (unbroken a) (a .1 .1 .1 .1 .0);
+  seen = λ t i calls indices a. nothing-seen-missed the-receiver-meets t i calls indices (unbroken a);
+  steps = λ t i steps indices a. nothing-missed-steps the-machine-meets t i steps indices (unbroken a) (a .1 .1 .1 .1 .0);
+  seen-steps = λ t i steps indices a. nothing-seen-missed-steps the-machine-meets t i steps indices (unbroken a);
+}
 
 pub missed-shown : MissedShown
 unfolding computing allClose firsts numberFor arrivals refusedArrivals begin sent dead deadIndices swapped swappedIndices drawn drawnIndices
@@ -40,11 +53,12 @@ missed-shown = record {
   dead = record { premises = (refl, (refl, (refl, (refl, (refl, (refl, (refl, tt))))))); given = refl; rogue = refl; lost = refl };
   swapped = record { premises = (refl, (refl, (refl, (refl, (refl, (refl, (refl, tt))))))); given = refl; rogue = refl; lost = refl };
   drawn = record { premises = (refl, (refl, (refl, (refl, (refl, (refl, (refl, tt))))))); given = refl; rogue = refl; lost = refl };
+  beside = record { premises = (refl, (refl, (refl, (refl, (refl, (refl, (refl, tt))))))); given = refl; rogue = refl; lost = refl };
   silent = record { premises = (refl, (refl, (refl, (refl, (refl, (refl, (refl, tt))))))); given = refl; rogue = refl; lost = refl };
 }
 
 pub close-pinned : ClosePinned
-unfolding computing allClose firsts numberFor arrivals refusedArrivals sent
+unfolding computing allClose firsts numberFor arrivals refusedArrivals sent strides
 close-pinned = record {
   reached = (
     record { within = refl; shown = record { premises = (refl, (refl, (refl, (refl, (refl, (refl, (refl, tt))))))); given = refl; rogue = refl; lost = refl } },
@@ -53,7 +67,10 @@ close-pinned = record {
     record { within = refl; shown = record { premises = (refl, (refl, (refl, (refl, (refl, (refl, (refl, tt))))))); given = refl; rogue = refl; lost = refl } },
     record { within = refl; shown = record { premises = (refl, (refl, (refl, (refl, (refl, (refl, (refl, tt))))))); given = refl; rogue = refl; lost = refl } },
     record { within = refl; shown = record { premises = (refl, (refl, (refl, (refl, (refl, (refl, (refl, tt))))))); given = refl; rogue = refl; lost = refl } },
+    record { within = refl; shown = record { premises = (refl, (refl, (refl, (refl, (refl, (refl, (refl, tt))))))); given = refl; rogue = refl; lost = refl } },
+    record { within = refl; shown = record { premises = (refl, (refl, (refl, (refl, (refl, (refl, (refl, tt))))))); given = refl; rogue = refl; lost = refl } },
   );
+  round = refl;
   sharp = (
     record { beyond = refl; close = record { broken = (refl, (refl, (refl, (refl, (refl, (refl, (false≢true, tt))))))); given = refl; wanted = refl } },
     record { beyond = refl; close = record { broken = (refl, (refl, (refl, (refl, (refl, (refl, (false≢true, tt))))))); given = refl; wanted = refl } },
@@ -65,7 +82,7 @@ close-pinned = record {
 }
 
 -- A list that is not empty is no empty one, and 7 is not 8.
-some-refused : _≡_ {A = List ℕ} (8 ∷ []) [] → ⊥
+some-refused : _≡_ {A = List ℕ} (28 ∷ []) [] → ⊥
 some-refused = cons≢nil
 
 no-number : _≡_ {A = List ℕ} (7 ∷ 7 ∷ []) (7 ∷ 8 ∷ []) → ⊥
@@ -106,13 +123,14 @@ unfolding computing
 begins-shown = record { opened = refl; reset = refl; ticked = refl }
 
 pub missed-steps-shown : MissedStepsShown
-unfolding computing allClose numberFor arrivals refusedArrivals begin drawnIndices flatMap overlay runsPast framesIn addsFor ends turnsIn comesTo reached tableAfter packed before answersOf bundle batchOf theMachine tableOf ranSteps callsOf readAs seenIn seenOfStep logSteps drawnSteps cutSteps
+unfolding computing allClose numberFor arrivals refusedArrivals begin drawnIndices flatMap overlay runsPast framesIn addsFor ends turnsIn comesTo reached tableAfter packed before answersOf bundle batchOf theMachine tableOf ranSteps callsOf readAs seenIn seenOfStep logSteps drawnSteps cutSteps wholeSteps
 missed-steps-shown = record {
   premises = record { fresh = record { vector = refl; lawful = refl; any = refl }; lasts = refl; numbered = refl; close = refl };
   none-refused = refl;
   given = refl;
   cut-arrivals = refl;
   cut-refused = refl;
+  whole = refl;
 }
 
 -- ---- two wrong receivers
@@ -165,17 +183,34 @@ none-up i t (c ∷ cs) xs =
     (quiet-act _ i t c (act t c)) (none-up i (findsDuplicates t c .table) cs)
 
 pub hands-up-nothing : HandsUpNothing
-unfolding computing allClose firsts numberFor arrivals refusedArrivals begin sent distinct byAct deciding findsDuplicates
+unfolding computing allClose numberFor arrivals refusedArrivals begin sent distinct handedOf byAct deciding findsDuplicates
 hands-up-nothing = record {
   at-most-once = λ t i calls indices p e. rw (none-up i t calls indices);
-  misses = λ h. false≢true (head-eq-of-cons-eq (h begin 0 (sent (7 ∷ [])) (7 ∷ [])
-      (record { fresh = record { vector = refl; lawful = refl; any = refl }; lasts = refl; numbered = refl; close = refl }) refl .at-first));
+  misses = λ h. false≢true (h begin 0 (sent (7 ∷ [])) (7 ∷ []) (record { fresh = record { vector = refl; lawful = refl; any = refl }; lasts = refl; numbered = refl; close = refl }) refl .each 7);
 }
 
 pub only-higher : OnlyHigher
 unfolding computing allClose firsts numberFor arrivals refusedArrivals begin sent drawn drawnIndices handedOf byAct deciding onlyHigher
 only-higher = record {
   given = refl;
-  misses = λ h. false≢true (head-eq-of-cons-eq (tail-eq-of-cons-eq (h begin 0 (sent (8 ∷ 7 ∷ [])) (8 ∷ 7 ∷ [])
-      (record { fresh = record { vector = refl; lawful = refl; any = refl }; lasts = refl; numbered = refl; close = refl }) refl .at-first)));
+  misses = λ h. false≢true (head-eq-of-cons-eq (tail-eq-of-cons-eq (h begin 0 (sent (8 ∷ 7 ∷ [])) (8 ∷ 7 ∷ []) (record { fresh = record { vector = refl; lawful = refl; any = refl }; lasts = refl; numbered = refl; close = refl }) refl .at-first)));
+}
+
+pub ruled-out-by-one : RuledOutByOne
+unfolding computing allClose numberFor arrivals refusedArrivals begin sent dead deadIndices distinct handedOf sumOf sumOnce absent byAct deciding marksNothing handsUpAll duplicateIsRogue countsNoLoss
+ruled-out-by-one = record {
+  marks-nothing = λ h. false≢true (h begin 0 (sent (7 ∷ 7 ∷ [])) (7 ∷ 7 ∷ []) (record { fresh = record { vector = refl; lawful = refl; any = refl }; lasts = refl; numbered = refl; close = refl }) refl .once);
+  hands-up-all = λ h.
+      (let z : _≡_ {A = ℤ} (pos 22) (pos 15) = h begin 0 (sent (7 ∷ 8 ∷ 7 ∷ [])) (7 ∷ 8 ∷ 7 ∷ []) (record { fresh = record { vector = refl; lawful = refl; any = refl }; lasts = refl; numbered = refl; close = refl }) refl .sums (λ x. pos x) in
+      let y : _≡_ {A = ℕ} 22 15 = cc in omega arith);
+  duplicate-is-rogue = λ h. (let z : _≡_ {A = ℕ} 1 0 = h begin 0 (sent (7 ∷ 7 ∷ [])) (7 ∷ 7 ∷ []) (record { fresh = record { vector = refl; lawful = refl; any = refl }; lasts = refl; numbered = refl; close = refl }) refl .no-rogue in omega arith);
+  counts-no-loss = λ h. (let z : _≡_ {A = ℕ} (2 ^ 64 - 1) 0 = h begin 0 dead deadIndices (record { fresh = record { vector = refl; lawful = refl; any = refl }; lasts = refl; numbered = refl; close = refl }) refl .lost in omega arith);
+}
+
+-- Slot 1 has the key, and is damaged.
+pub none-dropped : NoneDropped
+unfolding computing numberFor saysDone findsUnknown
+none-dropped = record {
+  says-done = λ h. (let z : _≡_ {A = List ℕ} (7 ∷ []) [] = h (blank ∷ alone 1 3 3) 1 (from 0 1 7) in cons≢nil z);
+  finds-unknown = λ h. false≢true (h (blank ∷ alone 1 3 3) 1 (from 0 1 7) 7 6 refl refl);
 }
