@@ -108,6 +108,7 @@ missed-premises-needed = record {
 pub arrivals-shown : ArrivalsShown
 unfolding computing numberFor begin
 arrivals-shown = record {
+  four = refl;
   many-slots = (refl, refl);
   no-network = (refl, refl);
   damaged = (refl, refl);

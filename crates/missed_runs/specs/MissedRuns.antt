@@ -21,7 +21,7 @@ use Rattle.demands.specs.Unlimited.{apart}
 use Rattle.demands.specs.Demand3.{numberOf}
 use Rattle.demands.specs.Corollaries.{handedOf, distinct}
 use Rattle.demands.specs.Steps.{Step, single, batch, theMachine, ranSteps, readAs, logSteps}
-use Rattle.demands.specs.Missed.{allClose, firsts, NoneMissed, Unbroken, arrivalOf, arrivals, refusedArrivals, NothingMissed, SeenOrRefused, RefusedWith}
+use Rattle.demands.specs.Missed.{allClose, firsts, NoneMissed, Unbroken, arrivalOf, arrivals, refusedArrivals, NothingMissed, SeenOrRefused, refusals, RefusedWith}
 use Rattle.demands.specs.Wrong.{deciding, findsDuplicates, marksNothing, handsUpAll}
 use Rattle.demands.specs.Examples.{address, frame, from, stream, alone}
 use Rattle.demands.specs.Needed.{All, AllBut}
@@ -216,6 +216,7 @@ pub record MissedPremisesNeeded : Type 0 where
 
 pub record ArrivalsShown : Type 0 where
   -- refused with each of the four numbers
+  pub four : refusals ≡ 1 ∷ 2 ∷ 7 ∷ 8 ∷ []
   pub many-slots : (arrivalOf 0 (begin ++ replicate 64 blank) (from 0 1 7) ≡ 7 ∷ []) × (theReceiver (begin ++ replicate 64 blank) (from 0 1 7) .said ≡ refused TABLE)
   pub no-network : (arrivalOf 0 begin (from 2 1 7) ≡ 7 ∷ []) × (theReceiver begin (from 2 1 7) .said ≡ refused NETWORK)
   pub damaged : (arrivalOf 0 (alone 1 3 3) (from 0 1 7) ≡ 7 ∷ []) × (theReceiver (alone 1 3 3) (from 0 1 7) .said ≡ refused DAMAGED)
