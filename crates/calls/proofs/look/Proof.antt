@@ -12,7 +12,7 @@ free-too-requires c κs = search needs
 
 returns : tie.Need-returns
 unfolding looked
-returns c = cc (c .before .taken-too .ensures, c .free-too .ensures)
+returns c = rw (c .before .taken-too .ensures, c .free-too .ensures)
 
 pub look-spec : {M : Type 1} → statement M
 look-spec = tie.close (tie.spec taken-too-requires free-too-requires returns)

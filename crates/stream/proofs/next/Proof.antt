@@ -33,10 +33,10 @@ returns-2 : tie.Need-returns-2
 returns-2 c = cc
 
 returns-3 : tie.Need-returns-3
-returns-3 c = cc
+returns-3 c = rw (c .duplicate .ensures, c .before .enum-told2 .given .1)
 
 returns-4 : tie.Need-returns-4
-returns-4 c = cc
+returns-4 c = rw (c .rogue .ensures, c .before .enum-told3 .given .1)
 
 pub next-spec : {M : Type 1} → statement M
 next-spec =

@@ -7,7 +7,7 @@ fresh-state-requires : tie.Need-fresh-state-requires
 fresh-state-requires c κs = search needs
 
 returns : tie.Need-returns
-returns c = cc
+returns c = rw (c .fresh-state .ensures)
 
 pub opened-spec : {M : Type 1} → statement M
 opened-spec = tie.close (tie.spec fresh-state-requires returns)

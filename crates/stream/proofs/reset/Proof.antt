@@ -12,7 +12,7 @@ fresh-state-requires c κs = search needs
 
 returns : tie.Need-returns
 unfolding reset
-returns c = cc
+returns c = rw (c .before .wrapping-add-u64 .ensures, c .fresh-state .ensures)
 
 pub reset-spec : {M : Type 1} → statement M
 reset-spec = tie.close (tie.spec wrapping-add-u64-requires fresh-state-requires returns)

@@ -20,7 +20,7 @@ word-at-requires-3 : tie.Need-word-at-requires-3
 word-at-requires-3 c κs = search needs
 
 returns-2 : tie.Need-returns-2
-returns-2 c = is-wide _ (c .before .before .before .before .before .before .pre) (c .before .before .before .before .if1 .left) (cc)
+returns-2 c = is-wide _ (c .before .before .before .before .before .before .pre) (c .before .before .before .before .if1 .left) (rw (c .before .before .before .word-at .ensures, c .before .word-at2 .ensures, c .word-at3 .ensures))
 
 pub decode-wide-open-spec : {M : Type 1} → statement M
 decode-wide-open-spec =

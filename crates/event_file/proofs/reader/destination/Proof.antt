@@ -22,7 +22,14 @@ byte-at-requires-6 : tie.Need-byte-at-requires-6
 byte-at-requires-6 c κs = search needs
 
 returns : tie.Need-returns
-returns c = cc
+returns c = rw (
+  c .before .before .before .before .before .byte-at .ensures,
+  c .before .before .before .before .byte-at2 .ensures,
+  c .before .before .before .byte-at3 .ensures,
+  c .before .before .byte-at4 .ensures,
+  c .before .byte-at5 .ensures,
+  c .byte-at6 .ensures,
+)
 
 pub destination-spec : {M : Type 1} → statement M
 destination-spec =

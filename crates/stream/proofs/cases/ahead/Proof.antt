@@ -13,7 +13,7 @@ fewer-requires c κs = search needs
 
 returns : tie.Need-returns
 unfolding weighedAs stateAfter losses outOfOrder
-returns c = cc
+returns c = rw (c .before .lost .ensures, c .fewer .ensures)
 
 pub ahead-spec : {M : Type 1} → statement M
 ahead-spec = tie.close (tie.spec lost-requires fewer-requires returns)

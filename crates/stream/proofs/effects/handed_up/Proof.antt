@@ -12,7 +12,7 @@ up-with-requires c κs = search needs
 
 returns : tie.Need-returns
 unfolding recordAfter
-returns c = cc
+returns c = rw (c .up-with .ensures, c .before .history-after .ensures)
 
 pub handed-up-spec : {M : Type 1} → statement M
 handed-up-spec = tie.close (tie.spec history-after-requires up-with-requires returns)

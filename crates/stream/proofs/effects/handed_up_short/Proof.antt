@@ -12,7 +12,7 @@ up-with-requires c κs = search needs
 
 returns : tie.Need-returns
 unfolding recordShort
-returns c = cc
+returns c = rw (c .up-with .ensures, c .before .short-after .ensures)
 
 pub handed-up-short-spec : {M : Type 1} → statement M
 handed-up-short-spec = tie.close (tie.spec short-after-requires up-with-requires returns)

@@ -21,7 +21,13 @@ wrapping-add-u64-requires-2 c κs = search needs
 
 returns : tie.Need-returns
 unfolding tally
-returns c = cc
+returns c = rw (
+  c .before .before .before .before .counted .ensures,
+  c .before .before .before .counted2 .ensures,
+  c .before .before .wrapping-add-u64 .ensures,
+  c .before .counted3 .ensures,
+  c .wrapping-add-u642 .ensures,
+)
 
 pub up-with-spec : {M : Type 1} → statement M
 up-with-spec =
