@@ -40,7 +40,7 @@ pub never-twice : {receive : Receiver} → MeetsContract receive → NeverTwice 
 never-twice m = carried NeverTwice twice m
 
 -- An open that is answered with a slot opens that slot, with the record that it asks for.
-is-open : (t : Table) (s : Stream) (i : ℕ) → answer t (if ltb slotsMost (length t) then refuse TABLE else open-call t s) ≡ answers (placed i)
+pub is-open : (t : Table) (s : Stream) (i : ℕ) → answer t (if ltb slotsMost (length t) then refuse TABLE else open-call t s) ≡ answers (placed i)
     → (if ltb slotsMost (length t) then refuse TABLE else open-call t s) ≡ opens i s
 unfolding open-call answer
 is-open t s i e = go (ltb slotsMost (length t)) refl (settled s) refl (someSlot (hasKey (s .dest) (s .vlan)) t) refl (someSlot isFree t) refl

@@ -30,7 +30,7 @@ Agree [] (b ∷ bs) = ⊥
 Agree (h ∷ hs) [] = ⊥
 Agree (h ∷ hs) (b ∷ bs) = Alike (h ∷ hs) (b ∷ bs)
 
-under : (x : ℕ) (hs : List ℕ) → elem x hs ≡ true → x ≤ highest hs
+pub under : (x : ℕ) (hs : List ℕ) → elem x hs ≡ true → x ≤ highest hs
 under x hs e = elim (decLt (highest hs) x) [ yes a ↦ absurd (false≢true (sym (above x hs a) ∙ e)) | no b ↦ omega arith ]
 
 -- one more of an index that was there

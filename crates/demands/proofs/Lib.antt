@@ -20,13 +20,13 @@ pub mod Computing
 pub mod StepRuns
 pub mod Wrong
 -- What they rest on.
-mod Moves
-mod Slot
+pub mod Moves
+pub mod Slot
 mod Gap
 mod Wrap
-mod Handed
-mod Linked
+pub mod Handed
+pub mod Linked
 mod Counting
 mod Follow
 mod Turns
-mod Firsts
+pub mod Firsts

@@ -115,12 +115,14 @@ seen-so t i calls indices p =
     let d = decides t i calls indices p in
     let o = once l indices [] .apart in
     record {
-      at-first = rw d (m .ups);
-      each = λ x. rw d (same-indices l indices m x);
-      once = rw d o;
-      sums = λ f. rw d (
-          sums f (suc (highest indices)) (handedBy l indices) (omega (arith, same-highest l indices m)) o
-          ∙ sum-same f (suc (highest indices)) (handedBy l indices) indices (same-indices l indices m));
+      exactly = record {
+        at-first = rw d (m .ups);
+        each = λ x. rw d (same-indices l indices m x);
+        once = rw d o;
+        sums = λ f. rw d (
+            sums f (suc (highest indices)) (handedBy l indices) (omega (arith, same-highest l indices m)) o
+            ∙ sum-same f (suc (highest indices)) (handedBy l indices) indices (same-indices l indices m));
+      };
       no-rogue = counter-stays t i calls indices p tame (λ (c : Counts). c .rogue) rogue-leaves (rw d (m .tames));
       lost = lost-so t i calls indices p;
     }

@@ -27,7 +27,7 @@ pub record Single (hs us : List ℕ) : Type 0 where
   pub apart : distinct us ≡ true
   pub fresh : (y : ℕ) → elem y hs ≡ true → elem y us ≡ false
 
-add : (x : ℕ) (hs us : List ℕ) → elem x hs ≡ false → Single (x ∷ hs) us → Single hs (x ∷ us)
+pub add : (x : ℕ) (hs us : List ℕ) → elem x hs ≡ false → Single (x ∷ hs) us → Single hs (x ∷ us)
 unfolding distinct
 add x hs us n s = record {
   apart = rw (s .fresh x (more x x hs ∙ rw (eq-eqb x x refl)), s .apart);

@@ -46,16 +46,20 @@ abbrev pub withHoles : (window count : ℕ) (indices : List ℕ) → ℕ
 withHoles window count [] = count
 withHoles window count (first ∷ rest) = rise count (missed window first (first ∷ rest))
 
--- What is promised: of a record before and after a run, of the verdicts on its arrivals and of their indices.
-pub record NoneMissed (before after : Stream) (vs : List Verdict) (indices : List ℕ) : Type 0 where
+-- What is promised of the verdicts on arrivals, and of their indices:
+pub record ExactlyOnce (vs : List Verdict) (indices : List ℕ) : Type 0 where
   -- "at its first arrival": the k-th arrival is handed up exactly if no arrival before it had its index;
   pub at-first : map isUp vs ≡ firsts [] indices
   -- "every index that arrives is handed up", and no other,
   pub each : (x : ℕ) → elem x (handedOf vs indices) ≡ elem x indices
   -- "exactly once";
   pub once : distinct (handedOf vs indices) ≡ true
-  -- so a sum over what is handed up is the sum over the indices that arrived, each of them once;
+  -- so a sum over what is handed up is the sum over the indices that arrived, each of them once.
   pub sums : (f : ℕ → ℤ) → sumOf f (handedOf vs indices) ≡ sumOnce f (suc (highest indices)) indices
+
+-- And of a record before and after a run:
+pub record NoneMissed (before after : Stream) (vs : List Verdict) (indices : List ℕ) : Type 0 where
+  pub exactly : ExactlyOnce vs indices
   -- no arrival is a rogue;
   pub no-rogue : after .counts .rogue ≡ before .counts .rogue
   -- and no hole is silent: of the indices above the first and at most highest - L lost counts those that never arrived.

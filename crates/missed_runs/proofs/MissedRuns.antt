@@ -187,22 +187,22 @@ pub hands-up-nothing : HandsUpNothing
 unfolding computing allClose numberFor arrivals refusedArrivals begin sent distinct handedOf byAct deciding findsDuplicates
 hands-up-nothing = record {
   at-most-once = λ t i calls indices p e. rw (none-up i t calls indices);
-  misses = λ h. false≢true (h begin 0 (sent (7 ∷ [])) (7 ∷ []) (record { fresh = record { vector = refl; lawful = refl; any = refl }; lasts = refl; numbered = refl; close = refl }) refl .each 7);
+  misses = λ h. false≢true (h begin 0 (sent (7 ∷ [])) (7 ∷ []) (record { fresh = record { vector = refl; lawful = refl; any = refl }; lasts = refl; numbered = refl; close = refl }) refl .exactly .each 7);
 }
 
 pub only-higher : OnlyHigher
 unfolding computing allClose firsts numberFor arrivals refusedArrivals begin sent drawn drawnIndices handedOf byAct deciding onlyHigher
 only-higher = record {
   given = refl;
-  misses = λ h. false≢true (head-eq-of-cons-eq (tail-eq-of-cons-eq (h begin 0 (sent (8 ∷ 7 ∷ [])) (8 ∷ 7 ∷ []) (record { fresh = record { vector = refl; lawful = refl; any = refl }; lasts = refl; numbered = refl; close = refl }) refl .at-first)));
+  misses = λ h. false≢true (head-eq-of-cons-eq (tail-eq-of-cons-eq (h begin 0 (sent (8 ∷ 7 ∷ [])) (8 ∷ 7 ∷ []) (record { fresh = record { vector = refl; lawful = refl; any = refl }; lasts = refl; numbered = refl; close = refl }) refl .exactly .at-first)));
 }
 
 pub ruled-out-by-one : RuledOutByOne
 unfolding computing allClose numberFor arrivals refusedArrivals begin sent dead deadIndices distinct handedOf sumOf sumOnce absent byAct deciding marksNothing handsUpAll duplicateIsRogue countsNoLoss
 ruled-out-by-one = record {
-  marks-nothing = λ h. false≢true (h begin 0 (sent (7 ∷ 7 ∷ [])) (7 ∷ 7 ∷ []) (record { fresh = record { vector = refl; lawful = refl; any = refl }; lasts = refl; numbered = refl; close = refl }) refl .once);
+  marks-nothing = λ h. false≢true (h begin 0 (sent (7 ∷ 7 ∷ [])) (7 ∷ 7 ∷ []) (record { fresh = record { vector = refl; lawful = refl; any = refl }; lasts = refl; numbered = refl; close = refl }) refl .exactly .once);
   hands-up-all = λ h.
-      (let z : _≡_ {A = ℤ} (pos 22) (pos 15) = h begin 0 (sent (7 ∷ 8 ∷ 7 ∷ [])) (7 ∷ 8 ∷ 7 ∷ []) (record { fresh = record { vector = refl; lawful = refl; any = refl }; lasts = refl; numbered = refl; close = refl }) refl .sums (λ x. pos x) in
+      (let z : _≡_ {A = ℤ} (pos 22) (pos 15) = h begin 0 (sent (7 ∷ 8 ∷ 7 ∷ [])) (7 ∷ 8 ∷ 7 ∷ []) (record { fresh = record { vector = refl; lawful = refl; any = refl }; lasts = refl; numbered = refl; close = refl }) refl .exactly .sums (λ x. pos x) in
       let y : _≡_ {A = ℕ} 22 15 = cc in omega arith);
   duplicate-is-rogue = λ h. (let z : _≡_ {A = ℕ} 1 0 = h begin 0 (sent (7 ∷ 7 ∷ [])) (7 ∷ 7 ∷ []) (record { fresh = record { vector = refl; lawful = refl; any = refl }; lasts = refl; numbered = refl; close = refl }) refl .no-rogue in omega arith);
   counts-no-loss = λ h. (let z : _≡_ {A = ℕ} (2 ^ 64 - 1) 0 = h begin 0 dead deadIndices (record { fresh = record { vector = refl; lawful = refl; any = refl }; lasts = refl; numbered = refl; close = refl }) refl .lost in omega arith);
