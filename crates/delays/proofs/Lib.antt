@@ -1,0 +1,20 @@
+pub mod Theorems
+-- What they rest on.
+pub mod Across
+pub mod Delays
+pub mod Opened
+pub mod Restart
+pub mod Outage
+pub mod Promise
+pub mod Least
+pub mod Lists
+mod Sending
+mod Holds
+mod Window
+mod Traffic
+mod EveryBeginning
+mod LeastWindow
+-- Runs with numbers.
+pub mod ByNumber
+pub mod Losing
+pub mod Computing

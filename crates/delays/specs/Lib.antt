@@ -1,0 +1,7 @@
+pub mod Formulas
+pub mod Line
+pub mod Forgetting
+pub mod OnceEach
+pub mod Least
+pub mod ByNumber
+pub mod Theorems

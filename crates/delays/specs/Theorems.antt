@@ -1,0 +1,37 @@
+-- What this crate proves, as one list. `proofs/Theorems` has the proof of each line. Assumes nothing.
+use Rattle.demands.specs.Receiver.{Receiver, MeetsContract, run}
+use Rattle.demands.specs.Seen.{log}
+use Rattle.demands.specs.Steps.{Machine, MeetsAll, ranSteps, logSteps}
+use Rattle.delays.specs.OnceEach.{OnceEach, OnceEachEven, OnceEachOpened, OnceEachRestarted, NoneForAnother, DecidesAcross, WindowHolds, SpacedSends, UpAtFirstIsOnce, BeginningsKeep}
+use Rattle.delays.specs.Least.{LeastConstants}
+use Rattle.delays.specs.ByNumber.{Sharp, TrafficSharp}
+
+-- Of a receiver that meets the contract,
+pub record Delays (receive : Receiver) : Type 0 where
+  pub once-each-even : OnceEachEven (log receive)
+  pub once-each : OnceEach (log receive)
+  pub once-each-opened : OnceEachOpened receive
+  pub once-each-restarted : OnceEachRestarted (log receive) (run receive)
+  pub none-for-another : NoneForAnother (log receive)
+  pub decides-across : DecidesAcross (log receive)
+
+-- and of one with the batch beside it.
+pub record DelaysSteps (m : Machine) : Type 0 where
+  pub once-each-even : OnceEachEven (logSteps m)
+  pub once-each : OnceEach (logSteps m)
+  pub once-each-restarted : OnceEachRestarted (logSteps m) (ranSteps m)
+  pub none-for-another : NoneForAnother (logSteps m)
+  pub decides-across : DecidesAcross (logSteps m)
+
+pub record Theorems : Type 0 where
+  pub delays : (receive : Receiver) → MeetsContract receive → Delays receive
+  pub delays-steps : (m : Machine) → MeetsAll m → DelaysSteps m
+  -- What the window is needed for, what exactly once means, and what an even sender keeps to.
+  pub window-holds : WindowHolds
+  pub up-at-first-is-once : UpAtFirstIsOnce
+  pub spaced-sends : SpacedSends
+  pub beginnings-keep : BeginningsKeep
+  -- No smaller L or R will do; and two runs, at L and R and one less. (More of them: the crate `delays_runs`.)
+  pub least-constants : LeastConstants
+  pub sharp : Sharp
+  pub traffic-sharp : TrafficSharp
