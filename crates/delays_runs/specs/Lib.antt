@@ -1,0 +1,3 @@
+pub mod DelaysRuns
+pub mod Choices
+pub mod Applied

@@ -1,0 +1,1 @@
+// No code: runs with numbers of what `delays` says (specs/), and that they compute (proofs/).
