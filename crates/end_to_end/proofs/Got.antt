@@ -1,0 +1,130 @@
+-- What the application gets: of the frames that the stream heard, those that it handed up, without their tags. Assumes nothing.
+use Prim.Native.Nat.{ℕ, _-_}
+use mathlib.Core.Path.{_≡_, refl, ap, ap₂, _∙_}
+use mathlib.Core.Bool.{Bool, true, false, not}
+use mathlib.Core.List.{List, [], _∷_, _++_}
+use lib.Dec.{eqb, leb, ltb}
+use lib.ListN.{length}
+use Rattle.refusal.specs.Checks.{Said}
+use Rattle.refusal.specs.Checks.Said.{refused, answers}
+use Rattle.refusal.specs.Numbers.{TABLE, NETWORK, UNKNOWN, DAMAGED, ROOM, SETTING, TAKEN, FULL, SLOT}
+use Rattle.record.specs.declared.Stream.{Stream}
+use Rattle.record.specs.Words.{if_then_else_}
+use Rattle.record.specs.Sizes.{slotsMost}
+use Rattle.frame.specs.Frame.{Tag, destOf, readOf, untagged}
+use Rattle.frame.proofs.Bytes.{overlay-front}
+use Rattle.stream.specs.Record.{settled, lawful, opened}
+use Rattle.stream.specs.Decisions.{Verdict, up, duplicate, rogue, isUp, verdict}
+use Rattle.calls.specs.Table.{Table, at, search, someSlot, hasKey, isFree}
+use Rattle.calls.specs.Calls.{Call, arriving, opening, closing, resetting, ticking, Act, refuse, arrive, admitted, arrivalAt, arrival, inUse, open-call, checked, act, after, answer, verdictWith, writtenFor, outOf, output, Result}
+use Rattle.calls.specs.Calls as calls
+use Rattle.demands.specs.Receiver.{Receiver, MeetsContract, theReceiver}
+use Rattle.demands.specs.Seen.{Seen, arrived, tick, ended, nothing, told, answered, seenOf, seen, log, verdicts}
+use Rattle.demands.proofs.Alike.{carried}
+use Rattle.both_sides.specs.Copies.{frameOf, isArrival, framesHeard}
+use Rattle.end_to_end.specs.Bytes.{gotOf, got}
+
+-- Of the frames heard, those whose verdict is up, without their tags.
+unfoldable pub picked : List Verdict → List (List ℕ) → List (List ℕ)
+picked [] fs = []
+picked (v ∷ vs) [] = []
+picked (v ∷ vs) (f ∷ fs) = if isUp v then untagged f ∷ picked vs fs else picked vs fs
+
+-- ---- one call
+
+-- what is handed up of one call with this frame
+abbrev bares : Seen → List ℕ → List (List ℕ)
+bares (arrived n v) f = if isUp v then untagged f ∷ [] else []
+bares (tick b) f = []
+bares ended f = []
+bares nothing f = []
+
+-- what the call c leaves where it comes to a
+abbrev leaves : Table → Call → Act → Result
+leaves t c a = record { said = answer t a; table = after t a; output = output t (outOf c) a }
+
+module _ (i : ℕ) (t : Table) where
+  record Gives (c : Call) (a : Act) : Type 0 where
+    fact : gotOf i (answer t a) (output t (outOf c) a) ≡ bares (seen i t c (leaves t c a)) (frameOf c)
+
+  branch : {c : Call} (b : Bool) {x y : Act} → Gives c x → Gives c y → Gives c (if b then x else y)
+  branch true p q = p
+  branch false p q = q
+
+  refuses : {c : Call} (n : ℕ) → Gives c (refuse n)
+  unfolding answer output gotOf seenOf
+  refuses n = record { fact = refl }
+
+  -- As many bytes as the answer tells are the frame without its tag.
+  arrives : (network : ℕ) (f out : List ℕ) (j n w : ℕ) → Gives (arriving network f out) (arrive j n w (untagged f))
+  unfolding answer output gotOf seenOf answered
+  arrives network f out j n w = record { fact = go (verdict (at t j) n) (eqb j i) refl }
+    where
+      go : (v : Verdict) (b : Bool) → eqb j i ≡ b
+          → gotOf i (answers (calls.arrived j n (verdictWith (length (untagged f)) v))) (writtenFor v (untagged f) out)
+          ≡ bares (if eqb j i then arrived n (told (verdictWith (length (untagged f)) v)) else nothing) f
+      go up true e = rw e (ap (λ (x : List ℕ). x ∷ []) (overlay-front (untagged f) out refl))
+      go up false e = rw e
+      go duplicate true e = rw e
+      go duplicate false e = rw e
+      go rogue true e = rw e
+      go rogue false e = rw e
+
+  arrival-gives : (network : ℕ) (f out : List ℕ) (r : Said Tag) → Gives (arriving network f out) (arrival t network f out r)
+  unfolding arrival arrivalAt
+  arrival-gives network f out (refused n) = refuses n
+  arrival-gives network f out (answers g) =
+      let j : ℕ = search (hasKey (g .header .dest) (g .header .vlan)) t in
+      branch (leb (length t) j) (refuses UNKNOWN)
+      (branch (not (lawful (at t j))) (refuses DAMAGED)
+      (branch (ltb (length out) (length f - 6)) (refuses ROOM) (arrives network f out j (g .number) network)))
+
+  -- A close or a reset gives nothing, whichever slot it is for.
+  silent : (b : Bool) → _≡_ {A = List (List ℕ)} [] (bares (if b then ended else nothing) [])
+  silent true = refl
+  silent false = refl
+
+  checked-gives : (c : Call) → Gives c (checked t c)
+  unfolding checked open-call answer output gotOf seenOf answered
+  checked-gives (arriving network f out) = branch (ltb 1 network) (refuses NETWORK) (arrival-gives network f out (admitted f (readOf f)))
+  checked-gives (opening dest vlan rule window time) =
+      let s : Stream = opened (destOf dest) vlan rule window time in
+      branch (not (settled s)) (refuses SETTING)
+      (branch (someSlot (hasKey (s .dest) (s .vlan)) t) (refuses TAKEN)
+      (branch (not (someSlot isFree t)) (refuses FULL) (record { fact = refl })))
+  checked-gives (closing j) = branch (inUse t j) (record { fact = silent (eqb j i) }) (refuses SLOT)
+  checked-gives (resetting j) =
+      branch (not (inUse t j)) (refuses SLOT)
+      (branch (not (settled (at t j))) (refuses DAMAGED) (record { fact = silent (eqb j i) }))
+  checked-gives ticking = record { fact = refl }
+
+  act-gives : (c : Call) → Gives c (act t c)
+  unfolding act
+  act-gives c = branch (ltb slotsMost (length t)) (refuses TABLE) (checked-gives c)
+
+-- ---- a run
+
+joined : (e : Seen) (es : List Seen) (f : List ℕ) (fs : List (List ℕ))
+    → bares e f ++ picked (verdicts es) fs ≡ picked (verdicts (e ∷ es)) ((if isArrival e then f ∷ [] else []) ++ fs)
+unfolding verdicts picked
+joined (arrived n up) es f fs = refl
+joined (arrived n duplicate) es f fs = refl
+joined (arrived n rogue) es f fs = refl
+joined (tick b) es f fs = refl
+joined ended es f fs = refl
+joined nothing es f fs = refl
+
+abbrev pub GotArePicked : Receiver → Type 0
+GotArePicked receive =
+    (i : ℕ) (t : Table) (cs : List Call) → got receive i t cs ≡ picked (verdicts (log receive i t cs)) (framesHeard receive i t cs)
+
+of-run : GotArePicked theReceiver
+unfolding got log framesHeard verdicts picked theReceiver
+of-run i t [] = refl
+of-run i t (c ∷ cs) =
+    let u : Table = theReceiver t c .table in
+    ap₂ (λ (a b : List (List ℕ)). a ++ b) (act-gives i t c .fact) (of-run i u cs)
+    ∙ joined (seen i t c (theReceiver t c)) (log theReceiver i u cs) (frameOf c) (framesHeard theReceiver i u cs)
+
+pub got-are-picked : {receive : Receiver} → MeetsContract receive → GotArePicked receive
+got-are-picked m = carried GotArePicked of-run m

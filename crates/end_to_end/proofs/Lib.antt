@@ -1,0 +1,11 @@
+-- The theorems.
+pub mod Theorems
+pub mod BatchRuns
+-- What they rest on.
+mod Bytes
+mod Batches
+mod Got
+mod Ours
+mod Heard
+mod Runs
+mod RunsApplied

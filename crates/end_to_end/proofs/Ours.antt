@@ -1,0 +1,216 @@
+-- Through a run in which a stream is neither closed nor reset by call its record stays lawful, and its slot the lowest with its key.
+-- Assumes nothing.
+use Prim.Native.Nat.{ℕ, zero, suc, _-_, _<_}
+use mathlib.Core.Path.{_≡_, refl, sym, ap, ap₂, _∙_}
+use mathlib.Core.Bool.{Bool, true, false, not, false≢true}
+use mathlib.Core.List.{List, [], _∷_, map, cons≢nil, tail-eq-of-cons-eq}
+use native.Mathlib.Omega.{arith}
+use lib.Dec.{eqb, leb, ltb}
+use lib.ListN.{length, set}
+use borrow.Author.Tests.{eqb-true, lt-ltb}
+use Rattle.refusal.specs.Checks.{Said}
+use Rattle.refusal.specs.Checks.Said.{refused, answers}
+use Rattle.refusal.specs.Numbers.{TABLE, NETWORK, UNKNOWN, DAMAGED, ROOM, SETTING, TAKEN, FULL, SLOT}
+use Rattle.record.specs.declared.Stream.{Stream}
+use Rattle.record.specs.Words.{if_then_else_, yes}
+use Rattle.record.specs.Sizes.{slotsMost}
+use Rattle.frame.specs.Frame.{Tag, destOf, readOf}
+use Rattle.stream.specs.Record.{settled, lawful, opened, closed}
+use Rattle.stream.specs.Decisions.{decided, reset, expires, ticked}
+use Rattle.stream.proofs.Logic.{tests}
+use Rattle.stream.proofs.Law.{law}
+use Rattle.stream.proofs.Keeps.{decided-lawful, ticked-lawful}
+use Rattle.calls.specs.Table.{Table, at, search, someSlot, hasKey, isFree}
+use Rattle.calls.specs.Calls.{Call, arriving, opening, closing, resetting, ticking, Act, refuse, arrive, opens, closes, resets, ticks, admitted, arrivalAt, arrival, inUse, open-call, checked, act, after}
+use Rattle.calls.proofs.Kept.{length-kept, other}
+use Rattle.calls.proofs.Sound.{at-ticked}
+use Rattle.demands.specs.Receiver.{theReceiver, run}
+use Rattle.demands.specs.Seen.{Seen, arrived, tick, ended, nothing, seen, log, every}
+use Rattle.demands.proofs.Moves.{Moves}
+use Rattle.demands.proofs.Slot.{at-set, act-sound}
+use Rattle.delays.specs.Line.{Event, came, ticked as beat}
+use Rattle.delays.specs.OnceEach.{kinds, kindOf}
+
+-- ---- neither closed nor reset by call
+
+abbrev pub lives : Seen → Bool
+lives (arrived n v) = true
+lives (tick b) = true
+lives ended = false
+lives nothing = true
+
+-- What is seen as copies and ticks has no end in it.
+pub lives-on : (es : List Seen) (ps : List Event) → kinds es ≡ map kindOf ps → every lives es ≡ true
+unfolding kinds every
+lives-on [] ps e = refl
+lives-on (arrived n v ∷ es) [] e = absurd (cons≢nil e)
+lives-on (arrived n v ∷ es) (p ∷ ps) e = lives-on es ps (tail-eq-of-cons-eq e)
+lives-on (tick b ∷ es) [] e = absurd (cons≢nil e)
+lives-on (tick b ∷ es) (p ∷ ps) e = lives-on es ps (tail-eq-of-cons-eq e)
+lives-on (ended ∷ es) [] e = absurd (cons≢nil e)
+lives-on (ended ∷ es) (came x a ∷ ps) e = absurd (let z : _≡_ {A = ℕ} 0 1 = cc in omega arith)
+lives-on (ended ∷ es) (beat c ∷ ps) e = absurd (let z : _≡_ {A = ℕ} 0 1 = cc in omega arith)
+lives-on (nothing ∷ es) ps e = lives-on es ps e
+
+-- ---- the lowest slot
+
+-- A slot that passes, with none below it, is the one that the search gives.
+search-is : (p : Stream → Bool) (t : Table) (i : ℕ) → i < length t → p (at t i) ≡ true → ((k : ℕ) → k < i → p (at t k) ≡ false)
+    → search p t ≡ i
+unfolding search
+search-is p [] i w h b = absurd (omega arith)
+search-is p (s ∷ t) zero w h b = rw h
+search-is p (s ∷ t) (suc i) w h b = rw (b 0 (omega arith)) (ap suc (search-is p t i (omega arith) h (λ k l. b (suc k) (omega arith))))
+
+module _ (dest vlan : ℕ) where
+  abbrev key : Stream → Bool
+  key = hasKey dest vlan
+
+  -- Slot i has a lawful record with the key, and none below it has the key.
+  pub record Held (t : Table) (i : ℕ) : Type 0 where
+    pub within : i < length t
+    pub lawful : lawful (at t i) ≡ true
+    pub has : hasKey dest vlan (at t i) ≡ true
+    pub below : (k : ℕ) → k < i → hasKey dest vlan (at t k) ≡ false
+
+  pub found-there : {t : Table} {i : ℕ} → Held t i → search (hasKey dest vlan) t ≡ i
+  found-there {t} {i} h = search-is key t i (h .within) (h .has) (h .below)
+
+  pub is-some : {t : Table} {i : ℕ} → Held t i → someSlot (hasKey dest vlan) t ≡ true
+  unfolding someSlot
+  is-some {t} {i} h = lt-ltb (search key t) (length t) (omega (arith, found-there h, h .within))
+
+  -- ---- the key of a record: a close takes it away, and all else leaves it
+
+  key-decided : (s : Stream) (n w : ℕ) → key (decided s n w) ≡ key s
+  unfolding decided hasKey
+  key-decided s n w = refl
+
+  key-reset : (s : Stream) → key (reset s) ≡ key s
+  unfolding reset hasKey
+  key-reset s = refl
+
+  key-closed : (s : Stream) → key (closed s) ≡ false
+  unfolding hasKey yes
+  key-closed s = refl
+
+  key-ticked : (s : Stream) → key (ticked s) ≡ key s
+  unfolding ticked reset hasKey
+  key-ticked s = go (expires s) (lawful s) refl refl
+    where
+      go : (b c : Bool) → expires s ≡ b → lawful s ≡ c → key (ticked s) ≡ key s
+      go true c e f = rw e
+      go false true e f = rw (e, f)
+      go false false e f = rw (e, f)
+
+  -- ---- no open gives the key to a slot
+
+  abbrev Bars : Act → Type 0
+  Bars (refuse n) = Unit {0}
+  Bars (arrive i number network bare) = Unit {0}
+  Bars (opens i s) = key s ≡ false
+  Bars (closes i) = Unit {0}
+  Bars (resets i) = Unit {0}
+  Bars ticks = Unit {0}
+
+  record Barred (a : Act) : Type 0 where
+    fact : Bars a
+
+  branch : (b : Bool) {x y : Act} → (b ≡ true → Barred x) → (b ≡ false → Barred y) → Barred (if b then x else y)
+  branch true f g = f refl
+  branch false f g = g refl
+
+  no : (n : ℕ) → Barred (refuse n)
+  no n = record { fact = tt }
+
+  module _ (t : Table) where
+    arrival-barred : (network : ℕ) (f out : List ℕ) (r : Said Tag) → Barred (arrival t network f out r)
+    unfolding arrival arrivalAt
+    arrival-barred network f out (refused n) = no n
+    arrival-barred network f out (answers g) =
+        let j : ℕ = search (hasKey (g .header .dest) (g .header .vlan)) t in
+        branch (leb (length t) j) (λ _. no UNKNOWN) (λ _.
+        branch (not (lawful (at t j))) (λ _. no DAMAGED) (λ _.
+        branch (ltb (length out) (length f - 6)) (λ _. no ROOM) (λ _. record { fact = tt })))
+
+    module _ (taken : someSlot key t ≡ true) where
+      -- A record with the key is of an open with the key: that is refused, as the key is taken.
+      other-key : (s : Stream) → someSlot (hasKey (s .dest) (s .vlan)) t ≡ false → key s ≡ false
+      unfolding hasKey
+      other-key s e = go (key s) refl
+        where
+          go : (b : Bool) → key s ≡ b → key s ≡ false
+          go true k =
+              let p = simp tests at k in
+              absurd (false≢true (sym e ∙ ap₂ (λ (d v : ℕ). someSlot (hasKey d v) t) (p .0 .1) (p .1) ∙ taken))
+          go false k = k
+
+      checked-barred : (c : Call) → Barred (checked t c)
+      unfolding checked open-call
+      checked-barred (arriving network f out) = branch (ltb 1 network) (λ _. no NETWORK) (λ _. arrival-barred network f out (admitted f (readOf f)))
+      checked-barred (opening d v rule window time) =
+          let s : Stream = opened (destOf d) v rule window time in
+          branch (not (settled s)) (λ _. no SETTING) (λ _.
+          branch (someSlot (hasKey (s .dest) (s .vlan)) t) (λ _. no TAKEN) (λ e.
+          branch (not (someSlot isFree t)) (λ _. no FULL) (λ _. record { fact = other-key s e })))
+      checked-barred (closing j) = branch (inUse t j) (λ _. record { fact = tt }) (λ _. no SLOT)
+      checked-barred (resetting j) =
+          branch (not (inUse t j)) (λ _. no SLOT) (λ _.
+          branch (not (settled (at t j))) (λ _. no DAMAGED) (λ _. record { fact = tt }))
+      checked-barred ticking = record { fact = tt }
+
+      act-barred : (c : Call) → Barred (act t c)
+      unfolding act
+      act-barred c = branch (ltb slotsMost (length t)) (λ _. no TABLE) (λ _. checked-barred c)
+
+    -- So a slot that has not the key has it not after the call.
+    module _ (k : ℕ) (l : k < length t) (e : key (at t k) ≡ false) where
+      stored : (j : ℕ) (s : Stream) → (j ≡ k → key s ≡ false) → key (at (set t j s) k) ≡ false
+      stored j s h = go (eqb j k) refl
+        where
+          go : (b : Bool) → eqb j k ≡ b → key (at (set t j s) k) ≡ false
+          go true q = let z : j ≡ k = eqb-true j k q in rw z (ap key (at-set t k s l) ∙ h z)
+          go false q = ap key (other t j k s q) ∙ e
+
+      still-without : (a : Act) → Barred a → key (at (after t a) k) ≡ false
+      unfolding after
+      still-without (refuse n) b = e
+      still-without (arrive j n w bare) b = stored j _ (λ z. key-decided (at t j) n w ∙ rw z e)
+      still-without (opens j s) b = stored j s (λ _. b .fact)
+      still-without (closes j) b = stored j _ (λ _. key-closed (at t j))
+      still-without (resets j) b = stored j _ (λ z. key-reset (at t j) ∙ rw z e)
+      still-without ticks b = ap key (at-ticked t k) ∙ key-ticked (at t k) ∙ e
+
+  -- ---- the record itself
+
+  record Stands (u : Stream) : Type 0 where
+    lawful : lawful u ≡ true
+    has : key u ≡ true
+
+  stands-on : (s : Stream) (e : Seen) (u : Stream) → Moves s e u → lives e ≡ true → Stands s → Stands u
+  stands-on s (arrived n v) u (_, (w, z)) a h = rw z (record { lawful = decided-lawful s n w (h .lawful); has = key-decided s n w ∙ h .has })
+  stands-on s (tick b) u (_, z) a h = rw z (record { lawful = ticked-lawful s (h .lawful); has = key-ticked s ∙ h .has })
+  stands-on s ended u m a h = absurd (false≢true a)
+  stands-on s nothing u m a h = rw (m (law (h .lawful) .used)) h
+
+  -- ---- a call, and a run of calls
+
+  on-call : (t : Table) (i : ℕ) (c : Call) → Held t i → lives (seen i t c (theReceiver t c)) ≡ true → Held (after t (act t c)) i
+  unfolding theReceiver
+  on-call t i c h a =
+      let s = stands-on (at t i) (seen i t c (theReceiver t c)) (at (after t (act t c)) i) (act-sound i t (h .within) c .moves) a
+      (record { lawful = h .lawful; has = h .has }) in
+      let w = h .within in
+      record {
+        within = rw (length-kept t c) w;
+        lawful = s .lawful;
+        has = s .has;
+        below = λ k l. still-without t k (omega arith) (h .below k l) (act t c) (act-barred t (is-some h) c);
+      }
+
+  pub held-on : (t : Table) (i : ℕ) (cs : List Call) → Held t i → every lives (log theReceiver i t cs) ≡ true → Held (run theReceiver t cs) i
+  unfolding log run every theReceiver
+  held-on t i [] h a = h
+  held-on t i (c ∷ cs) h a =
+      let p = simp tests at a in
+      held-on (after t (act t c)) i cs (on-call t i c h (p .0)) (p .1)

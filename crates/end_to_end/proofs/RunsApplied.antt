@@ -1,0 +1,43 @@
+-- The statements applied to the runs of `specs/Runs`: by the theorems, not by computing. Assumes nothing.
+use mathlib.Core.Path.{_≡_, refl, sym, subst}
+use mathlib.Core.Logic.{inr}
+use mathlib.Core.List.{[], _∷_}
+use lib.Dec.{lit≤}
+use lib.ListN.{replicate}
+use Rattle.demands.specs.Receiver.{Receiver, MeetsContract, theReceiver}
+use Rattle.demands.specs.Examples.{frame}
+use Rattle.demands.proofs.Alike.{carried, the-receiver-meets}
+use Rattle.sender.specs.Sender.{atFirst}
+use Rattle.sender.specs.Runs.{Side, MeetsSide, theSide}
+use Rattle.sender.proofs.Numbers.{the-side-meets}
+use Rattle.delays.specs.Line.{least, most, J, came, ticked}
+use Rattle.end_to_end.specs.Runs.{into, comes, new, line, apart, L, R, near, sevenSent, theyCome, itSees, places, lineFrom, oldRun, cameBefore, restComes, restSeen, restPlaces, inTraffic, other, otherSent, EndApplied}
+use Rattle.end_to_end.specs.Theorems.{EndToEnd}
+use Rattle.end_to_end.proofs.Runs.{computing, both-meet, restart-meets, traffic-meets}
+
+-- A sending side that meets order 6 is the definitions' side.
+same-side : {side : Side} → MeetsSide side → side ≡ theSide
+unfolding theSide
+same-side m = λ i. record { send = λ s f out0 out1. m .send s f out0 out1 i; reset = λ s. m .reset s i }
+
+-- Of the receiver and the side that the definitions give,
+of-the-two : EndToEnd theReceiver theSide → EndApplied theReceiver theSide
+unfolding new line lineFrom least most J computing other otherSent
+of-the-two d = record {
+  both = d .bytes-to-bytes line apart [] [] itSees near sevenSent (new L R) 0 theyCome places (both-meet .fresh) (both-meet .between);
+  restarted = d .bytes-to-bytes-restarted (lineFrom 22) apart [] 15 8 0 24 (came 0 15 ∷ ticked 17 ∷ ticked 19 ∷ ticked 21 ∷ ticked 23 ∷ []) [] atFirst
+      (into 32 2 ∷ []) (new L R) 0 (oldRun 4) (comes 0 2 0 ∷ []) (0 ∷ []) (restart-meets .silence) (restart-meets .longer) (restart-meets .between);
+  in-traffic = d .bytes-to-bytes line apart [] cameBefore restSeen near sevenSent (new inTraffic R) 0 restComes restPlaces (traffic-meets .fresh)
+      (traffic-meets .between);
+  heard = d .copies-are-heard atFirst otherSent 0 _ (new L R) 1 theyCome
+      (ticked 0 ∷ ticked 0 ∷ came 0 0 ∷ ticked 0 ∷ ticked 0 ∷ ticked 0 ∷ ticked 0 ∷ ticked 0 ∷ []) 1 (frame 3 0) (replicate 14 0)
+      (record { sixteen = lit≤ tt; whole = refl }) refl (inr refl) (record { some = refl; lowest = refl }) refl refl
+      (record { slots = lit≤ tt; network = lit≤ tt; room = lit≤ tt });
+}
+
+-- and so of all.
+pub applied : ((receive : Receiver) → MeetsContract receive → (side : Side) → MeetsSide side → EndToEnd receive side)
+    → (receive : Receiver) → MeetsContract receive → (side : Side) → MeetsSide side → EndApplied receive side
+applied both receive k side m =
+    let d = of-the-two (both theReceiver the-receiver-meets theSide the-side-meets) in
+    subst (EndApplied receive) (sym (same-side m)) (carried (λ (r : Receiver). EndApplied r theSide) d k)

@@ -1,0 +1,37 @@
+-- The list of theorems. Assumes nothing.
+use Rattle.demands.specs.Receiver.{Receiver, MeetsContract}
+use Rattle.sender.specs.Runs.{Side, MeetsSide}
+use Rattle.delays.proofs.Theorems as delays
+use Rattle.end_to_end.specs.Bytes.{BytesToBytes}
+use Rattle.end_to_end.specs.Theorems.{EndToEnd, Theorems}
+-- (The runs first: modules are checked in the order in which they are named, and so a wrong definition is refused at what a run computes.)
+use Rattle.end_to_end.proofs.Runs.{both-meet, restart-meets, traffic-meets, between-needed}
+use Rattle.end_to_end.proofs.Bytes.{bytes-to-bytes, bytes-to-bytes-restarted}
+use Rattle.end_to_end.proofs.Batches.{got-as-calls, bytes-to-bytes-steps, bytes-to-bytes-restarted-steps}
+use Rattle.end_to_end.proofs.BatchRuns.{batch-got}
+use Rattle.end_to_end.proofs.Heard.{copies-are-heard}
+use Rattle.end_to_end.proofs.RunsApplied.{applied}
+
+of-calls : {receive : Receiver} → MeetsContract receive → {side : Side} → MeetsSide side → BytesToBytes receive side
+of-calls {receive} k m = bytes-to-bytes k (delays.theorems .delays receive k .once-each) m
+
+of-both : (receive : Receiver) → MeetsContract receive → (side : Side) → MeetsSide side → EndToEnd receive side
+of-both receive k side m = record {
+  bytes-to-bytes = of-calls k m;
+  bytes-to-bytes-restarted = bytes-to-bytes-restarted k (delays.theorems .delays receive k .once-each) m;
+  copies-are-heard = copies-are-heard k m;
+}
+
+pub theorems : Theorems
+theorems = record {
+  both = of-both;
+  both-meet = both-meet;
+  restart-meets = restart-meets;
+  traffic-meets = traffic-meets;
+  between-needed = between-needed;
+  end-applied = applied of-both;
+  got-as-calls = got-as-calls;
+  steps = λ m k side s. bytes-to-bytes-steps m k side (of-calls (k .receive) s);
+  steps-restarted = λ m k side s. bytes-to-bytes-restarted-steps m k side (of-calls (k .receive) s);
+  batch-got = batch-got;
+}

@@ -1,0 +1,53 @@
+-- Against vacuity: what the application gets from a batch for two streams and a call behind it, of the machine that the definitions
+-- give. Assumes nothing.
+use Prim.Native.Nat.{ℕ}
+use mathlib.Core.Path.{_≡_}
+use mathlib.Core.Option.{none, some}
+use mathlib.Core.List.{List, [], _∷_, _++_, flatMap}
+use lib.ListN.{replicate}
+use Rattle.refusal.specs.Checks.Said.{refused, answers}
+use Rattle.refusal.specs.Numbers.{UNKNOWN}
+use Rattle.calls.specs.Calls.{arriving, arrived, handedUp, duplicate}
+use Rattle.batch.specs.Batch.{Batch, batchOf}
+use Rattle.batch.specs.Laws.{preceded}
+use Rattle.demands.specs.Receiver.{theReceiver}
+use Rattle.demands.specs.Steps.{Step, single, batch, theMachine, readAs}
+use Rattle.demands.specs.Examples.{address, frame, start}
+use Rattle.end_to_end.specs.Bytes.{got}
+use Rattle.end_to_end.specs.Batches.{gotSteps}
+
+-- A frame to destination k as it is given to a sender, and with number n in its tag.
+unfoldable pub plain : (k : ℕ) (payload : List ℕ) → List ℕ
+plain k payload = address k ++ (2 ∷ 0 ∷ 0 ∷ 0 ∷ 0 ∷ 9 ∷ 8 ∷ 0 ∷ payload)
+
+unfoldable pub numbered : (k n : ℕ) (payload : List ℕ) → List ℕ
+numbered k n payload = frame k n ++ payload
+
+-- On the table `start` of `demands`, which has destination 1 in slot 0 and destination 3 in slot 3: a frame for slot 0, one that no
+-- stream has the key of, the first again, and a frame for slot 3. Three bytes of the output are left.
+unfoldable pub four : Batch
+four = record {
+  network = 0;
+  count = 4;
+  frames = flatMap preceded (numbered 1 10 (21 ∷ 22 ∷ []) ∷ numbered 7 5 [] ∷ numbered 1 10 (21 ∷ 22 ∷ []) ∷ numbered 3 77 (31 ∷ 32 ∷ 33 ∷ []) ∷ []);
+  out = replicate 40 9;
+}
+
+-- Then a single call for slot 0, which is lent more room than the frame needs.
+unfoldable pub fourAndOne : List Step
+fourAndOne = batch four ∷ single (arriving 1 (numbered 1 11 (23 ∷ [])) (replicate 20 9)) ∷ []
+
+pub record BatchGot : Type 0 where
+  pub answered : batchOf start four .answers
+      ≡ some (answers (arrived 0 10 (handedUp 16)))
+      ∷ some (refused UNKNOWN)
+      ∷ some (answers (arrived 0 10 duplicate))
+      ∷ some (answers (arrived 3 77 (handedUp 17)))
+      ∷ replicate 28 none
+  pub output : batchOf start four .output ≡ preceded (plain 1 (21 ∷ 22 ∷ [])) ++ preceded (plain 3 (31 ∷ 32 ∷ 33 ∷ [])) ++ (9 ∷ 9 ∷ 9 ∷ [])
+  -- Each stream gets its own frames, each once: the frame for slot 3 stands behind the one for slot 0.
+  pub slot-0 : gotSteps theMachine 0 start fourAndOne ≡ plain 1 (21 ∷ 22 ∷ []) ∷ plain 1 (23 ∷ []) ∷ []
+  pub slot-3 : gotSteps theMachine 3 start fourAndOne ≡ plain 3 (31 ∷ 32 ∷ 33 ∷ []) ∷ []
+  -- The calls that these steps are read as give the same.
+  pub calls-0 : got theReceiver 0 start (readAs theMachine start fourAndOne) ≡ plain 1 (21 ∷ 22 ∷ []) ∷ plain 1 (23 ∷ []) ∷ []
+  pub calls-3 : got theReceiver 3 start (readAs theMachine start fourAndOne) ≡ plain 3 (31 ∷ 32 ∷ 33 ∷ []) ∷ []

@@ -1,0 +1,5 @@
+pub mod Bytes
+pub mod Runs
+pub mod Batches
+pub mod BatchRuns
+pub mod Theorems
