@@ -229,7 +229,10 @@ impl Stream {
         // Every verdict counts the arrival ("Decisions").
         let network = usize::from(second_network);
         rise(&mut self.arrivals[rule!(network, NetworkZeroCounts: 0)]);
-        let decision = if self.takes_any() {
+        let any = self.takes_any();
+        let decision = if rule!(false, FreshKnows65535: any && number == self.anchor) {
+            Decision::Duplicate
+        } else if any {
             self.take_any = 0;
             self.anchor = number;
             // A match record keeps its history zero, and n with it.
@@ -264,7 +267,15 @@ impl Stream {
         match decision {
             Decision::HandedUp => {
                 rise(&mut self.passed);
-                self.remaining = rule!(self.reset_time, ResetsEarly: (self.reset_time - 1).max(1));
+                self.remaining = rule!(
+                    self.reset_time,
+                    ResetsEarly: (self.reset_time - 1).max(1),
+                    LateKeepsTicks: if self.anchor == number {
+                        self.reset_time
+                    } else {
+                        self.remaining
+                    }
+                );
             }
             // A discard of either kind leaves the ticks alone. Otherwise a
             // restarted sender never gets through.

@@ -256,6 +256,8 @@ variants! {
     ToPrpRoomFirst, CallsOnly, "to PRP refusal 8 comes first";
     LateFromZero, Files, "a number before the anchor is a duplicate on network 1";
     LastIsRogue, Files, "d = -(L - 1) is a rogue";
+    FreshKnows65535, Files, "a fresh stream finds 65535, the anchor it has, a duplicate";
+    LateKeepsTicks, Files, "a number before the anchor is handed up and renews no ticks";
 }
 
 #[cfg(feature = "wrong")]

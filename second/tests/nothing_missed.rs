@@ -6,11 +6,10 @@
 mod common;
 
 use std::collections::HashSet;
-use std::panic::catch_unwind;
 
 use common::*;
 use second::random::Random;
-use second::wrong::{self, Wrong};
+use second::wrong::Wrong;
 use second::{
     arrival, batch, close, open, reset, tick, Arrival, Refusal, Settings, Stream, Verdict,
 };
@@ -561,16 +560,6 @@ fn a_frame_that_a_batch_does_not_reach_is_a_hole_unless_its_twin_comes() {
             run.arrive(random, 1, index);
         }
         run.nothing_missed();
-    }
-}
-
-/// The test fails with each of these slips.
-fn finds(test: fn(), slips: &[Wrong]) {
-    for &slip in slips {
-        wrong::set(Some(slip));
-        let done = catch_unwind(test);
-        wrong::set(None);
-        assert!(done.is_err(), "{slip:?}");
     }
 }
 

@@ -3,9 +3,11 @@
 #![allow(dead_code)]
 
 use std::collections::HashMap;
+use std::panic::catch_unwind;
 
 use second::history::History;
 use second::random::Random;
+use second::wrong::{self, Wrong};
 use second::{arrival, Arrival, Refusal, Settings, Stream, Verdict};
 
 /// The destination most tests use.
@@ -380,5 +382,15 @@ impl Seen {
             let met = self.0.get(&(call, answer)).copied().unwrap_or(0);
             assert!(met >= 20, "{call} gave {answer} only {met} times");
         }
+    }
+}
+
+/// The test fails with each of these slips.
+pub fn finds(test: fn(), slips: &[Wrong]) {
+    for &slip in slips {
+        wrong::set(Some(slip));
+        let done = catch_unwind(test);
+        wrong::set(None);
+        assert!(done.is_err(), "{slip:?}");
     }
 }
