@@ -3,11 +3,12 @@
 -- formulas. `ByNumber` of `delays` has two more. Assumes nothing.
 use Prim.Native.Nat.{ℕ, zero, suc, _+_, _-_, _*_, _/_, _≤_, _<_}
 use mathlib.Core.Path.{_≡_}
-use mathlib.Core.Bool.{true}
+use mathlib.Core.Bool.{true, false}
 use mathlib.Core.List.{List, [], _∷_, _++_, map, flatMap}
 use lib.ListN.{drop, replicate}
 use Rattle.record.specs.Sizes.{vectorRule}
 use Rattle.record.specs.declared.Stream.{Stream}
+use Rattle.stream.specs.Record.{lawful}
 use Rattle.stream.specs.Decisions.{Verdict, up, duplicate, rogue}
 use Rattle.calls.specs.Table.{Table, at}
 use Rattle.calls.specs.Calls.{Call, opening, closing, resetting}
@@ -20,9 +21,9 @@ use Rattle.demands.specs.Steps.{Step, single, batch, theMachine, logSteps}
 use Rattle.demands.specs.Examples.{address, frame, from}
 use Rattle.demands.specs.Needed.{All, AllBut}
 use Rattle.delays.specs.Formulas.{apartIn, leastWindow, span}
-use Rattle.delays.specs.Line.{Known, J, Sends, Spaced, Event, came, ticked, indices, kept, Keeps, frequent, Loses}
+use Rattle.delays.specs.Line.{Known, most, J, Sends, Spaced, Event, came, ticked, indices, kept, Keeps, frequent, Loses}
 use Rattle.delays.specs.Forgetting.{forgetting}
-use Rattle.delays.specs.OnceEach.{kinds, kindOf, Timed, upAtFirst, windowFor, Judged, Silence}
+use Rattle.delays.specs.OnceEach.{kinds, kindOf, Timed, upAtFirst, windowFor, Judged, copiesBy, Silence}
 use Rattle.delays.specs.ByNumber.{new, calls, timeOf, Lawful, Gives, line, traffic, b, L, R, busy, caught, inTraffic}
 
 -- ---- the numbers come round
@@ -67,6 +68,22 @@ pub record RoundSharp : Type 0 where
   pub less : around 2 9 ≤ 65536 - slowWindow 2
   pub right-less : Out 2 9 (up ∷ up ∷ up ∷ [])
   pub judged-less : Judged (slowWindow 2) 9 (up ∷ up ∷ up ∷ []) (outage 2)
+
+-- ---- ticks that stay away
+
+-- The tenth tick is one later than it may be, and just before it comes an index that is one further than the last of `outage 1`.
+unfoldable pub tardy : List Event
+tardy = ticked 1 ∷ came 0 1 ∷ beats 9 1 6553 ++ (came 65532 65532 ∷ ticked 65532 ∷ came 65536 65536 ∷ [])
+
+-- What `NoneForAnother` asks for but for `frequent`: 65532 is taken for a late one, and 65536 for the duplicate of 0.
+pub record TicksNeeded : Type 0 where
+  pub keeps : Keeps (slow 1) 0 tardy
+  pub broken : frequent (slow 1 .tauMost) (slow 1 .tauMost) tardy ≡ false
+  pub long : timeOf (slow 1) ≤ 10
+  pub sends : Sends (slow 1) (span 10 (slow 1 .tauMost) (J (slow 1))) (around 1 10)
+  pub near : around 1 10 ≤ 65536 - slowWindow 1
+  pub gives : Gives (slow 1) tardy (new (slowWindow 1) 10) (up ∷ up ∷ duplicate ∷ [])
+  pub wanted : forgetting (slowWindow 1) 10 0 [] tardy ≡ up ∷ rogue ∷ up ∷ []
 
 -- ---- more than m lost in a row
 
@@ -167,6 +184,44 @@ pub record Restart : Type 0 where
   -- Silent for as long: 0 comes just before that tick, and is taken for the old one. A command is lost.
   pub as-long : line .sent 2 + pause ≡ again pause .sent 0
   pub wrong : Restarts pause 19 old (ticked 19 ∷ came 1 21 ∷ []) (duplicate ∷ up ∷ [])
+
+-- ---- a sender that restarts, looked at too late
+
+-- The same old count, up to its last copy.
+unfoldable pub older : List Event
+older = ticked 7 ∷ came 0 7 ∷ ticked 9 ∷ came 1 9 ∷ ticked 11 ∷ came 2 11 ∷ []
+
+-- The next tick comes at 14, one later than it may, and two more.
+unfoldable pub since : List Event
+since = beats 3 12 2
+
+-- Silent for longer than R tau + J: the new count begins when it does in `right` of `Restart`.
+abbrev pub renewed : Known
+renewed = again (pause + 1)
+
+unfoldable pub anew : List Event
+anew = came 0 20 ∷ ticked 20 ∷ came 1 22 ∷ []
+
+abbrev pub afterOlder : Table
+afterOlder = run theReceiver (new L R) (calls line older)
+
+abbrev pub afterSince : Table
+afterSince = run theReceiver afterOlder (calls line since)
+
+-- What `OnceEachRestarted` asks for but for `begun` of `Silence`: the run is looked at from 12 on, one too late, and so the tick that is
+-- late is not seen to be. 0 comes just before the fourth tick, and is taken for the old one. A command is lost.
+pub record BegunNeeded : Type 0 where
+  pub vector : at afterOlder 0 .rule ≡ vectorRule
+  pub lawful : lawful (at afterOlder 0) ≡ true
+  pub order : kinds (log theReceiver 0 afterOlder (calls line since)) ≡ map kindOf since
+  pub broken : 12 ≡ line .sent 2 + most renewed + 1
+  pub over : copiesBy 12 (line .sent 2 + most renewed) since ≡ true
+  pub ticks : frequent (renewed .tauMost) (12 + renewed .tauMost) (since ++ came 0 20 ∷ []) ≡ true
+  pub longer : line .sent 2 + pause < renewed .sent 0
+  pub timed : Timed (log theReceiver) afterSince 0 (calls renewed anew) anew
+  pub kept : Lawful renewed b [] anew
+  pub given : verdicts (log theReceiver 0 afterSince (calls renewed anew)) ≡ duplicate ∷ up ∷ []
+  pub wanted : upAtFirst (indices anew) ≡ up ∷ up ∷ []
 
 -- ---- after an outage
 

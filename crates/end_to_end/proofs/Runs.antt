@@ -3,6 +3,7 @@ use Prim.Native.Nat.{ℕ, zero, suc, _-_}
 use mathlib.Core.Path.{_≡_, refl, sym, ap, _∙_}
 use native.Mathlib.Omega.{arith}
 use mathlib.Core.Logic.{inl, inr}
+use mathlib.Core.Bool.{false≢true}
 use mathlib.Core.List.{List, [], _∷_, _++_}
 use lib.Dec.{lit≤}
 use lib.ListN.{getD, replicate}
@@ -16,7 +17,7 @@ use Rattle.both_sides.specs.Copies.{framesHeard, CopyOf, CopiesOf}
 use Rattle.delays.specs.Line.{least, most, J, Sends, indices, kept, frequent, end}
 use Rattle.delays.specs.OnceEach.{kinds, copiesBy}
 use Rattle.end_to_end.specs.Bytes.{givenOf, givenAt, gotOf, got, onceEach}
-use Rattle.end_to_end.specs.Runs.{message, onWay, into, comes, new, line, apart, L, R, near, sevenSent, theyCome, itSees, places, BothMeet, lineFrom, oldRun, RestartMeets, NewCount, cameBefore, restComes, restSeen, restPlaces, TrafficMeets, Heard, NotSent, BetweenNeeded}
+use Rattle.end_to_end.specs.Runs.{message, onWay, into, comes, new, line, apart, L, R, near, sevenSent, theyCome, itSees, places, BothMeet, lineFrom, oldRun, RestartMeets, NewCount, cameBefore, restComes, restSeen, restPlaces, TrafficMeets, Heard, NotSent, BetweenNeeded, other, marked, HeardNeeded}
 use Rattle.delays.proofs.Losing.{oneOf, bridged, awaited, loses-by}
 
 -- One name for all that they compute with.
@@ -24,7 +25,7 @@ unfoldable pub computing : Unit {0}
 unfolding receiving sending overlay numberFor nth framesHeard CopiesOf least most J indices kept frequent end kinds copiesBy givenOf givenAt gotOf got onceEach message onWay into comes new line near sevenSent theyCome itSees places lineFrom oldRun cameBefore restComes restSeen restPlaces oneOf bridged awaited
 computing = tt
 
-spaced : Sends line (J line) apart
+pub spaced : Sends line (J line) apart
 unfolding line J least most
 spaced = record { rises = λ x. omega arith; within = λ x n e. omega arith }
 
@@ -174,4 +175,27 @@ between-needed = record {
   stranger-first = refl;
   changed = (changed, refl);
   lowest = (refl, refl, refl);
+}
+
+-- ---- copies that are not heard
+
+pub heard-needed : HeardNeeded
+unfolding computing other marked
+heard-needed = record {
+  vlan = (
+    record { whole = record { sixteen = lit≤ tt; whole = refl }; copy = (_, refl, inl refl); lawful = refl; said = refl; unheard = refl },
+    record { slots = lit≤ tt; network = lit≤ tt; room = lit≤ tt },
+    λ o. false≢true (o .some),
+  );
+  destination = (
+    record { whole = record { sixteen = lit≤ tt; whole = refl }; copy = (_, refl, inl refl); lawful = refl; said = refl; unheard = refl },
+    record { slots = lit≤ tt; network = lit≤ tt; room = lit≤ tt },
+    λ o. (let e = o .lowest in omega (arith, e)),
+  );
+  enough = (record { slots = lit≤ tt; network = lit≤ tt; room = lit≤ tt }, refl);
+  room = (
+    record { whole = record { sixteen = lit≤ tt; whole = refl }; copy = (_, refl, inl refl); lawful = refl; said = refl; unheard = refl },
+    record { some = refl; lowest = refl },
+    λ c. (let e = c .room in omega (arith, e)),
+  );
 }

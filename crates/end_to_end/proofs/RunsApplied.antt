@@ -6,14 +6,20 @@ use lib.Dec.{lit≤}
 use lib.ListN.{replicate}
 use Rattle.demands.specs.Receiver.{Receiver, MeetsContract, theReceiver}
 use Rattle.demands.specs.Examples.{frame}
+use Rattle.demands.specs.Steps.{Machine, MeetsAll, theMachine}
 use Rattle.demands.proofs.Alike.{carried, the-receiver-meets}
+use Rattle.demands.proofs.Stepping as stepping
+use Rattle.demands.proofs.Stepping.{the-machine-meets}
 use Rattle.sender.specs.Sender.{atFirst}
 use Rattle.sender.specs.Runs.{Side, MeetsSide, theSide}
 use Rattle.sender.proofs.Numbers.{the-side-meets}
 use Rattle.delays.specs.Line.{least, most, J, came, ticked}
 use Rattle.end_to_end.specs.Runs.{into, comes, new, line, apart, L, R, near, sevenSent, theyCome, itSees, places, lineFrom, oldRun, cameBefore, restComes, restSeen, restPlaces, inTraffic, other, otherSent, EndApplied}
+use Rattle.end_to_end.specs.Batches.{BytesToBytesSteps}
+use Rattle.end_to_end.specs.BatchRuns.{stepsCome, stepsSeen, stepPlaces, StepsApplied}
 use Rattle.end_to_end.specs.Theorems.{EndToEnd}
 use Rattle.end_to_end.proofs.Runs.{computing, both-meet, restart-meets, traffic-meets}
+use Rattle.end_to_end.proofs.BatchRuns.{steps-meet}
 
 -- A sending side that meets order 6 is the definitions' side.
 same-side : {side : Side} → MeetsSide side → side ≡ theSide
@@ -41,3 +47,16 @@ pub applied : ((receive : Receiver) → MeetsContract receive → (side : Side) 
 applied both receive k side m =
     let d = of-the-two (both theReceiver the-receiver-meets theSide the-side-meets) in
     subst (EndApplied receive) (sym (same-side m)) (carried (λ (r : Receiver). EndApplied r theSide) d k)
+
+-- With a batch the same.
+of-the-machine : BytesToBytesSteps theMachine theSide → StepsApplied theMachine theSide
+unfolding theMachine
+of-the-machine p = record {
+  in-batch = p line apart [] [] stepsSeen near sevenSent (new L R) 0 stepsCome stepPlaces (steps-meet .fresh) (steps-meet .between);
+}
+
+pub applied-steps : ((m : Machine) → MeetsAll m → (side : Side) → MeetsSide side → BytesToBytesSteps m side)
+    → (m : Machine) → MeetsAll m → (side : Side) → MeetsSide side → StepsApplied m side
+applied-steps steps m k side s =
+    let d = of-the-machine (steps theMachine the-machine-meets theSide the-side-meets) in
+    subst (StepsApplied m) (sym (same-side s)) (stepping.carried (λ (r : Machine). StepsApplied r theSide) d k)

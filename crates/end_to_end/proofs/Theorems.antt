@@ -1,16 +1,18 @@
 -- The list of theorems. Assumes nothing.
 use Rattle.demands.specs.Receiver.{Receiver, MeetsContract}
+use Rattle.demands.specs.Steps.{Machine, MeetsAll}
 use Rattle.sender.specs.Runs.{Side, MeetsSide}
 use Rattle.delays.proofs.Theorems as delays
 use Rattle.end_to_end.specs.Bytes.{BytesToBytes}
+use Rattle.end_to_end.specs.Batches.{BytesToBytesSteps}
 use Rattle.end_to_end.specs.Theorems.{EndToEnd, Theorems}
 -- (The runs first: modules are checked in the order in which they are named, and so a wrong definition is refused at what a run computes.)
-use Rattle.end_to_end.proofs.Runs.{both-meet, restart-meets, traffic-meets, between-needed}
+use Rattle.end_to_end.proofs.Runs.{both-meet, restart-meets, traffic-meets, between-needed, heard-needed}
 use Rattle.end_to_end.proofs.Bytes.{bytes-to-bytes, bytes-to-bytes-restarted}
 use Rattle.end_to_end.proofs.Batches.{got-as-calls, bytes-to-bytes-steps, bytes-to-bytes-restarted-steps}
-use Rattle.end_to_end.proofs.BatchRuns.{batch-got}
+use Rattle.end_to_end.proofs.BatchRuns.{batch-got, steps-meet}
 use Rattle.end_to_end.proofs.Heard.{copies-are-heard}
-use Rattle.end_to_end.proofs.RunsApplied.{applied}
+use Rattle.end_to_end.proofs.RunsApplied.{applied, applied-steps}
 
 of-calls : {receive : Receiver} → MeetsContract receive → {side : Side} → MeetsSide side → BytesToBytes receive side
 of-calls {receive} k m = bytes-to-bytes k (delays.theorems .delays receive k .once-each) m
@@ -22,6 +24,9 @@ of-both receive k side m = record {
   copies-are-heard = copies-are-heard k m;
 }
 
+of-steps : (m : Machine) → MeetsAll m → (side : Side) → MeetsSide side → BytesToBytesSteps m side
+of-steps m k side s = bytes-to-bytes-steps m k side (of-calls (k .receive) s)
+
 pub theorems : Theorems
 theorems = record {
   both = of-both;
@@ -29,9 +34,12 @@ theorems = record {
   restart-meets = restart-meets;
   traffic-meets = traffic-meets;
   between-needed = between-needed;
+  heard-needed = heard-needed;
   end-applied = applied of-both;
   got-as-calls = got-as-calls;
-  steps = λ m k side s. bytes-to-bytes-steps m k side (of-calls (k .receive) s);
+  steps = of-steps;
   steps-restarted = λ m k side s. bytes-to-bytes-restarted-steps m k side (of-calls (k .receive) s);
   batch-got = batch-got;
+  steps-meet = steps-meet;
+  steps-applied = applied-steps of-steps;
 }

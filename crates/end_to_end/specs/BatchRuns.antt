@@ -1,5 +1,5 @@
 -- Against vacuity: what the application gets from a batch for two streams and a call behind it, of the machine that the definitions
--- give. Assumes nothing.
+-- give; and the statement with batches applied to a run. Assumes nothing.
 use Prim.Native.Nat.{ℕ}
 use mathlib.Core.Path.{_≡_}
 use mathlib.Core.Option.{none, some}
@@ -7,13 +7,18 @@ use mathlib.Core.List.{List, [], _∷_, _++_, flatMap}
 use lib.ListN.{replicate}
 use Rattle.refusal.specs.Checks.Said.{refused, answers}
 use Rattle.refusal.specs.Numbers.{UNKNOWN}
-use Rattle.calls.specs.Calls.{arriving, arrived, handedUp, duplicate}
+use Rattle.calls.specs.Table.{at}
+use Rattle.calls.specs.Calls.{arriving, ticking, arrived, handedUp, duplicate}
 use Rattle.batch.specs.Batch.{Batch, batchOf}
 use Rattle.batch.specs.Laws.{preceded}
 use Rattle.demands.specs.Receiver.{theReceiver}
-use Rattle.demands.specs.Steps.{Step, single, batch, theMachine, readAs}
+use Rattle.demands.specs.Missed.{FreshVector}
+use Rattle.demands.specs.Steps.{Step, single, batch, Machine, theMachine, readAs}
 use Rattle.demands.specs.Examples.{address, frame, start}
-use Rattle.end_to_end.specs.Bytes.{got}
+use Rattle.sender.specs.Runs.{Side, theSide, sent}
+use Rattle.delays.specs.Line.{Event}
+use Rattle.end_to_end.specs.Bytes.{got, givenAt, onceEach, Between}
+use Rattle.end_to_end.specs.Runs.{message, onWay, comes, new, line, apart, L, R, near, sevenSent, copy, beat}
 use Rattle.end_to_end.specs.Batches.{gotSteps}
 
 -- A frame to destination k as it is given to a sender, and with number n in its tag.
@@ -51,3 +56,35 @@ pub record BatchGot : Type 0 where
   -- The calls that these steps are read as give the same.
   pub calls-0 : got theReceiver 0 start (readAs theMachine start fourAndOne) ≡ plain 1 (21 ∷ 22 ∷ []) ∷ plain 1 (23 ∷ []) ∷ []
   pub calls-3 : got theReceiver 3 start (readAs theMachine start fourAndOne) ≡ plain 3 (31 ∷ 32 ∷ 33 ∷ []) ∷ []
+
+-- ---- from bytes to bytes
+
+-- On the line of `BothMeet`, and of its sends: 0 comes on network 0. Then 1 and 2 come in one batch on network 1, and 1 once more, with
+-- just enough room for it; then 3, which has the number 0, on network 0.
+unfoldable pub threeAtOnce : Batch
+threeAtOnce = record {
+  network = 1;
+  count = 3;
+  frames = flatMap preceded (onWay 1 65534 ∷ onWay 2 65535 ∷ onWay 1 65534 ∷ []);
+  out = replicate 52 0;
+}
+
+unfoldable pub stepsCome : List Step
+stepsCome =
+    single (comes 0 0 65533) ∷ single ticking ∷ single ticking ∷ single ticking ∷ batch threeAtOnce ∷ single ticking ∷ single (comes 0 3 0) ∷ []
+
+unfoldable pub stepsSeen : List Event
+stepsSeen = copy 0 2 ∷ beat 2 ∷ beat 4 ∷ beat 6 ∷ copy 1 8 ∷ copy 2 8 ∷ copy 1 8 ∷ beat 8 ∷ copy 3 9 ∷ []
+
+unfoldable pub stepPlaces : List ℕ
+stepPlaces = 0 ∷ 1 ∷ 2 ∷ 1 ∷ 3 ∷ []
+
+pub record StepsMeet : Type 0 where
+  pub fresh : FreshVector (at (new L R) 0)
+  pub between : Between theReceiver theSide line apart [] [] stepsSeen near sevenSent (new L R) 0 (readAs theMachine (new L R) stepsCome) stepPlaces
+  pub got : gotSteps theMachine 0 (new L R) stepsCome ≡ message 0 ∷ message 1 ∷ message 2 ∷ message 3 ∷ []
+  pub promised : givenAt (sent theSide near sevenSent) (onceEach [] stepPlaces) ≡ message 0 ∷ message 1 ∷ message 2 ∷ message 3 ∷ []
+
+-- `BytesToBytesSteps` applied to it, of every machine and every sending side that meet the contracts.
+pub record StepsApplied (m : Machine) (side : Side) : Type 0 where
+  pub in-batch : gotSteps m 0 (new L R) stepsCome ≡ givenAt (sent side near sevenSent) (onceEach [] stepPlaces)

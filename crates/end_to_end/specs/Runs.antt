@@ -2,13 +2,17 @@
 -- that the definitions give. Assumes nothing.
 use Prim.Native.Nat.{ℕ, _+_, _-_, _*_, _/_, _%_, _<_}
 use mathlib.Core.Path.{_≡_}
+use mathlib.Core.Bool.{true}
 use mathlib.Core.List.{List, [], _∷_, _++_, map}
 use lib.ListN.{replicate}
+use Rattle.refusal.specs.Checks.{Said}
+use Rattle.refusal.specs.Checks.Said.{refused, answers}
+use Rattle.refusal.specs.Numbers.{UNKNOWN, ROOM}
 use Rattle.record.specs.Sizes.{vectorRule}
-use Rattle.frame.specs.Frame.{destOf}
-use Rattle.stream.specs.Record.{opened}
+use Rattle.frame.specs.Frame.{destOf, tagged}
+use Rattle.stream.specs.Record.{lawful, opened}
 use Rattle.calls.specs.Table.{Table, at}
-use Rattle.calls.specs.Calls.{Call, arriving, ticking}
+use Rattle.calls.specs.Calls.{Call, arriving, ticking, Answer, arrived, handedUp}
 use Rattle.demands.specs.Receiver.{Receiver, theReceiver, run}
 use Rattle.demands.specs.Seen.{seen, log, numbers}
 use Rattle.demands.specs.Missed.{FreshVector, turnedAway}
@@ -16,12 +20,12 @@ use Rattle.demands.specs.Examples.{address, frame}
 use Rattle.sender.specs.declared.Sender.{Sender}
 use Rattle.sender.specs.Sender.{atFirst}
 use Rattle.sender.specs.Runs as sends
-use Rattle.sender.specs.Runs.{Side, theSide, sent, sending}
-use Rattle.both_sides.specs.Copies.{FromSender, framesHeard, CopiesOf}
+use Rattle.sender.specs.Runs.{Side, theSide, sent, sending, WithoutReset}
+use Rattle.both_sides.specs.Copies.{FromSender, framesHeard, CopyOf, CopiesOf}
 use Rattle.delays.specs.Formulas.{apartIn, leastWindow, trafficWindow, leastTime, span}
 use Rattle.delays.specs.Line.{Known, J, Event, came, ticked}
 use Rattle.delays.specs.OnceEach.{kinds, kindOf, Silence}
-use Rattle.end_to_end.specs.Bytes.{got, givenAt, onceEach, Between}
+use Rattle.end_to_end.specs.Bytes.{got, givenAt, onceEach, Between, Ours, Called}
 
 -- ---- frames and calls
 
@@ -240,3 +244,33 @@ pub record BetweenNeeded : Type 0 where
       × (got theReceiver 0 (new L R) (arriving 0 (onWay 0 0 ++ 255 ∷ []) (replicate 24 0) ∷ []) ≡ (message 0 ++ 255 ∷ []) ∷ [])
   -- a copy reaches the lowest slot with its key: not one behind it, and none of another key
   pub lowest : (reaches 0 (new L R) (comes 0 1 5) ≡ 5 ∷ []) × (reaches 1 (new L R ++ new L R) (comes 0 1 5) ≡ []) × (reaches 2 (new L R ++ new L R) (comes 0 1 5) ≡ [])
+
+-- ---- copies that are not heard
+
+-- A frame to the stream's destination with another VLAN id.
+unfoldable pub marked : List ℕ
+marked = address 1 ++ (2 ∷ 0 ∷ 0 ∷ 0 ∷ 0 ∷ 9 ∷ 0x81 ∷ 0 ∷ 0 ∷ 5 ∷ 8 ∷ 0 ∷ [])
+
+-- A sender at first sends one frame, and its copy comes on network 0, with so much room.
+abbrev pub oneSent : (given : List ℕ) → List sends.Call
+oneSent given = sending given (replicate 32 0) (replicate 32 0) ∷ []
+
+abbrev pub copyComes : (given : List ℕ) (room : ℕ) → Call
+copyComes given room = arriving 0 (tagged given 0) (replicate room 0)
+
+-- What `CopiesAreHeard` asks for but for `Ours` and `Called`; what is answered; and the stream hears nothing.
+pub record Unheard (given : List ℕ) (room : ℕ) (answer : Said Answer) : Type 0 where
+  pub whole : WithoutReset atFirst (oneSent given)
+  pub copy : CopyOf (sent theSide atFirst (oneSent given)) 0 (tagged given 0)
+  pub lawful : lawful (at (new L R) 0) ≡ true
+  pub said : theReceiver (new L R) (copyComes given room) .said ≡ answer
+  pub unheard : numbers (log theReceiver 0 (new L R) (copyComes given room ∷ [])) ≡ []
+
+pub record HeardNeeded : Type 0 where
+  -- a frame with another VLAN id: no stream has its key
+  pub vlan : Unheard marked 32 (refused UNKNOWN) × Called (new L R) 0 marked (replicate 32 0) × (Ours (new L R) 0 marked → ⊥)
+  -- a frame to another destination: the other stream hears it
+  pub destination : Unheard other 32 (answers (arrived 1 0 (handedUp 14))) × Called (new L R) 0 other (replicate 32 0) × (Ours (new L R) 0 other → ⊥)
+  -- just enough room, and one byte less
+  pub enough : Called (new L R) 0 (message 0) (replicate 14 0) × (numbers (log theReceiver 0 (new L R) (copyComes (message 0) 14 ∷ [])) ≡ 0 ∷ [])
+  pub room : Unheard (message 0) 13 (refused ROOM) × Ours (new L R) 0 (message 0) × (Called (new L R) 0 (message 0) (replicate 13 0) → ⊥)

@@ -3,9 +3,9 @@ use Rattle.demands.specs.Receiver.{Receiver, MeetsContract}
 use Rattle.demands.specs.Steps.{Machine, MeetsAll}
 use Rattle.sender.specs.Runs.{Side, MeetsSide}
 use Rattle.end_to_end.specs.Bytes.{BytesToBytes, BytesToBytesRestarted, CopiesAreHeard}
-use Rattle.end_to_end.specs.Runs.{BothMeet, RestartMeets, TrafficMeets, EndApplied, BetweenNeeded}
+use Rattle.end_to_end.specs.Runs.{BothMeet, RestartMeets, TrafficMeets, EndApplied, BetweenNeeded, HeardNeeded}
 use Rattle.end_to_end.specs.Batches.{GotAsCalls, BytesToBytesSteps, BytesToBytesRestartedSteps}
-use Rattle.end_to_end.specs.BatchRuns.{BatchGot}
+use Rattle.end_to_end.specs.BatchRuns.{BatchGot, StepsMeet, StepsApplied}
 
 -- Of every receiver that meets the contract and every sending side that meets order 6.
 pub record EndToEnd (receive : Receiver) (side : Side) : Type 0 where
@@ -20,6 +20,7 @@ pub record Theorems : Type 0 where
   pub restart-meets : RestartMeets
   pub traffic-meets : TrafficMeets
   pub between-needed : BetweenNeeded
+  pub heard-needed : HeardNeeded
   -- What the first two statements give of these runs.
   pub end-applied : (receive : Receiver) → MeetsContract receive → (side : Side) → MeetsSide side → EndApplied receive side
   -- The same of a receiver with the batch beside it.
@@ -28,3 +29,6 @@ pub record Theorems : Type 0 where
   pub steps-restarted : (m : Machine) → MeetsAll m → (side : Side) → MeetsSide side → BytesToBytesRestartedSteps m side
   -- A batch for two streams.
   pub batch-got : BatchGot
+  -- A run with a batch meets the premises; and what the statement gives of it.
+  pub steps-meet : StepsMeet
+  pub steps-applied : (m : Machine) → MeetsAll m → (side : Side) → MeetsSide side → StepsApplied m side
