@@ -1,4 +1,4 @@
--- The runs of `specs/DelaysRuns` that break a premise compute. Assumes nothing.
+-- The runs of `specs/DelaysNeeded` compute. Assumes nothing.
 use Prim.Native.Nat.{ℕ}
 use mathlib.Core.Path.{_≡_, refl}
 use mathlib.Core.Bool.{true, false≢true}
@@ -12,7 +12,8 @@ use Rattle.delays.specs.Line.{came, ticked, J, Sends, Loses}
 use Rattle.delays.specs.OnceEach.{Kind, copy, close}
 use Rattle.delays.specs.ByNumber.{new, line, b}
 use Rattle.delays.proofs.Losing.{loses-by}
-use Rattle.delays_runs.specs.DelaysRuns.{DelaysNeeded, twice, sooner, hole, pair, level, falling, fallen}
+use Rattle.delays_runs.specs.DelaysRuns.{hole, level, again}
+use Rattle.delays_runs.specs.DelaysNeeded.{DelaysNeeded, TicksNeeded, BegunNeeded, anew, twice, sooner, pair, falling, fallen}
 use Rattle.delays_runs.proofs.Hole.{not-losing}
 use Rattle.delays_runs.proofs.Computing.{running}
 
@@ -119,4 +120,36 @@ delays-needed = record {
     given = refl;
     wanted = refl;
   };
+}
+
+pub ticks-needed : TicksNeeded
+unfolding running
+ticks-needed = record {
+  keeps = record { some = lit≤ tt; kept = refl };
+  broken = refl;
+  long = lit≤ tt;
+  sends = record { rises = λ x. omega arith; within = λ x n p. omega (arith, p) };
+  near = lit≤ tt;
+  gives = record { fresh = record { vector = refl; lawful = refl; any = refl }; timed = record { order = refl; numbered = refl }; given = refl };
+  wanted = refl;
+}
+
+pub begun-needed : BegunNeeded
+unfolding running
+begun-needed = record {
+  vector = refl;
+  lawful = refl;
+  order = refl;
+  broken = refl;
+  over = refl;
+  ticks = refl;
+  longer = omega arith;
+  timed = record { order = refl; numbered = refl };
+  kept = record {
+    sends = record { rises = λ x. omega arith; within = λ x n p. omega (arith, p) };
+    keeps = record { some = lit≤ tt; kept = refl };
+    loses = loses-by (again 14) [] anew refl refl;
+  };
+  given = refl;
+  wanted = refl;
 }

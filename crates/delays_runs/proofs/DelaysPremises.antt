@@ -4,7 +4,7 @@ use Rattle.demands.specs.Steps.{theMachine}
 use Rattle.demands.proofs.Alike.{the-receiver-meets}
 use Rattle.demands.proofs.Stepping.{the-machine-meets}
 use Rattle.delays.proofs.Theorems.{theorems}
-use Rattle.delays_runs.specs.DelaysRuns.{DelaysPremisesAre}
+use Rattle.delays_runs.specs.DelaysNeeded.{DelaysPremisesAre}
 
 pub delays-premises-are : DelaysPremisesAre
 delays-premises-are = record {

@@ -8,7 +8,7 @@ use Rattle.stream.specs.Decisions.{Verdict}
 use Rattle.delays.specs.Line.{came, ticked}
 use Rattle.delays.specs.ByNumber.{new, Gives, line, busy, caught}
 use Rattle.delays.proofs.Losing.{loses-by}
-use Rattle.delays_runs.specs.DelaysRuns.{again, anew, hole, burst, bursts, lull, back, wide, far, volleys, hush, volleyWindow, Hushed, RoundSharp, TicksNeeded, HoleSeen, Bursts, BurstsRound, Restart, BegunNeeded, AfterOutage, Wide, InBatches}
+use Rattle.delays_runs.specs.DelaysRuns.{again, hole, burst, bursts, lull, back, wide, far, volleys, hush, volleyWindow, Hushed, RoundSharp, HoleSeen, Bursts, BurstsRound, Restart, AfterOutage, Wide, InBatches}
 use Rattle.delays_runs.proofs.Hole.{not-losing}
 use Rattle.delays_runs.proofs.Computing.{running, stepping}
 
@@ -41,18 +41,6 @@ round-sharp = record {
     sends = record { rises = λ x. omega arith; within = λ x n p. omega (arith, p) };
     gives = record { fresh = record { vector = refl; lawful = refl; any = refl }; timed = record { order = refl; numbered = refl }; given = refl };
   };
-  wanted = refl;
-}
-
-pub ticks-needed : TicksNeeded
-unfolding running
-ticks-needed = record {
-  keeps = record { some = lit≤ tt; kept = refl };
-  broken = refl;
-  long = lit≤ tt;
-  sends = record { rises = λ x. omega arith; within = λ x n p. omega (arith, p) };
-  near = lit≤ tt;
-  gives = record { fresh = record { vector = refl; lawful = refl; any = refl }; timed = record { order = refl; numbered = refl }; given = refl };
   wanted = refl;
 }
 
@@ -127,26 +115,6 @@ restart = record {
     };
     given = refl;
   };
-}
-
-pub begun-needed : BegunNeeded
-unfolding running
-begun-needed = record {
-  vector = refl;
-  lawful = refl;
-  order = refl;
-  broken = refl;
-  over = refl;
-  ticks = refl;
-  longer = omega arith;
-  timed = record { order = refl; numbered = refl };
-  kept = record {
-    sends = record { rises = λ x. omega arith; within = λ x n p. omega (arith, p) };
-    keeps = record { some = lit≤ tt; kept = refl };
-    loses = loses-by (again 14) [] anew refl refl;
-  };
-  given = refl;
-  wanted = refl;
 }
 
 pub after-outage : AfterOutage

@@ -1,29 +1,24 @@
--- Against premises that cannot be met or are there for nothing, and against formulas that are too small: runs with numbers of what
--- `delays` says, of the receiver that the definitions give. L, R and the silence of a sender that restarts are written by their
--- formulas. `ByNumber` of `delays` has two more. Assumes nothing.
+-- Against premises that cannot be met, and against formulas that are too small: runs with numbers of what `delays` says, of the
+-- receiver that the definitions give. L, R and the silence of a sender that restarts are written by their formulas. `ByNumber` of
+-- `delays` has two more. Assumes nothing.
 use Prim.Native.Nat.{ℕ, zero, suc, _+_, _-_, _*_, _/_, _≤_, _<_}
 use mathlib.Core.Path.{_≡_}
-use mathlib.Core.Bool.{true, false}
+use mathlib.Core.Bool.{true}
 use mathlib.Core.List.{List, [], _∷_, _++_, map, flatMap}
 use lib.ListN.{drop, replicate}
-use Rattle.record.specs.Sizes.{vectorRule}
-use Rattle.record.specs.declared.Stream.{Stream}
 use Rattle.stream.specs.Record.{lawful}
 use Rattle.stream.specs.Decisions.{Verdict, up, duplicate, rogue}
 use Rattle.calls.specs.Table.{Table, at}
-use Rattle.calls.specs.Calls.{Call, opening, closing, resetting}
 use Rattle.batch.specs.Laws.{preceded}
 use Rattle.demands.specs.Receiver.{theReceiver, run}
-use Rattle.demands.specs.Seen.{Seen, log, numbers, verdicts}
-use Rattle.demands.specs.Demand3.{numberOf}
+use Rattle.demands.specs.Seen.{log, verdicts}
 use Rattle.demands.specs.Missed.{FreshVector}
 use Rattle.demands.specs.Steps.{Step, single, batch, theMachine, logSteps}
-use Rattle.demands.specs.Examples.{address, frame, from}
-use Rattle.demands.specs.Needed.{All, AllBut}
+use Rattle.demands.specs.Examples.{frame}
 use Rattle.delays.specs.Formulas.{apartIn, leastWindow, span}
-use Rattle.delays.specs.Line.{Known, most, J, Sends, Spaced, Event, came, ticked, indices, kept, Keeps, frequent, Loses}
+use Rattle.delays.specs.Line.{Known, J, Sends, Spaced, Event, came, ticked, indices, Keeps, frequent, Loses}
 use Rattle.delays.specs.Forgetting.{forgetting}
-use Rattle.delays.specs.OnceEach.{kinds, kindOf, Timed, upAtFirst, windowFor, Judged, copiesBy, Silence}
+use Rattle.delays.specs.OnceEach.{Timed, upAtFirst, Judged, Silence}
 use Rattle.delays.specs.ByNumber.{new, calls, timeOf, Lawful, Gives, line, traffic, b, L, R, busy, caught, inTraffic}
 
 -- ---- the numbers come round
@@ -68,22 +63,6 @@ pub record RoundSharp : Type 0 where
   pub less : around 2 9 ≤ 65536 - slowWindow 2
   pub right-less : Out 2 9 (up ∷ up ∷ up ∷ [])
   pub judged-less : Judged (slowWindow 2) 9 (up ∷ up ∷ up ∷ []) (outage 2)
-
--- ---- ticks that stay away
-
--- The tenth tick is one later than it may be, and just before it comes an index that is one further than the last of `outage 1`.
-unfoldable pub tardy : List Event
-tardy = ticked 1 ∷ came 0 1 ∷ beats 9 1 6553 ++ (came 65532 65532 ∷ ticked 65532 ∷ came 65536 65536 ∷ [])
-
--- What `NoneForAnother` asks for but for `frequent`: 65532 is taken for a late one, and 65536 for the duplicate of 0.
-pub record TicksNeeded : Type 0 where
-  pub keeps : Keeps (slow 1) 0 tardy
-  pub broken : frequent (slow 1 .tauMost) (slow 1 .tauMost) tardy ≡ false
-  pub long : timeOf (slow 1) ≤ 10
-  pub sends : Sends (slow 1) (span 10 (slow 1 .tauMost) (J (slow 1))) (around 1 10)
-  pub near : around 1 10 ≤ 65536 - slowWindow 1
-  pub gives : Gives (slow 1) tardy (new (slowWindow 1) 10) (up ∷ up ∷ duplicate ∷ [])
-  pub wanted : forgetting (slowWindow 1) 10 0 [] tardy ≡ up ∷ rogue ∷ up ∷ []
 
 -- ---- more than m lost in a row
 
@@ -185,44 +164,6 @@ pub record Restart : Type 0 where
   pub as-long : line .sent 2 + pause ≡ again pause .sent 0
   pub wrong : Restarts pause 19 old (ticked 19 ∷ came 1 21 ∷ []) (duplicate ∷ up ∷ [])
 
--- ---- a sender that restarts, looked at too late
-
--- The same old count, up to its last copy.
-unfoldable pub older : List Event
-older = ticked 7 ∷ came 0 7 ∷ ticked 9 ∷ came 1 9 ∷ ticked 11 ∷ came 2 11 ∷ []
-
--- The next tick comes at 14, one later than it may, and two more.
-unfoldable pub since : List Event
-since = beats 3 12 2
-
--- Silent for longer than R tau + J: the new count begins when it does in `right` of `Restart`.
-abbrev pub renewed : Known
-renewed = again (pause + 1)
-
-unfoldable pub anew : List Event
-anew = came 0 20 ∷ ticked 20 ∷ came 1 22 ∷ []
-
-abbrev pub afterOlder : Table
-afterOlder = run theReceiver (new L R) (calls line older)
-
-abbrev pub afterSince : Table
-afterSince = run theReceiver afterOlder (calls line since)
-
--- What `OnceEachRestarted` asks for but for `begun` of `Silence`: the run is looked at from 12 on, one too late, and so the tick that is
--- late is not seen to be. 0 comes just before the fourth tick, and is taken for the old one. A command is lost.
-pub record BegunNeeded : Type 0 where
-  pub vector : at afterOlder 0 .rule ≡ vectorRule
-  pub lawful : lawful (at afterOlder 0) ≡ true
-  pub order : kinds (log theReceiver 0 afterOlder (calls line since)) ≡ map kindOf since
-  pub broken : 12 ≡ line .sent 2 + most renewed + 1
-  pub over : copiesBy 12 (line .sent 2 + most renewed) since ≡ true
-  pub ticks : frequent (renewed .tauMost) (12 + renewed .tauMost) (since ++ came 0 20 ∷ []) ≡ true
-  pub longer : line .sent 2 + pause < renewed .sent 0
-  pub timed : Timed (log theReceiver) afterSince 0 (calls renewed anew) anew
-  pub kept : Lawful renewed b [] anew
-  pub given : verdicts (log theReceiver 0 afterSince (calls renewed anew)) ≡ duplicate ∷ up ∷ []
-  pub wanted : upAtFirst (indices anew) ≡ up ∷ up ∷ []
-
 -- ---- after an outage
 
 -- On the line of `TrafficSharp` 1 to 8 are lost. 9 and 11 are rogues; the fourth tick since 0 came resets the stream, between 11 and 10.
@@ -278,83 +219,3 @@ pub record InBatches : Type 0 where
   pub fresh : FreshVector (at (new L R) 0)
   pub timed : Timed (logSteps theMachine) (new L R) 0 steps traffic
   pub given : verdicts (logSteps theMachine 0 (new L R) steps) ≡ upAtFirst (indices traffic)
-
--- ---- the premises one by one
-
--- What `OnceEach` asks for, of a record and of what its stream sees: 0 fresh, 1 order, 2 numbered, 3 sends, 4 some, 5 kept, 6 loses,
--- 7 window, 8 time. (`Sharp` has runs that break 7 and 8.)
-abbrev pub asked : (k : Known) (b : ℕ) (still : List ℕ) (before es : List Event) → Stream → List Seen → List (Type 0)
-asked k b still before es s seen =
-    FreshVector s
-    ∷ (kinds seen ≡ map kindOf es)
-    ∷ (numbers seen ≡ map numberOf (indices es))
-    ∷ Sends k (J k) b
-    ∷ (1 ≤ k .tau)
-    ∷ (kept k 0 0 (before ++ es) ≡ true)
-    ∷ Loses k still (before ++ es)
-    ∷ (windowFor before b (k .m) ≤ s .window)
-    ∷ (timeOf k ≤ s .time)
-    ∷ []
-
--- It asks for no more, in any slot, by single calls and with batches.
-pub record DelaysPremisesAre : Type 0 where
-  pub calls : (k : Known) (b : ℕ) (still : List ℕ) (before es : List Event) (t : Table) (i : ℕ) (calls : List Call)
-      → All (asked k b still before es (at t i) (log theReceiver i t calls)) → verdicts (log theReceiver i t calls) ≡ upAtFirst (indices es)
-  pub steps : (k : Known) (b : ℕ) (still : List ℕ) (before es : List Event) (t : Table) (i : ℕ) (steps : List Step)
-      → All (asked k b still before es (at t i) (logSteps theMachine i t steps))
-      → verdicts (logSteps theMachine i t steps) ≡ upAtFirst (indices es)
-
--- A run that breaks one alone, its verdicts and those that it should have.
-pub record Breaks (place : ℕ) (k : Known) (b : ℕ) (es : List Event) (t : Table) (calls : List Call) (vs ws : List Verdict) : Type 0 where
-  pub broken : AllBut place (asked k b [] [] es (at t 0) (log theReceiver 0 t calls))
-  pub given : verdicts (log theReceiver 0 t calls) ≡ vs
-  pub wanted : upAtFirst (indices es) ≡ ws
-
--- with L and R by the formulas, and the calls of these events
-abbrev pub Fails : (place : ℕ) (k : Known) (b : ℕ) (es : List Event) (vs ws : List Verdict) → Type 0
-Fails place k b es = Breaks place k b es (new (leastWindow b (k .m)) (timeOf k)) (calls k es)
-
--- On the line of `Sharp`: 0, four ticks, the last of which at c, and 0 again at a;
-unfoldable pub twice : (c a : ℕ) → List Event
-twice c a = came 0 2 ∷ ticked 2 ∷ ticked 4 ∷ ticked 6 ∷ ticked c ∷ came 0 a ∷ []
-
--- 3 is lost, and 7 comes one sooner than it may, in the instant of 4;
-unfoldable pub sooner : List Event
-sooner = came 2 6 ∷ came 7 15 ∷ came 4 15 ∷ came 6 16 ∷ came 5 17 ∷ []
-
--- 0, and then x.
-unfoldable pub pair : (x : ℕ) → List Event
-pair x = came 0 2 ∷ came x 4 ∷ []
-
--- A sender that sends 1 and 2 at 0, then 0 at 100, and 3, 4 and 5 at 101.
-unfoldable pub falling : Known
-falling = level (λ x. 100 * (1 - x) + 101 * (x / 3)) 1 0
-
-unfoldable pub fallen : List Event
-fallen = came 1 0 ∷ came 2 0 ∷ ticked 1 ∷ ticked 2 ∷ came 0 100 ∷ came 5 101 ∷ came 3 101 ∷ came 4 101 ∷ []
-
-pub record DelaysNeeded : Type 0 where
-  -- a copy one later than it may come, and one sooner;
-  pub late : Fails 5 line b (twice 8 8) (up ∷ up ∷ []) (up ∷ duplicate ∷ [])
-  pub sooner : Fails 5 line b sooner (up ∷ rogue ∷ up ∷ up ∷ up ∷ []) (up ∷ up ∷ up ∷ up ∷ up ∷ [])
-  -- a call out of the order of its time;
-  pub disordered : Fails 5 line b (twice 8 7) (up ∷ up ∷ []) (up ∷ duplicate ∷ [])
-  -- a tick one too soon, and tau = 0;
-  pub ticks : Fails 5 line b (twice 7 7) (up ∷ up ∷ []) (up ∷ duplicate ∷ [])
-  pub no-tau : Fails 4 (level (λ x. x) 0 0) 0 (came 0 0 ∷ ticked 0 ∷ ticked 0 ∷ came 0 0 ∷ []) (up ∷ up ∷ []) (up ∷ duplicate ∷ [])
-  -- m + 1 lost in a row;
-  pub lost : Fails 6 line b hole (up ∷ rogue ∷ up ∷ up ∷ []) (up ∷ up ∷ up ∷ duplicate ∷ [])
-  -- T = 0, where the rest of `Spaced` is met, and a lower index that is sent later, where the rest of `Sends` is met;
-  pub not-apart : (x : ℕ) → level (λ x. 0) 1 0 .sent x + 0 ≤ level (λ x. 0) 1 0 .sent (suc x)
-  pub no-T : Fails 3 (level (λ x. 0) 1 0) (apartIn 0 0) (came 0 0 ∷ came 2 0 ∷ came 1 0 ∷ []) (up ∷ rogue ∷ up ∷ []) (up ∷ up ∷ up ∷ [])
-  pub within : (x n : ℕ) → falling .sent (x + n) ≤ falling .sent x + J falling → n ≤ 2
-  pub falls : Fails 3 falling 2 fallen (up ∷ up ∷ up ∷ rogue ∷ up ∷ up ∷ []) (up ∷ up ∷ up ∷ up ∷ up ∷ up ∷ [])
-  -- index 1 with the number 0;
-  pub number : Breaks 2 line b (pair 1) (new L R) (calls line (pair 0)) (up ∷ duplicate ∷ []) (up ∷ up ∷ [])
-  -- a reset by call, and a close with an open behind it;
-  pub reset : Breaks 1 line b (pair 0) (new L R) (from 0 1 0 ∷ resetting 0 ∷ from 1 1 0 ∷ []) (up ∷ up ∷ []) (up ∷ duplicate ∷ [])
-  pub reopened : Breaks 1 line b (pair 0) (new L R) (from 0 1 0 ∷ closing 0 ∷ opening (address 1) 0 vectorRule L R ∷ from 1 1 0 ∷ []) (up ∷ up ∷ [])
-      (up ∷ duplicate ∷ [])
-  -- a stream that has handed up an index.
-  pub begun : Breaks 0 line b (came 0 4 ∷ []) (run theReceiver (new L R) (calls line (came 0 2 ∷ []))) (calls line (came 0 4 ∷ []))
-      (duplicate ∷ []) (up ∷ [])

@@ -1,3 +1,4 @@
 pub mod DelaysRuns
+pub mod DelaysNeeded
 pub mod Choices
 pub mod Applied
