@@ -12,7 +12,7 @@ use borrow.Author.Tests.{eq-eqb, le-ltb, lt-leb}
 use Rattle.refusal.specs.Checks.{Said}
 use Rattle.refusal.specs.Checks.Said.{refused, answers}
 use Rattle.record.specs.Sizes.{slotsMost}
-use Rattle.frame.specs.Frame.{destOf, vlanOf, typeAt, groupSource, readOf, untagged, tagBytes, tagAt, tagged}
+use Rattle.frame.specs.Frame.{destOf, vlanOf, typeAt, isTagged, groupSource, readOf, untagged, tagBytes, tagAt, tagged}
 use Rattle.frame.proofs.Heads.{type-least}
 use Rattle.frame.proofs.Words.{same-source}
 use Rattle.frame.proofs.Writes.{tag-length, wrote-is}
@@ -35,28 +35,28 @@ use Rattle.sender.proofs.Numbers.{sent-from}
 use Rattle.end_to_end.specs.Bytes.{Ours, Called, CopiesAreHeard}
 use Rattle.end_to_end.proofs.Ours.{lives-on, Held, found-there, held-on}
 
--- ---- a sent frame has an individual source
+-- ---- what was sent, the writer had accepted
 
--- A frame with a source that is no group, and with a type field.
-record Individual (f : List ℕ) : Type 0 where
-  room : typeAt f + 2 ≤ length f
-  source : groupSource f ≡ false
+-- A frame with a type field, no tag and a source that is no group.
+pub record Accepted (f : List ℕ) : Type 0 where
+  pub room : typeAt f + 2 ≤ length f
+  pub plain : isTagged f ≡ false
+  pub source : groupSource f ≡ false
 
--- so it is with a tag
-tagged-too : (f : List ℕ) (n : ℕ) → Individual f → groupSource (tagged f n) ≡ false
+-- its source is no group's with a tag either
+tagged-too : (f : List ℕ) (n : ℕ) → Accepted f → groupSource (tagged f n) ≡ false
 unfolding tagAt
 tagged-too f n d =
     let o : ℕ = typeAt f in
     ap groupSource (append-assoc (take o f) (tagBytes n) (drop o f)) ∙ same-source o f _ (type-least f .0) (omega arith) ∙ d .source
 
--- What was sent was given to the writer, who refuses a group source.
-individual : (side : Side) → MeetsSide side → (s : Sender) (calls : List sends.Call) (k : ℕ) (p : Pair)
-    → nth (sent side s calls) k ≡ some p → Individual (p .given)
+pub accepted : (side : Side) → MeetsSide side → (s : Sender) (calls : List sends.Call) (k : ℕ) (p : Pair)
+    → nth (sent side s calls) k ≡ some p → Accepted (p .given)
 unfolding sent pairOf nth
-individual side m s [] k p e = absurd (let z : _≡_ {A = ℕ} 0 1 = cc in omega arith)
-individual side m s (resetting ∷ cs) k p e = individual side m (side .reset s) cs k p e
-individual side m s (sending f out0 out1 ∷ cs) k p e =
-    go (side .send s f out0 out1 .said) refl k e (λ j q. individual side m (side .send s f out0 out1 .sender) cs j p q)
+accepted side m s [] k p e = absurd (let z : _≡_ {A = ℕ} 0 1 = cc in omega arith)
+accepted side m s (resetting ∷ cs) k p e = accepted side m (side .reset s) cs k p e
+accepted side m s (sending f out0 out1 ∷ cs) k p e =
+    go (side .send s f out0 out1 .said) refl k e (λ j q. accepted side m (side .send s f out0 out1 .sender) cs j p q)
   where
     rest : List Pair
     rest = sent side (side .send s f out0 out1 .sender) cs
@@ -64,17 +64,22 @@ individual side m s (sending f out0 out1 ∷ cs) k p e =
     first : Numbered → Pair
     first a = record { given = f; copy0 = take (a .length) (side .send s f out0 out1 .out0); copy1 = take (a .length) (side .send s f out0 out1 .out1) }
 
-    here : (a : Numbered) → side .send s f out0 out1 .said ≡ answers a → Individual f
+    here : (a : Numbered) → side .send s f out0 out1 .said ≡ answers a → Accepted f
     here a q =
         let w = wrote-is f (s .next) (send-done-is s f out0 out1 a (ap (λ x. x .said) (sym (m .send s f out0 out1)) ∙ q) .wrote) in
-        record { room = w .room; source = w .remains }
+        record { room = w .room; plain = w .plain; source = w .remains }
 
     go : (x : Said Numbered) → side .send s f out0 out1 .said ≡ x → (k : ℕ)
         → nth (pairOf f (side .send s f out0 out1) x ++ rest) k ≡ some p
-        → ((j : ℕ) → nth rest j ≡ some p → Individual (p .given)) → Individual (p .given)
+        → ((j : ℕ) → nth rest j ≡ some p → Accepted (p .given)) → Accepted (p .given)
     go (refused n) q k e later = later k e
     go (answers a) q zero e later = let z : first a ≡ p = cc in rw (ap (λ (x : Pair). x .given) z) at (here a q)
     go (answers a) q (suc k) e later = later k e
+
+-- Both copies are the given frame with its tag.
+pub same-copy : {p : Pair} {n : ℕ} {f : List ℕ} → Carries p n → (f ≡ p .copy0) ⊎ (f ≡ p .copy1) → f ≡ tagged (p .given) n
+same-copy y (inl q) = q ∙ y .copy0
+same-copy y (inr q) = q ∙ y .copy1
 
 -- ---- it is heard
 
@@ -93,13 +98,13 @@ module _ (given : List ℕ) (n : ℕ) (t : Table) (i network : ℕ) (out : List 
   call = arriving network frame out
 
   -- The tag is six bytes, and these are not written to the output.
-  room-for : Individual given → length given ≤ length out → ltb (length out) (length frame - 6) ≡ false
+  room-for : Accepted given → length given ≤ length out → ltb (length out) (length frame - 6) ≡ false
   room-for d h =
       let l = tag-length given (typeAt given) n (omega (arith, d .room)) in
       le-ltb (length out) (length frame - 6) (omega (arith, l, h))
 
   -- It reaches the stream,
-  reaches : Individual given → ReadAs given n → Held (destOf given) (vlanOf given) t i → Called t network given out
+  reaches : Accepted given → ReadAs given n → Held (destOf given) (vlanOf given) t i → Called t network given out
       → act t call ≡ arrive i n network (untagged frame)
   unfolding act checked arrival arrivalAt
   reaches d r h c =
@@ -129,15 +134,11 @@ heard-so : {side : Side} → MeetsSide side → CopiesAreHeard theReceiver side
 heard-so {side} m s sendings k p t i calls es network f out w e c o l alive called =
     let n : ℕ = numberOf (s .next + k) in
     let y : Carries p n = sent-from side m s sendings k p w e in
-    let z : f ≡ tagged (p .given) n = same y c in
+    let z : f ≡ tagged (p .given) n = same-copy y c in
     let h = held-on (destOf (p .given)) (vlanOf (p .given)) t i calls (held-at-first (p .given) t i o l)
     (lives-on (log theReceiver i t calls) es alive) in
     let u : Table = run theReceiver t calls in
-    rw z (hears (p .given) n u i network out (reaches (p .given) n u i network out (individual side m s sendings k p e) (y .read) h called))
-  where
-    same : {n : ℕ} → Carries p n → (f ≡ p .copy0) ⊎ (f ≡ p .copy1) → f ≡ tagged (p .given) n
-    same y (inl q) = q ∙ y .copy0
-    same y (inr q) = q ∙ y .copy1
+    rw z (hears (p .given) n u i network out (reaches (p .given) n u i network out (accepted side m s sendings k p e) (y .read) h called))
 
 pub copies-are-heard : {receive : Receiver} → MeetsContract receive → {side : Side} → MeetsSide side → CopiesAreHeard receive side
 copies-are-heard r {side} m = carried (λ receive. CopiesAreHeard receive side) (heard-so m) r

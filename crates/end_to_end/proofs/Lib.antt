@@ -9,3 +9,4 @@ mod Ours
 mod Heard
 mod Runs
 mod RunsApplied
+mod PrpLines

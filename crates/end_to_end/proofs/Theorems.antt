@@ -13,6 +13,7 @@ use Rattle.end_to_end.proofs.Batches.{got-as-calls, bytes-to-bytes-step
 use Rattle.end_to_end.proofs.BatchRuns.{batch-got, steps-meet}
 use Rattle.end_to_end.proofs.Heard.{copies-are-heard}
 use Rattle.end_to_end.proofs.RunsApplied.{applied, applied-steps}
+use Rattle.end_to_end.proofs.PrpLines.{sent-over-prp, sent-over-prp-calls, prp-run}
 
 of-calls : {receive : Receiver} → MeetsContract receive → {side : Side} → MeetsSide side → BytesToBytes receive side
 of-calls {receive} k m = bytes-to-bytes k (delays.theorems .delays receive k .once-each) m
@@ -42,4 +43,7 @@ theorems = record {
   batch-got = batch-got;
   steps-meet = steps-meet;
   steps-applied = applied-steps of-steps;
+  sent-over-prp = sent-over-prp;
+  sent-over-prp-calls = sent-over-prp-calls;
+  prp-run = prp-run;
 }

@@ -6,6 +6,7 @@ use Rattle.end_to_end.specs.Bytes.{BytesToBytes, BytesToBytesRestarted, 
 use Rattle.end_to_end.specs.Runs.{BothMeet, RestartMeets, TrafficMeets, EndApplied, BetweenNeeded, HeardNeeded}
 use Rattle.end_to_end.specs.Batches.{GotAsCalls, BytesToBytesSteps, BytesToBytesRestartedSteps}
 use Rattle.end_to_end.specs.BatchRuns.{BatchGot, StepsMeet, StepsApplied}
+use Rattle.end_to_end.specs.PrpLines.{SentOverPrp, SentOverPrpCalls, PrpRun}
 
 -- Of every receiver that meets the contract and every sending side that meets order 6.
 pub record EndToEnd (receive : Receiver) (side : Side) : Type 0 where
@@ -32,3 +33,7 @@ pub record Theorems : Type 0 where
   -- A run with a batch meets the premises; and what the statement gives of it.
   pub steps-meet : StepsMeet
   pub steps-applied : (m : Machine) → MeetsAll m → (side : Side) → MeetsSide side → StepsApplied m side
+  -- Over a PRP line copies come as they were sent.
+  pub sent-over-prp : (side : Side) → MeetsSide side → SentOverPrp side
+  pub sent-over-prp-calls : (side : Side) → MeetsSide side → SentOverPrpCalls side
+  pub prp-run : PrpRun
