@@ -10,13 +10,13 @@ use Rattle.demands.proofs.Computing.{computing}
 use Rattle.delays.proofs.Losing.{loses-by}
 use Rattle.end_to_end.specs.Bytes.{gotOf, got}
 use Rattle.end_to_end.specs.Runs.{line}
-use Rattle.end_to_end.specs.Batches.{takes, gotIn, gotFrom, gotSteps}
+use Rattle.end_to_end.specs.Batches.{takes, lengthsStand, gotIn, gotFrom, gotSteps}
 use Rattle.end_to_end.specs.BatchRuns.{plain, numbered, four, fourAndOne, BatchGot, threeAtOnce, stepsCome, stepsSeen, stepPlaces, StepsMeet}
 use Rattle.end_to_end.proofs.Runs.{computing as running, spaced}
 
 pub batch-got : BatchGot
-unfolding computing flatMap overlay runsPast framesIn addsFor ends turnsIn comesTo reached tableAfter packed before answersOf bundle batchOf theMachine tableOf callsOf readAs gotOf got takes gotIn gotFrom gotSteps plain numbered four fourAndOne
-batch-got = record { answered = refl; output = refl; slot-0 = refl; slot-3 = refl; calls-0 = refl; calls-3 = refl }
+unfolding computing flatMap overlay runsPast framesIn addsFor ends turnsIn comesTo reached tableAfter packed before answersOf bundle batchOf theMachine tableOf callsOf readAs gotOf got takes lengthsStand gotIn gotFrom gotSteps plain numbered four fourAndOne
+batch-got = record { answered = refl; output = refl; lengths = refl; first-wrong = refl; second-wrong = refl; slot-0 = refl; slot-3 = refl; calls-0 = refl; calls-3 = refl }
 
 -- ---- from bytes to bytes
 

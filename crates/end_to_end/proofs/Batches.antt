@@ -28,7 +28,7 @@ use Rattle.end_to_end.specs.Batches.{takes, gotIn, gotFrom, gotSteps, Go
 -- ---- one answer
 
 -- A frame that is handed up stands whole in the output: as many bytes as are told.
-abbrev Whole : Said Answer → List ℕ → Type 0
+abbrev pub Whole : Said Answer → List ℕ → Type 0
 Whole (refused n) out = Unit {0}
 Whole (answers (arrived j n (handedUp l))) out = l ≤ length out
 Whole (answers (arrived j n duplicate)) out = Unit {0}
@@ -53,7 +53,7 @@ whole-act t out (closes i) = tt
 whole-act t out (resets i) = tt
 whole-act t out ticks = tt
 
-whole : {receive : Receiver} → MeetsContract receive → (t : Table) (c : Call) → Whole (receive t c .said) (receive t c .output)
+pub whole : {receive : Receiver} → MeetsContract receive → (t : Table) (c : Call) → Whole (receive t c .said) (receive t c .output)
 whole k t c = rw (k t c .said, k t c .output) (whole-act t (outOf c) (act t c))
 
 -- Behind its two length bytes stands what the single call hands up,
@@ -69,7 +69,7 @@ same-bytes i (answers done) bytes rest w = refl
 same-bytes i (answers (swept streams records)) bytes rest w = refl
 
 -- and behind that the rest.
-goes-on : (s : Said Answer) (bytes rest : List ℕ) → Whole s bytes → drop (takes s) (addsFor s bytes ++ rest) ≡ rest
+pub goes-on : (s : Said Answer) (bytes rest : List ℕ) → Whole s bytes → drop (takes s) (addsFor s bytes ++ rest) ≡ rest
 unfolding takes addsFor
 goes-on (refused n) bytes rest w = refl
 goes-on (answers (arrived j n (handedUp l))) bytes rest w =
@@ -88,7 +88,7 @@ marks i zero out = refl
 marks i (suc k) out = marks i k out
 
 -- the answers of results, with marks behind them
-abbrev told : List Result → ℕ → List (Option (Said Answer))
+abbrev pub told : List Result → ℕ → List (Option (Said Answer))
 told rs k = map (λ (r : Result). some (r .said)) rs ++ replicate k none
 
 module _ {receive : Receiver} (c : MeetsContract receive) (i : ℕ) where

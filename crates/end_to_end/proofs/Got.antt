@@ -1,28 +1,24 @@
 -- What the application gets: of the frames that the stream heard, those that it handed up, without their tags. Assumes nothing.
-use Prim.Native.Nat.{ℕ, _-_}
+use Prim.Native.Nat.{ℕ}
 use mathlib.Core.Path.{_≡_, refl, ap, ap₂, _∙_}
-use mathlib.Core.Bool.{Bool, true, false, not}
+use mathlib.Core.Bool.{Bool, true, false}
 use mathlib.Core.List.{List, [], _∷_, _++_}
-use lib.Dec.{eqb, leb, ltb}
+use lib.Dec.{eqb}
 use lib.ListN.{length}
-use Rattle.refusal.specs.Checks.{Said}
-use Rattle.refusal.specs.Checks.Said.{refused, answers}
-use Rattle.refusal.specs.Numbers.{TABLE, NETWORK, UNKNOWN, DAMAGED, ROOM, SETTING, TAKEN, FULL, SLOT}
-use Rattle.record.specs.declared.Stream.{Stream}
+use Rattle.refusal.specs.Checks.Said.{answers}
 use Rattle.record.specs.Words.{if_then_else_}
-use Rattle.record.specs.Sizes.{slotsMost}
-use Rattle.frame.specs.Frame.{Tag, destOf, readOf, untagged}
+use Rattle.frame.specs.Frame.{untagged}
 use Rattle.frame.proofs.Bytes.{overlay-front}
-use Rattle.stream.specs.Record.{settled, lawful, opened}
 use Rattle.stream.specs.Decisions.{Verdict, up, duplicate, rogue, isUp, verdict}
-use Rattle.calls.specs.Table.{Table, at, search, someSlot, hasKey, isFree}
-use Rattle.calls.specs.Calls.{Call, arriving, opening, closing, resetting, ticking, Act, refuse, arrive, admitted, arrivalAt, arrival, inUse, open-call, checked, act, after, answer, verdictWith, writtenFor, outOf, output, Result}
+use Rattle.calls.specs.Table.{Table, at}
+use Rattle.calls.specs.Calls.{Call, arriving, Act, arrive, after, answer, verdictWith, writtenFor, outOf, output, Result}
 use Rattle.calls.specs.Calls as calls
 use Rattle.demands.specs.Receiver.{Receiver, MeetsContract, theReceiver}
 use Rattle.demands.specs.Seen.{Seen, arrived, tick, ended, nothing, told, answered, seenOf, seen, log, verdicts}
 use Rattle.demands.proofs.Alike.{carried}
 use Rattle.both_sides.specs.Copies.{frameOf, isArrival, framesHeard}
 use Rattle.end_to_end.specs.Bytes.{gotOf, got}
+use Rattle.end_to_end.proofs.Cases.{Each, act-case}
 
 -- Of the frames heard, those whose verdict is up, without their tags.
 unfoldable pub picked : List Verdict → List (List ℕ) → List (List ℕ)
@@ -47,14 +43,6 @@ module _ (i : ℕ) (t : Table) where
   record Gives (c : Call) (a : Act) : Type 0 where
     fact : gotOf i (answer t a) (output t (outOf c) a) ≡ bares (seen i t c (leaves t c a)) (frameOf c)
 
-  branch : {c : Call} (b : Bool) {x y : Act} → Gives c x → Gives c y → Gives c (if b then x else y)
-  branch true p q = p
-  branch false p q = q
-
-  refuses : {c : Call} (n : ℕ) → Gives c (refuse n)
-  unfolding answer output gotOf seenOf
-  refuses n = record { fact = refl }
-
   -- As many bytes as the answer tells are the frame without its tag.
   arrives : (network : ℕ) (f out : List ℕ) (j n w : ℕ) → Gives (arriving network f out) (arrive j n w (untagged f))
   unfolding answer output gotOf seenOf answered
@@ -70,37 +58,21 @@ module _ (i : ℕ) (t : Table) where
       go rogue true e = rw e
       go rogue false e = rw e
 
-  arrival-gives : (network : ℕ) (f out : List ℕ) (r : Said Tag) → Gives (arriving network f out) (arrival t network f out r)
-  unfolding arrival arrivalAt
-  arrival-gives network f out (refused n) = refuses n
-  arrival-gives network f out (answers g) =
-      let j : ℕ = search (hasKey (g .header .dest) (g .header .vlan)) t in
-      branch (leb (length t) j) (refuses UNKNOWN)
-      (branch (not (lawful (at t j))) (refuses DAMAGED)
-      (branch (ltb (length out) (length f - 6)) (refuses ROOM) (arrives network f out j (g .number) network)))
-
   -- A close or a reset gives nothing, whichever slot it is for.
   silent : (b : Bool) → _≡_ {A = List (List ℕ)} [] (bares (if b then ended else nothing) [])
   silent true = refl
   silent false = refl
 
-  checked-gives : (c : Call) → Gives c (checked t c)
-  unfolding checked open-call answer output gotOf seenOf answered
-  checked-gives (arriving network f out) = branch (ltb 1 network) (refuses NETWORK) (arrival-gives network f out (admitted f (readOf f)))
-  checked-gives (opening dest vlan rule window time) =
-      let s : Stream = opened (destOf dest) vlan rule window time in
-      branch (not (settled s)) (refuses SETTING)
-      (branch (someSlot (hasKey (s .dest) (s .vlan)) t) (refuses TAKEN)
-      (branch (not (someSlot isFree t)) (refuses FULL) (record { fact = refl })))
-  checked-gives (closing j) = branch (inUse t j) (record { fact = silent (eqb j i) }) (refuses SLOT)
-  checked-gives (resetting j) =
-      branch (not (inUse t j)) (refuses SLOT)
-      (branch (not (settled (at t j))) (refuses DAMAGED) (record { fact = silent (eqb j i) }))
-  checked-gives ticking = record { fact = refl }
-
-  act-gives : (c : Call) → Gives c (act t c)
-  unfolding act
-  act-gives c = branch (ltb slotsMost (length t)) (refuses TABLE) (checked-gives c)
+  each : Each t Gives
+  unfolding answer output gotOf seenOf answered
+  each = record {
+    refuses = λ c n. record { fact = refl };
+    arrives = λ network f out g j e. arrives network f out j (g .number) network;
+    opens = λ dest vlan rule window time j e. record { fact = refl };
+    closes = λ j. record { fact = silent (eqb j i) };
+    resets = λ j. record { fact = silent (eqb j i) };
+    ticks = record { fact = refl };
+  }
 
 -- ---- a run
 
@@ -123,7 +95,7 @@ unfolding got log framesHeard verdicts picked theReceiver
 of-run i t [] = refl
 of-run i t (c ∷ cs) =
     let u : Table = theReceiver t c .table in
-    ap₂ (λ (a b : List (List ℕ)). a ++ b) (act-gives i t c .fact) (of-run i u cs)
+    ap₂ (λ (a b : List (List ℕ)). a ++ b) (act-case t (each i t) c .fact) (of-run i u cs)
     ∙ joined (seen i t c (theReceiver t c)) (log theReceiver i u cs) (frameOf c) (framesHeard theReceiver i u cs)
 
 pub got-are-picked : {receive : Receiver} → MeetsContract receive → GotArePicked receive

@@ -4,6 +4,8 @@ pub mod BatchRuns
 -- What they rest on.
 mod Bytes
 mod Batches
+mod Lengths
+mod Cases
 mod Got
 mod Ours
 mod Heard

@@ -1,27 +1,23 @@
 -- Through a run in which a stream is neither closed nor reset by call its record stays lawful, and its slot the lowest with its key.
 -- Assumes nothing.
-use Prim.Native.Nat.{ℕ, zero, suc, _-_, _<_}
+use Prim.Native.Nat.{ℕ, zero, suc, _<_}
 use mathlib.Core.Path.{_≡_, refl, sym, ap, ap₂, _∙_}
-use mathlib.Core.Bool.{Bool, true, false, not, false≢true}
+use mathlib.Core.Bool.{Bool, true, false, false≢true}
 use mathlib.Core.List.{List, [], _∷_, map, cons≢nil, tail-eq-of-cons-eq}
 use native.Mathlib.Omega.{arith}
-use lib.Dec.{eqb, leb, ltb}
+use lib.Dec.{eqb}
 use lib.ListN.{length, set}
 use borrow.Author.Tests.{eqb-true, lt-ltb}
-use Rattle.refusal.specs.Checks.{Said}
-use Rattle.refusal.specs.Checks.Said.{refused, answers}
-use Rattle.refusal.specs.Numbers.{TABLE, NETWORK, UNKNOWN, DAMAGED, ROOM, SETTING, TAKEN, FULL, SLOT}
 use Rattle.record.specs.declared.Stream.{Stream}
-use Rattle.record.specs.Words.{if_then_else_, yes}
-use Rattle.record.specs.Sizes.{slotsMost}
-use Rattle.frame.specs.Frame.{Tag, destOf, readOf}
-use Rattle.stream.specs.Record.{settled, lawful, opened, closed}
+use Rattle.record.specs.Words.{yes}
+use Rattle.frame.specs.Frame.{destOf}
+use Rattle.stream.specs.Record.{lawful, opened, closed}
 use Rattle.stream.specs.Decisions.{decided, reset, expires, ticked}
 use Rattle.stream.proofs.Logic.{tests}
 use Rattle.stream.proofs.Law.{law}
 use Rattle.stream.proofs.Keeps.{decided-lawful, ticked-lawful}
-use Rattle.calls.specs.Table.{Table, at, search, someSlot, hasKey, isFree}
-use Rattle.calls.specs.Calls.{Call, arriving, opening, closing, resetting, ticking, Act, refuse, arrive, opens, closes, resets, ticks, admitted, arrivalAt, arrival, inUse, open-call, checked, act, after}
+use Rattle.calls.specs.Table.{Table, at, search, someSlot, hasKey}
+use Rattle.calls.specs.Calls.{Call, Act, refuse, arrive, opens, closes, resets, ticks, act, after}
 use Rattle.calls.proofs.Kept.{length-kept, other}
 use Rattle.calls.proofs.Sound.{at-ticked}
 use Rattle.demands.specs.Receiver.{theReceiver, run}
@@ -30,6 +26,7 @@ use Rattle.demands.proofs.Moves.{Moves}
 use Rattle.demands.proofs.Slot.{at-set, act-sound}
 use Rattle.delays.specs.Line.{Event, came, ticked as beat}
 use Rattle.delays.specs.OnceEach.{kinds, kindOf}
+use Rattle.end_to_end.proofs.Cases.{Each, act-case}
 
 -- ---- neither closed nor reset by call
 
@@ -116,23 +113,7 @@ module _ (dest vlan : ℕ) where
   record Barred (a : Act) : Type 0 where
     fact : Bars a
 
-  branch : (b : Bool) {x y : Act} → (b ≡ true → Barred x) → (b ≡ false → Barred y) → Barred (if b then x else y)
-  branch true f g = f refl
-  branch false f g = g refl
-
-  no : (n : ℕ) → Barred (refuse n)
-  no n = record { fact = tt }
-
   module _ (t : Table) where
-    arrival-barred : (network : ℕ) (f out : List ℕ) (r : Said Tag) → Barred (arrival t network f out r)
-    unfolding arrival arrivalAt
-    arrival-barred network f out (refused n) = no n
-    arrival-barred network f out (answers g) =
-        let j : ℕ = search (hasKey (g .header .dest) (g .header .vlan)) t in
-        branch (leb (length t) j) (λ _. no UNKNOWN) (λ _.
-        branch (not (lawful (at t j))) (λ _. no DAMAGED) (λ _.
-        branch (ltb (length out) (length f - 6)) (λ _. no ROOM) (λ _. record { fact = tt })))
-
     module _ (taken : someSlot key t ≡ true) where
       -- A record with the key is of an open with the key: that is refused, as the key is taken.
       other-key : (s : Stream) → someSlot (hasKey (s .dest) (s .vlan)) t ≡ false → key s ≡ false
@@ -145,23 +126,15 @@ module _ (dest vlan : ℕ) where
               absurd (false≢true (sym e ∙ ap₂ (λ (d v : ℕ). someSlot (hasKey d v) t) (p .0 .1) (p .1) ∙ taken))
           go false k = k
 
-      checked-barred : (c : Call) → Barred (checked t c)
-      unfolding checked open-call
-      checked-barred (arriving network f out) = branch (ltb 1 network) (λ _. no NETWORK) (λ _. arrival-barred network f out (admitted f (readOf f)))
-      checked-barred (opening d v rule window time) =
-          let s : Stream = opened (destOf d) v rule window time in
-          branch (not (settled s)) (λ _. no SETTING) (λ _.
-          branch (someSlot (hasKey (s .dest) (s .vlan)) t) (λ _. no TAKEN) (λ e.
-          branch (not (someSlot isFree t)) (λ _. no FULL) (λ _. record { fact = other-key s e })))
-      checked-barred (closing j) = branch (inUse t j) (λ _. record { fact = tt }) (λ _. no SLOT)
-      checked-barred (resetting j) =
-          branch (not (inUse t j)) (λ _. no SLOT) (λ _.
-          branch (not (settled (at t j))) (λ _. no DAMAGED) (λ _. record { fact = tt }))
-      checked-barred ticking = record { fact = tt }
-
-      act-barred : (c : Call) → Barred (act t c)
-      unfolding act
-      act-barred c = branch (ltb slotsMost (length t)) (λ _. no TABLE) (λ _. checked-barred c)
+      each : Each t (λ c a. Barred a)
+      each = record {
+        refuses = λ c n. record { fact = tt };
+        arrives = λ network f out g i e. record { fact = tt };
+        opens = λ d v rule window time i e. record { fact = other-key (opened (destOf d) v rule window time) e };
+        closes = λ i. record { fact = tt };
+        resets = λ i. record { fact = tt };
+        ticks = record { fact = tt };
+      }
 
     -- So a slot that has not the key has it not after the call.
     module _ (k : ℕ) (l : k < length t) (e : key (at t k) ≡ false) where
@@ -205,7 +178,7 @@ module _ (dest vlan : ℕ) where
         within = rw (length-kept t c) w;
         lawful = s .lawful;
         has = s .has;
-        below = λ k l. still-without t k (omega arith) (h .below k l) (act t c) (act-barred t (is-some h) c);
+        below = λ k l. still-without t k (omega arith) (h .below k l) (act t c) (act-case t (each t (is-some h)) c);
       }
 
   pub held-on : (t : Table) (i : ℕ) (cs : List Call) → Held t i → every lives (log theReceiver i t cs) ≡ true → Held (run theReceiver t cs) i

@@ -10,6 +10,7 @@ use Rattle.end_to_end.specs.Theorems.{EndToEnd, Theorems}
 use Rattle.end_to_end.proofs.Runs.{both-meet, restart-meets, traffic-meets, between-needed, heard-needed}
 use Rattle.end_to_end.proofs.Bytes.{bytes-to-bytes, bytes-to-bytes-restarted}
 use Rattle.end_to_end.proofs.Batches.{got-as-calls, bytes-to-bytes-steps, bytes-to-bytes-restarted-steps}
+use Rattle.end_to_end.proofs.Lengths.{lengths-stand}
 use Rattle.end_to_end.proofs.BatchRuns.{batch-got, steps-meet}
 use Rattle.end_to_end.proofs.Heard.{copies-are-heard}
 use Rattle.end_to_end.proofs.RunsApplied.{applied, applied-steps}
@@ -38,6 +39,7 @@ theorems = record {
   heard-needed = heard-needed;
   end-applied = applied of-both;
   got-as-calls = got-as-calls;
+  lengths-stand = lengths-stand;
   steps = of-steps;
   steps-restarted = λ m k side s. bytes-to-bytes-restarted-steps m k side (of-calls (k .receive) s);
   batch-got = batch-got;

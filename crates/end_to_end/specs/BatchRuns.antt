@@ -2,9 +2,10 @@
 -- give; and the statement with batches applied to a run. Assumes nothing.
 use Prim.Native.Nat.{ℕ}
 use mathlib.Core.Path.{_≡_}
+use mathlib.Core.Bool.{true, false}
 use mathlib.Core.Option.{none, some}
 use mathlib.Core.List.{List, [], _∷_, _++_, flatMap}
-use lib.ListN.{replicate}
+use lib.ListN.{take, drop, replicate}
 use Rattle.refusal.specs.Checks.Said.{refused, answers}
 use Rattle.refusal.specs.Numbers.{UNKNOWN}
 use Rattle.calls.specs.Table.{at}
@@ -19,7 +20,7 @@ use Rattle.sender.specs.Runs.{Side, theSide, sent}
 use Rattle.delays.specs.Line.{Event}
 use Rattle.end_to_end.specs.Bytes.{got, givenAt, onceEach, Between}
 use Rattle.end_to_end.specs.Runs.{message, onWay, comes, new, line, apart, L, R, near, sevenSent, copy, beat}
-use Rattle.end_to_end.specs.Batches.{gotSteps}
+use Rattle.end_to_end.specs.Batches.{lengthsStand, gotSteps}
 
 -- A frame to destination k as it is given to a sender, and with number n in its tag.
 unfoldable pub plain : (k : ℕ) (payload : List ℕ) → List ℕ
@@ -50,6 +51,10 @@ pub record BatchGot : Type 0 where
       ∷ some (answers (arrived 3 77 (handedUp 17)))
       ∷ replicate 28 none
   pub output : batchOf start four .output ≡ preceded (plain 1 (21 ∷ 22 ∷ [])) ++ preceded (plain 3 (31 ∷ 32 ∷ 33 ∷ [])) ++ (9 ∷ 9 ∷ 9 ∷ [])
+  -- The length bytes tell 16 and 17; with another length in front of either frame it would be seen.
+  pub lengths : lengthsStand (batchOf start four .answers) (batchOf start four .output) ≡ true
+  pub first-wrong : lengthsStand (batchOf start four .answers) (0 ∷ 15 ∷ drop 2 (batchOf start four .output)) ≡ false
+  pub second-wrong : lengthsStand (batchOf start four .answers) (take 18 (batchOf start four .output) ++ 17 ∷ 0 ∷ drop 20 (batchOf start four .output)) ≡ false
   -- Each stream gets its own frames, each once: the frame for slot 3 stands behind the one for slot 0.
   pub slot-0 : gotSteps theMachine 0 start fourAndOne ≡ plain 1 (21 ∷ 22 ∷ []) ∷ plain 1 (23 ∷ []) ∷ []
   pub slot-3 : gotSteps theMachine 3 start fourAndOne ≡ plain 3 (31 ∷ 32 ∷ 33 ∷ []) ∷ []

@@ -1,13 +1,17 @@
 -- From bytes to bytes, of a program that makes batches too (order 3). Assumes nothing.
 use Prim.Native.Nat.{ℕ, _+_, _<_}
 use mathlib.Core.Path.{_≡_}
+use mathlib.Core.Bool.{Bool, true, _&&_, _||_}
 use mathlib.Core.Option.{Option, none, some}
 use mathlib.Core.List.{List, [], _∷_, _++_}
+use lib.Dec.{eqb}
 use lib.ListN.{drop}
 use Rattle.refusal.specs.Checks.{Said}
 use Rattle.refusal.specs.Checks.Said.{refused, answers}
+use Rattle.frame.specs.Bytes.{word}
 use Rattle.calls.specs.Table.{Table, at}
 use Rattle.calls.specs.Calls.{Answer, arrived, placed, done, swept, handedUp, duplicate, rogue}
+use Rattle.batch.specs.Batch.{Batch}
 use Rattle.demands.specs.Missed.{FreshVector}
 use Rattle.demands.specs.Steps.{Step, single, batch, Machine, tableOf, ranSteps, readAs, logSteps}
 use Rattle.sender.specs.declared.Sender.{Sender}
@@ -45,6 +49,15 @@ gotSteps m i t (s ∷ ss) = gotFrom m i t s ++ gotSteps m i (tableOf m t s) ss
 -- It gets what it would get from the calls that the steps are read as.
 abbrev pub GotAsCalls : Machine → Type 0
 GotAsCalls m = (t : Table) (i : ℕ) (ss : List Step) → gotSteps m i t ss ≡ got (m .receive) i t (readAs m t ss)
+
+-- It may as well go by the two length bytes: in front of each frame that it finds so they tell how long it is.
+unfoldable pub lengthsStand : List (Option (Said Answer)) → (output : List ℕ) → Bool
+lengthsStand [] output = true
+lengthsStand (none ∷ rest) output = lengthsStand rest output
+lengthsStand (some s ∷ rest) output = (eqb (takes s) 0 || eqb (takes s) (2 + word output 0)) && lengthsStand rest (drop (takes s) output)
+
+abbrev pub LengthsStand : Machine → Type 0
+LengthsStand m = (t : Table) (b : Batch) → lengthsStand (m .batch t b .answers) (m .batch t b .output) ≡ true
 
 abbrev pub BytesToBytesSteps : Machine → Side → Type 0
 BytesToBytesSteps m side =

@@ -4,7 +4,7 @@ use Rattle.demands.specs.Steps.{Machine, MeetsAll}
 use Rattle.sender.specs.Runs.{Side, MeetsSide}
 use Rattle.end_to_end.specs.Bytes.{BytesToBytes, BytesToBytesRestarted, CopiesAreHeard}
 use Rattle.end_to_end.specs.Runs.{BothMeet, RestartMeets, TrafficMeets, EndApplied, BetweenNeeded, HeardNeeded}
-use Rattle.end_to_end.specs.Batches.{GotAsCalls, BytesToBytesSteps, BytesToBytesRestartedSteps}
+use Rattle.end_to_end.specs.Batches.{GotAsCalls, LengthsStand, BytesToBytesSteps, BytesToBytesRestartedSteps}
 use Rattle.end_to_end.specs.BatchRuns.{BatchGot, StepsMeet, StepsApplied}
 use Rattle.end_to_end.specs.PrpLines.{SentOverPrp, SentOverPrpCalls, PrpRun}
 
@@ -26,6 +26,7 @@ pub record Theorems : Type 0 where
   pub end-applied : (receive : Receiver) → MeetsContract receive → (side : Side) → MeetsSide side → EndApplied receive side
   -- The same of a receiver with the batch beside it.
   pub got-as-calls : (m : Machine) → MeetsAll m → GotAsCalls m
+  pub lengths-stand : (m : Machine) → MeetsAll m → LengthsStand m
   pub steps : (m : Machine) → MeetsAll m → (side : Side) → MeetsSide side → BytesToBytesSteps m side
   pub steps-restarted : (m : Machine) → MeetsAll m → (side : Side) → MeetsSide side → BytesToBytesRestartedSteps m side
   -- A batch for two streams.
