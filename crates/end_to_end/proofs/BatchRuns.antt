@@ -7,9 +7,9 @@ use Rattle.frame.specs.Bytes.{overlay}
 use Rattle.batch.specs.Batch.{runsPast, framesIn, addsFor, ends, turnsIn, comesTo, reached, tableAfter, packed, before, answersOf, bundle, batchOf}
 use Rattle.demands.specs.Steps.{theMachine, tableOf, callsOf, readAs}
 use Rattle.demands.proofs.Computing.{computing}
+use Rattle.delays.specs.ByNumber.{line}
 use Rattle.delays.proofs.Losing.{loses-by}
 use Rattle.end_to_end.specs.Bytes.{gotOf, got}
-use Rattle.end_to_end.specs.Runs.{line}
 use Rattle.end_to_end.specs.Batches.{takes, lengthsStand, gotIn, gotFrom, gotSteps}
 use Rattle.end_to_end.specs.BatchRuns.{plain, numbered, four, fourAndOne, BatchGot, threeAtOnce, stepsCome, stepsSeen, stepPlaces, StepsMeet}
 use Rattle.end_to_end.proofs.Runs.{computing as running, spaced}

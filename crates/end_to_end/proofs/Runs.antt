@@ -16,8 +16,9 @@ use Rattle.sender.proofs.Computed.{computing as sending}
 use Rattle.both_sides.specs.Copies.{framesHeard, CopyOf, CopiesOf}
 use Rattle.delays.specs.Line.{least, most, J, Sends, indices, kept, frequent, end}
 use Rattle.delays.specs.OnceEach.{kinds, copiesBy}
+use Rattle.delays.specs.ByNumber.{line, b, L, R}
 use Rattle.end_to_end.specs.Bytes.{givenOf, givenAt, gotOf, got, onceEach}
-use Rattle.end_to_end.specs.Runs.{message, onWay, into, comes, new, line, apart, L, R, near, sevenSent, theyCome, itSees, places, BothMeet, lineFrom, oldRun, RestartMeets, NewCount, cameBefore, restComes, restSeen, restPlaces, TrafficMeets, Heard, NotSent, BetweenNeeded, other, marked, HeardNeeded}
+use Rattle.end_to_end.specs.Runs.{message, onWay, into, comes, new, near, sevenSent, theyCome, itSees, places, BothMeet, lineFrom, oldRun, RestartMeets, NewCount, cameBefore, restComes, restSeen, restPlaces, TrafficMeets, Heard, NotSent, BetweenNeeded, other, marked, HeardNeeded}
 use Rattle.delays.proofs.Losing.{oneOf, bridged, awaited, loses-by}
 
 -- One name for all that they compute with.
@@ -25,7 +26,7 @@ unfoldable pub computing : Unit {0}
 unfolding receiving sending overlay numberFor nth framesHeard CopiesOf least most J indices kept frequent end kinds copiesBy givenOf givenAt gotOf got onceEach message onWay into comes new line near sevenSent theyCome itSees places lineFrom oldRun cameBefore restComes restSeen restPlaces oneOf bridged awaited
 computing = tt
 
-pub spaced : Sends line (J line) apart
+pub spaced : Sends line (J line) b
 unfolding line J least most
 spaced = record { rises = λ x. omega arith; within = λ x n e. omega arith }
 
@@ -78,7 +79,7 @@ both-meet = record {
 
 -- ---- a sender that restarts
 
-spaced-from : (first : ℕ) → Sends (lineFrom first) (J (lineFrom first)) apart
+spaced-from : (first : ℕ) → Sends (lineFrom first) (J (lineFrom first)) b
 unfolding line lineFrom J least most
 spaced-from first = record { rises = λ x. omega arith; within = λ x n e. omega arith }
 

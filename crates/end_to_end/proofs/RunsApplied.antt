@@ -14,7 +14,8 @@ use Rattle.sender.specs.Sender.{atFirst}
 use Rattle.sender.specs.Runs.{Side, MeetsSide, theSide}
 use Rattle.sender.proofs.Numbers.{the-side-meets}
 use Rattle.delays.specs.Line.{least, most, J, came, ticked}
-use Rattle.end_to_end.specs.Runs.{into, comes, new, line, apart, L, R, near, sevenSent, theyCome, itSees, places, lineFrom, oldRun, cameBefore, restComes, restSeen, restPlaces, inTraffic, other, otherSent, EndApplied}
+use Rattle.delays.specs.ByNumber.{line, b, L, R}
+use Rattle.end_to_end.specs.Runs.{into, comes, new, near, sevenSent, theyCome, itSees, places, lineFrom, oldRun, cameBefore, restComes, restSeen, restPlaces, inTraffic, other, otherSent, EndApplied}
 use Rattle.end_to_end.specs.Batches.{BytesToBytesSteps}
 use Rattle.end_to_end.specs.BatchRuns.{stepsCome, stepsSeen, stepPlaces, StepsApplied}
 use Rattle.end_to_end.specs.Theorems.{EndToEnd}
@@ -30,10 +31,10 @@ same-side m = λ i. record { send = λ s f out0 out1. m .send s f out0 out1 i; r
 of-the-two : EndToEnd theReceiver theSide → EndApplied theReceiver theSide
 unfolding new line lineFrom least most J computing other otherSent
 of-the-two d = record {
-  both = d .bytes-to-bytes line apart [] [] itSees near sevenSent (new L R) 0 theyCome places (both-meet .fresh) (both-meet .between);
-  restarted = d .bytes-to-bytes-restarted (lineFrom 22) apart [] 15 8 0 24 (came 0 15 ∷ ticked 17 ∷ ticked 19 ∷ ticked 21 ∷ ticked 23 ∷ []) [] atFirst
+  both = d .bytes-to-bytes line b [] [] itSees near sevenSent (new L R) 0 theyCome places (both-meet .fresh) (both-meet .between);
+  restarted = d .bytes-to-bytes-restarted (lineFrom 22) b [] 15 8 0 24 (came 0 15 ∷ ticked 17 ∷ ticked 19 ∷ ticked 21 ∷ ticked 23 ∷ []) [] atFirst
       (into 32 2 ∷ []) (new L R) 0 (oldRun 4) (comes 0 2 0 ∷ []) (0 ∷ []) (restart-meets .silence) (restart-meets .longer) (restart-meets .between);
-  in-traffic = d .bytes-to-bytes line apart [] cameBefore restSeen near sevenSent (new inTraffic R) 0 restComes restPlaces (traffic-meets .fresh)
+  in-traffic = d .bytes-to-bytes line b [] cameBefore restSeen near sevenSent (new inTraffic R) 0 restComes restPlaces (traffic-meets .fresh)
       (traffic-meets .between);
   heard = d .copies-are-heard atFirst otherSent 0 _ (new L R) 1 theyCome
       (ticked 0 ∷ ticked 0 ∷ came 0 0 ∷ ticked 0 ∷ ticked 0 ∷ ticked 0 ∷ ticked 0 ∷ ticked 0 ∷ []) 1 (frame 3 0) (replicate 14 0)
@@ -52,7 +53,7 @@ applied both receive k side m =
 of-the-machine : BytesToBytesSteps theMachine theSide → StepsApplied theMachine theSide
 unfolding theMachine
 of-the-machine p = record {
-  in-batch = p line apart [] [] stepsSeen near sevenSent (new L R) 0 stepsCome stepPlaces (steps-meet .fresh) (steps-meet .between);
+  in-batch = p line b [] [] stepsSeen near sevenSent (new L R) 0 stepsCome stepPlaces (steps-meet .fresh) (steps-meet .between);
 }
 
 pub applied-steps : ((m : Machine) → MeetsAll m → (side : Side) → MeetsSide side → BytesToBytesSteps m side)

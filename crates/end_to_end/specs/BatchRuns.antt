@@ -18,8 +18,9 @@ use Rattle.demands.specs.Steps.{Step, single, batch, Machine, theMachine, readA
 use Rattle.demands.specs.Examples.{address, frame, start}
 use Rattle.sender.specs.Runs.{Side, theSide, sent}
 use Rattle.delays.specs.Line.{Event}
+use Rattle.delays.specs.ByNumber.{line, b, L, R}
 use Rattle.end_to_end.specs.Bytes.{got, givenAt, onceEach, Between}
-use Rattle.end_to_end.specs.Runs.{message, onWay, comes, new, line, apart, L, R, near, sevenSent, copy, beat}
+use Rattle.end_to_end.specs.Runs.{message, onWay, comes, new, near, sevenSent, copy, beat}
 use Rattle.end_to_end.specs.Batches.{lengthsStand, gotSteps}
 
 -- A frame to destination k as it is given to a sender, and with number n in its tag.
@@ -86,7 +87,7 @@ stepPlaces = 0 ∷ 1 ∷ 2 ∷ 1 ∷ 3 ∷ []
 
 pub record StepsMeet : Type 0 where
   pub fresh : FreshVector (at (new L R) 0)
-  pub between : Between theReceiver theSide line apart [] [] stepsSeen near sevenSent (new L R) 0 (readAs theMachine (new L R) stepsCome) stepPlaces
+  pub between : Between theReceiver theSide line b [] [] stepsSeen near sevenSent (new L R) 0 (readAs theMachine (new L R) stepsCome) stepPlaces
   pub got : gotSteps theMachine 0 (new L R) stepsCome ≡ message 0 ∷ message 1 ∷ message 2 ∷ message 3 ∷ []
   pub promised : givenAt (sent theSide near sevenSent) (onceEach [] stepPlaces) ≡ message 0 ∷ message 1 ∷ message 2 ∷ message 3 ∷ []
 

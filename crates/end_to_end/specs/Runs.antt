@@ -22,9 +22,10 @@ use Rattle.sender.specs.Sender.{atFirst}
 use Rattle.sender.specs.Runs as sends
 use Rattle.sender.specs.Runs.{Side, theSide, sent, sending, WithoutReset}
 use Rattle.both_sides.specs.Copies.{FromSender, framesHeard, CopyOf, CopiesOf}
-use Rattle.delays.specs.Formulas.{apartIn, leastWindow, trafficWindow, leastTime, span}
+use Rattle.delays.specs.Formulas.{trafficWindow, span}
 use Rattle.delays.specs.Line.{Known, J, Event, came, ticked}
 use Rattle.delays.specs.OnceEach.{kinds, kindOf, Silence}
+use Rattle.delays.specs.ByNumber.{line, b, L, R}
 use Rattle.end_to_end.specs.Bytes.{got, givenAt, onceEach, Between, Ours, Called}
 
 -- ---- frames and calls
@@ -50,21 +51,9 @@ new window time = opened (destOf (address 1)) 0 vectorRule window time ∷ opene
 
 -- ---- a run over the wrap
 
--- In half milliseconds: a frame each 1 ms, from 1 to 1.5 ms on network 0 and from 2 to 3.5 ms on network 1, a tick each 1 ms, and one
--- lost in a row.
-unfoldable pub line : Known
-line = record { sent = λ x. 2 * x; least0 = 2; most0 = 3; least1 = 4; most1 = 7; tau = 2; tauMost = 2; m = 1 }
-
-abbrev pub apart : ℕ
-apart = apartIn (J line) 2
-
-abbrev pub L : ℕ
-L = leastWindow apart (line .m)
-
-abbrev pub R : ℕ
-R = leastTime (J line) (line .tau)
-
--- Seven are sent, with 65533, 65534, 65535, 0, 1, 2 and 3 in their tags; between them one is refused.
+-- On the line of `Sharp` of `delays`, with its L and R: in half milliseconds a frame each 1 ms, from 1 to 1.5 ms on network 0 and from 2
+-- to 3.5 ms on network 1, a tick each 1 ms, and one lost in a row. Seven are sent, with 65533, 65534, 65535, 0, 1, 2 and 3 in their
+-- tags; between them one is refused.
 unfoldable pub near : Sender
 near = record { next = 65533 }
 
@@ -127,7 +116,7 @@ gotWith window time = got theReceiver 0 (new window time) theyCome
 
 pub record BothMeet : Type 0 where
   pub fresh : FreshVector (at (new L R) 0)
-  pub between : Between theReceiver theSide line apart [] [] itSees near sevenSent (new L R) 0 theyCome places
+  pub between : Between theReceiver theSide line b [] [] itSees near sevenSent (new L R) 0 theyCome places
   -- each sent frame of which a copy came, once, byte for byte; and what is promised is that
   pub got : gotWith L R ≡ message 0 ∷ message 2 ∷ message 6 ∷ message 4 ∷ message 5 ∷ []
   pub promised : givenAt (sent theSide near sevenSent) (onceEach [] places) ≡ message 0 ∷ message 2 ∷ message 6 ∷ message 4 ∷ message 5 ∷ []
@@ -148,7 +137,7 @@ afterOld ticks = run theReceiver (new L R) (oldRun ticks)
 
 abbrev pub NewCount : (first ticks time : ℕ) → Type 0
 NewCount first ticks time =
-    Between theReceiver theSide (lineFrom first) apart [] [] (came 0 time ∷ []) atFirst (into 32 2 ∷ []) (afterOld ticks) 0 (comes 0 2 0 ∷ []) (0 ∷ [])
+    Between theReceiver theSide (lineFrom first) b [] [] (came 0 time ∷ []) atFirst (into 32 2 ∷ []) (afterOld ticks) 0 (comes 0 2 0 ∷ []) (0 ∷ [])
 
 pub record RestartMeets : Type 0 where
   -- silent for longer than R tau + J: the fourth tick is made before the new frame comes
@@ -174,14 +163,14 @@ unfoldable pub restPlaces : List ℕ
 restPlaces = 0 ∷ 6 ∷ 4 ∷ 5 ∷ []
 
 abbrev pub inTraffic : ℕ
-inTraffic = trafficWindow apart (line .m)
+inTraffic = trafficWindow b (line .m)
 
 abbrev pub restWith : (window : ℕ) → List (List ℕ)
 restWith window = got theReceiver 0 (new window R) restComes
 
 pub record TrafficMeets : Type 0 where
   pub fresh : FreshVector (at (new inTraffic R) 0)
-  pub between : Between theReceiver theSide line apart [] cameBefore restSeen near sevenSent (new inTraffic R) 0 restComes restPlaces
+  pub between : Between theReceiver theSide line b [] cameBefore restSeen near sevenSent (new inTraffic R) 0 restComes restPlaces
   pub got : restWith inTraffic ≡ message 0 ∷ message 6 ∷ message 4 ∷ message 5 ∷ []
   pub promised : givenAt (sent theSide near sevenSent) (onceEach [] restPlaces) ≡ message 0 ∷ message 6 ∷ message 4 ∷ message 5 ∷ []
   -- L one less: a frame is missing
