@@ -7,7 +7,8 @@
 //! Here stand the tests by name, and the wrong variants that they find. What
 //! they run stands beside: `random_lines`, `worst`, `outages` and `restarts`.
 //! These take a line (`line`), make a run of it (`maker`), and hold what the
-//! receiver does (`receiver`) against what the page promises (`run`).
+//! receiver does (`receiver`) against what the page promises (`run`). All of
+//! them go over PRP lines too (`prp`), with tests of their own (`on_prp_lines`).
 //!
 //! Every run is made twice: with single arrivals, and with batches where copies
 //! of one network come in a row.
@@ -16,7 +17,9 @@
 mod common;
 mod line;
 mod maker;
+mod on_prp_lines;
 mod outages;
+mod prp;
 mod random_lines;
 mod receiver;
 mod restarts;
@@ -24,56 +27,57 @@ mod run;
 mod worst;
 
 use common::finds;
+use prp::Lines;
 use second::wrong::Wrong;
 
 #[test]
 fn a_stream_that_is_open_before_its_sender_sends() {
-    random_lines::from_the_start();
+    random_lines::from_the_start(Lines::Tags);
 }
 
 #[test]
 fn a_stream_that_is_opened_in_the_middle_of_traffic() {
-    random_lines::in_traffic();
+    random_lines::in_traffic(Lines::Tags);
 }
 
 #[test]
 fn no_smaller_window_will_do() {
-    worst::window();
+    worst::window(Lines::Tags);
 }
 
 #[test]
 fn no_smaller_window_will_do_in_the_middle_of_traffic() {
-    worst::window_in_traffic();
+    worst::window_in_traffic(Lines::Tags);
 }
 
 #[test]
 fn no_smaller_reset_time_will_do() {
-    worst::reset_time();
+    worst::reset_time(Lines::Tags);
 }
 
 #[test]
 fn in_outages_each_is_judged_by_its_index_and_none_comes_twice() {
-    outages::by_index();
+    outages::by_index(Lines::Tags);
 }
 
 #[test]
 fn one_frame_more_and_the_numbers_come_round() {
-    outages::come_round();
+    outages::come_round(Lines::Tags);
 }
 
 #[test]
 fn behind_the_reset_that_follows_an_outage_each_comes_once_again() {
-    outages::behind_the_reset();
+    outages::behind_the_reset(Lines::Tags);
 }
 
 #[test]
 fn a_sender_that_restarts_after_a_silence() {
-    restarts::after_a_silence();
+    restarts::after_a_silence(Lines::Tags);
 }
 
 #[test]
 fn no_shorter_silence_will_do() {
-    restarts::shorter_silence();
+    restarts::shorter_silence(Lines::Tags);
 }
 
 #[test]

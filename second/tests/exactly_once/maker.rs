@@ -240,6 +240,7 @@ impl<'a> Maker<'a> {
         Run {
             name: format!("{name}, seed {seed}, {line:?}, L {window}, R {time}"),
             seed,
+            prp: None,
             vlan: self.vlan,
             window,
             time,

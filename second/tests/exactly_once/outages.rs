@@ -6,6 +6,7 @@ use second::random::Random;
 
 use crate::line::*;
 use crate::maker::{any_first, Maker};
+use crate::prp::Lines;
 use crate::run::{enough, Call, Did, Run};
 
 /// A run with outages of any length. The numbers do not come round: R ticks and
@@ -59,10 +60,10 @@ fn run_with_outages(seed: u64) -> Run {
 }
 
 /// Outages of any length, as long as the numbers do not come round.
-pub fn by_index() {
+pub fn by_index(lines: Lines) {
     let (mut up, mut rogue, mut resets) = (0, 0, 0);
     for seed in 0..1000 {
-        let run = run_with_outages(seed);
+        let run = run_with_outages(seed).over(lines);
         let expected = run.by_index();
         let stream = run.does_as(&expected, |_| true);
         let mut seen = HashSet::new();
@@ -79,7 +80,7 @@ pub fn by_index() {
 }
 
 /// The third formula is sharp.
-pub fn come_round() {
+pub fn come_round(lines: Lines) {
     for seed in 0..300 {
         let random = &mut Random::new(seed);
         let behind = any_behind(random);
@@ -109,7 +110,7 @@ pub fn come_round() {
             (1..time).for_each(|ticks| maker.at(then + ticks * tick, Call::Tick));
             maker.fast(new);
             maker.at(then + time * tick, Call::Tick);
-            let run = maker.run(window, time);
+            let run = maker.run(window, time).over(lines);
             let expected = run.by_index();
             if more == 0 {
                 run.does_as(&expected, |_| true);
@@ -125,7 +126,7 @@ pub fn come_round() {
 }
 
 /// Behind the reset by tick the larger L is enough again.
-pub fn behind_the_reset() {
+pub fn behind_the_reset(lines: Lines) {
     let mut rogues = 0;
     for seed in 0..600 {
         let random = &mut Random::new(seed);
@@ -150,7 +151,7 @@ pub fn behind_the_reset() {
             now += lost * line.spacing;
         }
         maker.ticks(0);
-        let run = maker.run(window, time);
+        let run = maker.run(window, time).over(lines);
         let expected = run.by_index();
         let stream = run.does_as(&expected, |_| true);
         rogues += stream.rogue;

@@ -4,6 +4,7 @@ use second::random::Random;
 
 use crate::line::*;
 use crate::maker::Maker;
+use crate::prp::Lines;
 use crate::run::{enough, Call, Did};
 
 /// Where the old count of a sender ends: near the new one, or anywhere.
@@ -16,7 +17,7 @@ fn any_last(random: &mut Random, window: i64) -> i64 {
 }
 
 /// A sender that was silent long enough: each of its new frames comes once.
-pub fn after_a_silence() {
+pub fn after_a_silence(lines: Lines) {
     let mut outages = 0;
     for seed in 0..1500 {
         let random = &mut Random::new(seed);
@@ -51,7 +52,7 @@ pub fn after_a_silence() {
         }
         maker.networks(olds, line.losses);
         maker.ticks(0);
-        let run = maker.run(window, time);
+        let run = maker.run(window, time).over(lines);
         let new = |call| matches!(call, Call::Copy(_, frame) if frame >= olds);
         run.does_as(&run.once_each(), |call| !outage || new(call));
         outages += u64::from(outage);
@@ -60,7 +61,7 @@ pub fn after_a_silence() {
 }
 
 /// The silence cannot be shorter.
-pub fn shorter_silence() {
+pub fn shorter_silence(lines: Lines) {
     for seed in 0..600 {
         let random = &mut Random::new(seed);
         let (mut line, behind, _) = worst_line(random);
@@ -92,7 +93,7 @@ pub fn shorter_silence() {
             (1..time).for_each(|ticks| maker.at(then + ticks * tick, Call::Tick));
             maker.fast(new);
             maker.at(then + time * tick, Call::Tick);
-            let run = maker.run(window, time);
+            let run = maker.run(window, time).over(lines);
             let did = match (more, near) {
                 (0, true) => Did::Duplicate,
                 (0, false) => Did::Rogue,

@@ -7,13 +7,15 @@ use second::random::Random;
 use second::{Refusal, Stream};
 
 use crate::common::*;
+use crate::prp::Prp;
 use crate::receiver::Receiver;
 
 /// The stream's destination. Another stream has it with another VLAN id.
 pub const OWN: [u8; 6] = [2, 0, 0, 0, 0, 7];
 pub const OTHER_VLAN: u16 = 6;
 
-/// A frame as it was given to the sender, and what the sender made of it.
+/// A frame as it was given to the sender, and its copies as they go out on
+/// network 0 and on 1.
 pub struct Sent {
     pub index: i64,
     pub bare: Vec<u8>,
@@ -25,7 +27,7 @@ pub struct Sent {
 pub enum Call {
     /// The stream is opened; one that is open is reset, or closed and opened.
     Fresh,
-    /// A copy of a frame arrives on a network.
+    /// A copy of a frame comes on the card of a network.
     Copy(u8, usize),
     /// So does a frame that is none of the stream's, made from a copy.
     Other(u8, usize, Other),
@@ -39,6 +41,10 @@ pub enum Other {
     Cut,
     /// To the stream with the other VLAN id, with the same number.
     Elsewhere,
+    /// On a PRP line: it has a tag in place of a trailer.
+    Tagged,
+    /// On a PRP line: this bit is another, so far from the end.
+    Spoilt(usize, u8),
 }
 
 /// What a call did.
@@ -57,6 +63,8 @@ pub struct Run {
     /// What is printed where the run fails: the test, the seed and the setting.
     pub name: String,
     pub seed: u64,
+    /// The line, where it is one with PRP.
+    pub prp: Option<Prp>,
     pub vlan: u16,
     pub window: i64,
     pub time: i64,
@@ -65,25 +73,53 @@ pub struct Run {
 }
 
 impl Run {
-    /// The bytes of an arrival, and its network.
-    fn arrives(&self, call: Call) -> Option<(u8, Vec<u8>)> {
-        match call {
-            Call::Fresh | Call::Tick => None,
-            Call::Copy(network, frame) => {
-                let copies = &self.frames[frame].copies;
-                Some((network, copies[usize::from(network)].clone()))
+    /// The frame with a number, as the line has it for a network. It is put
+    /// together from its parts.
+    pub fn carried(&self, bare: &[u8], number: u16, network: u8) -> Vec<u8> {
+        match self.prp {
+            None => with_tag(bare, number),
+            Some(prp) => with_trailer(bare, number, 0xA + network, prp.width()),
+        }
+    }
+
+    /// The bytes that come on a card.
+    fn comes(&self, card: u8, frame: usize, other: Option<Other>) -> Vec<u8> {
+        let sent = &self.frames[frame];
+        let number = number(sent.index);
+        let network = self.prp.map_or(card, |prp| prp.network(card, frame));
+        let copy = &sent.copies[usize::from(network)];
+        match other {
+            None => copy.clone(),
+            Some(Other::Group) => from_source(3, copy),
+            Some(Other::Cut) => {
+                // One byte too few for a header and a tag, or a trailer.
+                let width = self.prp.map_or(6, Prp::width);
+                copy[..type_place(copy) + 2 + width - 1].to_vec()
             }
-            Call::Other(network, frame, other) => {
-                let sent = &self.frames[frame];
-                let copy = &sent.copies[usize::from(network)];
-                let made = match other {
-                    Other::Group => from_source(3, copy),
-                    Other::Cut => copy[..type_place(copy) + 7].to_vec(),
-                    Other::Elsewhere => tagged_to(OWN, Some(OTHER_VLAN), number(sent.index)),
-                };
-                Some((network, made))
+            Some(Other::Elsewhere) => {
+                self.carried(&untagged_to(OWN, Some(OTHER_VLAN)), number, network)
+            }
+            Some(Other::Tagged) => tagged_to(OWN, Some(self.vlan), number),
+            Some(Other::Spoilt(back, bit)) => {
+                let mut spoilt = copy.clone();
+                spoilt[copy.len() - back] ^= bit;
+                spoilt
             }
         }
+    }
+
+    /// The network of an arrival and its tagged frame. On a PRP line the turn
+    /// tells both, or refuses the frame, and then no arrival is called.
+    fn arrives(&self, call: Call) -> Option<Result<(u8, Vec<u8>), Refusal>> {
+        let (card, frame) = match call {
+            Call::Fresh | Call::Tick => return None,
+            Call::Copy(card, frame) => (card, self.comes(card, frame, None)),
+            Call::Other(card, frame, other) => (card, self.comes(card, frame, Some(other))),
+        };
+        Some(match self.prp {
+            None => Ok((card, frame)),
+            Some(prp) => prp.turned_back(&frame),
+        })
     }
 
     /// What each call does, with this L and R.
@@ -93,15 +129,17 @@ impl Run {
         let mut did = Vec::new();
         while let Some(&call) = self.calls.get(did.len()) {
             match self.arrives(call) {
-                Some((network, _)) if in_batches => {
+                Some(Err(why)) => did.push(Did::Refused(why)),
+                Some(Ok((network, _))) if in_batches => {
                     let behind = self.calls[did.len()..].iter();
                     let frames: Vec<_> = behind
-                        .map_while(|&call| self.arrives(call).filter(|&(on, _)| on == network))
+                        .map_while(|&call| self.arrives(call)?.ok())
+                        .take_while(|&(on, _)| on == network)
                         .map(|(_, frame)| frame)
                         .collect();
                     did.extend(receiver.batches(network, &frames, random));
                 }
-                Some((network, frame)) => did.push(receiver.single(network, &frame)),
+                Some(Ok((network, frame))) => did.push(receiver.single(network, &frame)),
                 None => {
                     match call {
                         Call::Fresh => receiver.make_fresh(),
@@ -120,6 +158,8 @@ impl Run {
             Other::Group => Did::Refused(Refusal::GroupSource),
             Other::Cut => Did::Refused(Refusal::FrameShort),
             Other::Elsewhere => Did::Apart,
+            Other::Tagged => Did::Refused(Refusal::AlreadyTagged),
+            Other::Spoilt(..) => Did::Refused(Refusal::NoTrailer),
         }
     }
 

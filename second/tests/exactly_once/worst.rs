@@ -4,6 +4,7 @@ use second::random::Random;
 
 use crate::line::*;
 use crate::maker::{any_first, Maker};
+use crate::prp::Lines;
 use crate::run::{Call, Did};
 
 /// Times at which a burst of so many frames is sent within J, beginning now,
@@ -42,7 +43,7 @@ fn worst_times(
 }
 
 /// The smaller L is just enough.
-pub fn window() {
+pub fn window(lines: Lines) {
     for seed in 0..600 {
         let random = &mut Random::new(seed);
         let (line, behind, bursts) = worst_line(random);
@@ -60,7 +61,7 @@ pub fn window() {
         (last - behind as usize..last).for_each(|frame| maker.slow(frame));
         let window = least_window(behind, line.losses);
         let time = least_time(line.spread(), line.ticks.0);
-        let run = maker.run(window, time);
+        let run = maker.run(window, time).over(lines);
         run.does_as(&run.once_each(), |_| true);
         if window > 2 {
             run.becomes(last, window - 1, time, &[Did::Rogue]);
@@ -69,7 +70,7 @@ pub fn window() {
 }
 
 /// So is the larger L, for a stream that is opened or reset in traffic.
-pub fn window_in_traffic() {
+pub fn window_in_traffic(lines: Lines) {
     for seed in 0..900 {
         let random = &mut Random::new(seed);
         let (line, behind, bursts) = worst_line(random);
@@ -110,7 +111,7 @@ pub fn window_in_traffic() {
         maker.fast(last);
         (last - overtaken..last).for_each(|frame| maker.slow(frame));
         assert!(maker.times[last] + least > then);
-        let run = maker.run(window, time);
+        let run = maker.run(window, time).over(lines);
         let expected = if way == 2 {
             run.by_index()
         } else {
@@ -126,7 +127,7 @@ pub fn window_in_traffic() {
 }
 
 /// So is R.
-pub fn reset_time() {
+pub fn reset_time(lines: Lines) {
     for seed in 0..600 {
         let random = &mut Random::new(seed);
         let (line, behind, _) = worst_line(random);
@@ -148,7 +149,9 @@ pub fn reset_time() {
         }
         maker.slow(frame);
         let time = least_time(spread, tick);
-        let run = maker.run(least_window(behind, line.losses), time);
+        let run = maker
+            .run(least_window(behind, line.losses), time)
+            .over(lines);
         run.does_as(&run.once_each(), |_| true);
         let up = Did::Up(run.frames[frame].bare.clone());
         run.becomes(frame, run.window, time - 1, &[up.clone(), up]);
