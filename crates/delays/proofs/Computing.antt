@@ -3,10 +3,10 @@ use Rattle.demands.specs.Missed.{allClose, firsts}
 use Rattle.demands.proofs.Computing.{computing}
 use Rattle.delays.specs.Forgetting.{forgetting, allNearSince}
 use Rattle.delays.specs.Line.{least, most, J, indices, kept, frequent, end}
-use Rattle.delays.specs.OnceEach.{kinds, copiesBy}
+use Rattle.delays.specs.OnceEach.{kinds, noneBehind, fewerBetween, copiesBy}
 use Rattle.delays.specs.ByNumber.{new, calls, line, traffic, busy, missed, caught}
 use Rattle.delays.proofs.Losing.{oneOf, bridged, awaited}
 
 unfoldable pub timing : Unit {0}
-unfolding computing allClose firsts forgetting allNearSince least most J indices kept frequent end kinds copiesBy new calls line traffic busy missed caught oneOf bridged awaited
+unfolding computing allClose firsts forgetting allNearSince least most J indices kept frequent end kinds noneBehind fewerBetween copiesBy new calls line traffic busy missed caught oneOf bridged awaited
 timing = tt

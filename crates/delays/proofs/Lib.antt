@@ -8,6 +8,7 @@ pub mod Outage
 pub mod Promise
 pub mod Least
 pub mod Lists
+mod FewerTicks
 mod Sending
 mod Holds
 mod Window

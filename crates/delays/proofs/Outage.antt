@@ -11,17 +11,16 @@ use borrow.Author.Tests.{le-leb, eqb-false}
 use Rattle.stream.specs.Decisions.{isUp}
 use Rattle.stream.proofs.Logic.{tests}
 use Rattle.calls.specs.Table.{at}
-use Rattle.demands.specs.Unlimited.{elem, highest, apart, judged, remembered, near}
-use Rattle.demands.specs.Corollaries.{handedOf, distinct}
-use Rattle.demands.proofs.Once.{new, Single, add}
+use Rattle.demands.specs.Unlimited.{highest, apart, judged, remembered, near}
 use Rattle.demands.proofs.Firsts.{under}
 use Rattle.delays.specs.Formulas.{leastTime, span}
-use Rattle.delays.specs.Line.{Known, most, J, Sends, Event, came, ticked, indices, kept, frequent}
-use Rattle.delays.specs.Forgetting.{forgetting, allNearSince}
+use Rattle.delays.specs.Line.{Known, most, J, Sends, Event, came, ticked, kept, frequent}
+use Rattle.delays.specs.Forgetting.{allNearSince}
 use Rattle.delays.specs.OnceEach.{Sees, DecidesAcross, NoneForAnother}
 use Rattle.delays.proofs.Lists.{top-in, here}
 use Rattle.delays.proofs.Sending.{spread, no-sooner, apart-by, long, Comes, comes, Ticks, ticks}
-use Rattle.delays.proofs.Holds.{Holds, start-holds, on-up, on-pass, remembers, on-tick, on-reset}
+use Rattle.delays.proofs.FewerTicks.{fewer-ticks, more-ticks, none-twice}
+use Rattle.delays.proofs.Holds.{Holds, start-holds, on-up, on-pass, on-tick, on-reset}
 
 -- The next tick comes soon enough after what was last handed up.
 record Soon (k : Known) (r left : ℕ) (hs : List ℕ) (latest : ℕ) : Type 0 where
@@ -73,54 +72,37 @@ module _ (k : Known) (some : 1 ≤ k .tau) (l r c : ℕ) (time : leastTime (J k)
         let s = no-sooner sends x (highest (x ∷ hs)) (under x (x ∷ hs) (here x x hs refl)) in
         record { some = omega arith; few = omega arith; bound = rw (z, mul-suc (k .tauMost) 0, mul-zero (k .tauMost)) (omega arith) }
 
-  record Told (left : ℕ) (hs us : List ℕ) (es : List Event) : Type 0 where
-    nears : allNearSince l r left hs es ≡ true
-    single : Single us (handedOf (forgetting l r left hs es) (indices es))
-
-  tells : (es : List Event) (left : ℕ) (hs us : List ℕ) (now due since latest : ℕ) → Holds k r left hs us now due since
+  nears : (es : List Event) (left : ℕ) (hs us : List ℕ) (now due since latest : ℕ) → Holds k r left hs us now due since
       → Recent k r left hs latest → latest ≤ now + k .tauMost
       → kept k now due es ≡ true → frequent (k .tauMost) latest es ≡ true
-      → Told left hs us es
-  unfolding frequent indices forgetting allNearSince remembered handedOf distinct elem
-  tells [] left hs us now due since latest o w b q f = record { nears = refl; single = record { apart = refl; fresh = λ y e. refl } }
-  tells (came x a ∷ es) left hs us now due since latest o w b q f =
+      → allNearSince l r left hs es ≡ true
+  unfolding frequent allNearSince remembered
+  nears [] left hs us now due since latest o w b q f = refl
+  nears (came x a ∷ es) left hs us now due since latest o w b q f =
       let e = comes q in
       let u = simp tests at f in
-      go e (u .0) (isUp (judged l hs x)) refl (λ left hs us s v. tells es left hs us a due since latest s v (omega arith) (e .rest) (u .1))
+      go e (u .0) (isUp (judged l hs x)) refl (λ left hs us s v. nears es left hs us a due since latest s v (omega arith) (e .rest) (u .1))
     where
       go : Comes k now due x a es → a ≤ latest → (v : Bool) → isUp (judged l hs x) ≡ v
-          → ((left : ℕ) (hs us : List ℕ) → Holds k r left hs us a due since → Recent k r left hs latest → Told left hs us es)
-          → Told left hs us (came x a ∷ es)
-      go e u true i g =
-          let s = g r (x ∷ hs) (x ∷ us) (on-up o e) (renewed o e latest u (omega arith)) in
-          record {
-            nears = rw (nearby o e latest u w, i) (s .nears);
-            single = rw i (add x us (handedOf (forgetting l r r (x ∷ hs) es) (indices es)) (remembers o e (new l hs x i)) (s .single));
-          }
-      go e u false i g =
-          let s = g left hs us (on-pass o a (e .ordered)) w in
-          record { nears = rw (nearby o e latest u w, i) (s .nears); single = rw i (s .single) }
-  tells (ticked t ∷ es) left hs us now due since latest o w b q f =
+          → ((left : ℕ) (hs us : List ℕ) → Holds k r left hs us a due since → Recent k r left hs latest → allNearSince l r left hs es ≡ true)
+          → allNearSince l r left hs (came x a ∷ es) ≡ true
+      go e u true i g = rw (nearby o e latest u w, i) (g r (x ∷ hs) (x ∷ us) (on-up o e) (renewed o e latest u (omega arith)))
+      go e u false i g = rw (nearby o e latest u w, i) (g left hs us (on-pass o a (e .ordered)) w)
+  nears (ticked t ∷ es) left hs us now due since latest o w b q f =
       let e = ticks q in
       let u = simp tests at f in
       go e (u .0) (eqb left 1) refl
-      (λ left hs since s v. tells es left hs us t (t + k .tau) since (t + k .tauMost) s v (omega arith) (e .rest) (u .1))
+      (λ left hs since s v. nears es left hs us t (t + k .tau) since (t + k .tauMost) s v (omega arith) (e .rest) (u .1))
     where
       go : Ticks k now due t es → t ≤ latest → (v : Bool) → eqb left 1 ≡ v
           → ((left : ℕ) (hs : List ℕ) (since : ℕ) → Holds k r left hs us t (t + k .tau) since → Recent k r left hs (t + k .tauMost)
-          → Told left hs us es)
-          → Told left hs us (ticked t ∷ es)
-      go e u true i g =
-          let s = g 0 [] t (on-reset o e i (long (J k) (k .tau) r some time)) tt in
-          record { nears = rw i (s .nears); single = rw i (s .single) }
-      go e u false i g =
-          let s = g (left - 1) hs since (on-tick o e) (older k r left hs latest t w i u) in
-          record { nears = rw i (s .nears); single = rw i (s .single) }
+          → allNearSince l r left hs es ≡ true)
+          → allNearSince l r left hs (ticked t ∷ es) ≡ true
+      go e u true i g = rw i (g 0 [] t (on-reset o e i (long (J k) (k .tau) r some time)) tt)
+      go e u false i g = rw i (g (left - 1) hs since (on-tick o e) (older k r left hs latest t w i u))
 
 pub none-for-another : {A : Type 0} {sees : Sees A} → DecidesAcross sees → NoneForAnother sees
 none-for-another d k c start es t i run f p q ticks time s round =
     let r = at t i .time in
-    let g = tells k (q .some) (at t i .window) r c time s round es 0 [] [] start 0 0 (start + k .tauMost)
-    (start-holds k r start 0) tt (omega arith) (q .kept) ticks in
-    let e = d t i run es f p (g .nears) in
-    record { verdicts = e; once = rw e (g .single .apart) }
+    none-twice d t i run es f p (more-ticks (leastTime (J k) (k .tau)) r es time (fewer-ticks k start es q))
+    (nears k (q .some) (at t i .window) r c time s round es 0 [] [] start 0 0 (start + k .tauMost) (start-holds k r start 0) tt (omega arith) (q .kept) ticks)

@@ -8,6 +8,7 @@ use Rattle.delays.proofs.Delays.{once-each}
 use Rattle.delays.proofs.Opened.{once-each-opened}
 use Rattle.delays.proofs.Restart.{restarted, restarted-steps}
 use Rattle.delays.proofs.Outage.{none-for-another}
+use Rattle.delays.proofs.FewerTicks.{fewer-ticks, none-twice}
 use Rattle.delays.proofs.Promise.{up-at-first-is-once, even-once}
 use Rattle.delays.proofs.Least.{least-constants}
 use Rattle.delays.proofs.ByNumber.{sharp, traffic-sharp}
@@ -20,6 +21,7 @@ theorems = record {
     once-each-opened = once-each-opened m;
     once-each-restarted = restarted m (once-each (decides-across m));
     none-for-another = none-for-another (decides-across m);
+    none-twice = none-twice (decides-across m);
     decides-across = decides-across m;
   };
   delays-steps = λ m a. record {
@@ -27,9 +29,11 @@ theorems = record {
     once-each = once-each (decides-across-steps a);
     once-each-restarted = restarted-steps a (once-each (decides-across-steps a));
     none-for-another = none-for-another (decides-across-steps a);
+    none-twice = none-twice (decides-across-steps a);
     decides-across = decides-across-steps a;
   };
   window-holds = window-holds;
+  fewer-ticks = fewer-ticks;
   up-at-first-is-once = up-at-first-is-once;
   spaced-sends = spaced-sends;
   beginnings-keep = beginnings-keep;

@@ -1,8 +1,8 @@
 -- From the delays to exactly once: what holds of a vector stream whose L and R are chosen by the formulas. Each statement is of runs
 -- of calls (`log` of a receiver) and of runs with batches (`logSteps`). Assumes nothing.
-use Prim.Native.Nat.{ℕ, _+_, _-_, _≤_, _<_}
+use Prim.Native.Nat.{ℕ, zero, suc, _+_, _-_, _≤_, _<_}
 use mathlib.Core.Path.{_≡_}
-use mathlib.Core.Bool.{Bool, true, _&&_}
+use mathlib.Core.Bool.{Bool, true, _&&_, not}
 use mathlib.Core.List.{List, [], _∷_, _++_, map}
 use lib.Dec.{leb}
 use Rattle.refusal.specs.Checks.Said.{answers}
@@ -14,6 +14,7 @@ use Rattle.calls.specs.Table.{Table, at}
 use Rattle.calls.specs.Calls.{Call, opening, placed}
 use Rattle.demands.specs.Receiver.{Receiver}
 use Rattle.demands.specs.Seen.{Seen, arrived, tick, ended, nothing, log, numbers, verdicts}
+use Rattle.demands.specs.Unlimited.{elem}
 use Rattle.demands.specs.Demand3.{numberOf}
 use Rattle.demands.specs.Corollaries.{handedOf, distinct}
 use Rattle.demands.specs.Missed.{allClose, firsts, ExactlyOnce, FreshVector}
@@ -111,6 +112,24 @@ DecidesAcross {A} sees =
     → allNearSince (at t i .window) (at t i .time) 0 [] es ≡ true
     → verdicts (sees i t run) ≡ forgetting (at t i .window) (at t i .time) 0 [] es
 
+-- Third: a reset by tick comes behind the last copy of what it forgets, since fewer than R ticks fall between two copies of one index.
+
+-- No copy of x comes behind so many ticks.
+unfoldable pub noneBehind : (ticks x : ℕ) → List Event → Bool
+noneBehind zero x es = not (elem x (indices es))
+noneBehind (suc n) x [] = true
+noneBehind (suc n) x (came y a ∷ es) = noneBehind (suc n) x es
+noneBehind (suc n) x (ticked c ∷ es) = noneBehind n x es
+
+-- Between two copies of one index there are fewer ticks than so many.
+unfoldable pub fewerBetween : (ticks : ℕ) → List Event → Bool
+fewerBetween n [] = true
+fewerBetween n (came x a ∷ es) = noneBehind n x es && fewerBetween n es
+fewerBetween n (ticked c ∷ es) = fewerBetween n es
+
+abbrev pub FewerTicks : Type 0
+FewerTicks = (k : Known) (start : ℕ) (es : List Event) → Keeps k start es → fewerBetween (leastTime (J k) (k .tau)) es ≡ true
+
 -- From an open with L and R on.
 abbrev pub OnceEachOpened : Receiver → Type 0
 OnceEachOpened receive =
@@ -131,6 +150,16 @@ pub record Judged (window time : ℕ) (vs : List Verdict) (es : List Event) : Ty
   pub verdicts : vs ≡ forgetting window time 0 [] es
   pub once : distinct (handedOf vs (indices es)) ≡ true
 
+-- That is so whatever the times are, if fewer than R ticks fall between two copies of one index: with ticks that come too soon now and
+-- then too, as long as R is more than there can be.
+abbrev pub NoneTwice : {A : Type 0} → Sees A → Type 0
+NoneTwice {A} sees =
+    (t : Table) (i : ℕ) (run : A) (es : List Event) → FreshVector (at t i) → Timed sees t i run es
+    → fewerBetween (at t i .time) es ≡ true
+    → allNearSince (at t i .window) (at t i .time) 0 [] es ≡ true
+    → Judged (at t i .window) (at t i .time) (verdicts (sees i t run)) es
+
+-- By the delays, and how often ticks come:
 abbrev pub NoneForAnother : {A : Type 0} → Sees A → Type 0
 NoneForAnother {A} sees =
     (k : Known) (c start : ℕ) (es : List Event) (t : Table) (i : ℕ) (run : A)

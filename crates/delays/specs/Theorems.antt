@@ -2,7 +2,7 @@
 use Rattle.demands.specs.Receiver.{Receiver, MeetsContract, run}
 use Rattle.demands.specs.Seen.{log}
 use Rattle.demands.specs.Steps.{Machine, MeetsAll, ranSteps, logSteps}
-use Rattle.delays.specs.OnceEach.{OnceEach, OnceEachEven, OnceEachOpened, OnceEachRestarted, NoneForAnother, DecidesAcross, WindowHolds, SpacedSends, UpAtFirstIsOnce, BeginningsKeep}
+use Rattle.delays.specs.OnceEach.{OnceEach, OnceEachEven, OnceEachOpened, OnceEachRestarted, NoneForAnother, NoneTwice, DecidesAcross, WindowHolds, FewerTicks, SpacedSends, UpAtFirstIsOnce, BeginningsKeep}
 use Rattle.delays.specs.Least.{LeastConstants}
 use Rattle.delays.specs.ByNumber.{Sharp, TrafficSharp}
 
@@ -13,6 +13,7 @@ pub record Delays (receive : Receiver) : Type 0 where
   pub once-each-opened : OnceEachOpened receive
   pub once-each-restarted : OnceEachRestarted (log receive) (run receive)
   pub none-for-another : NoneForAnother (log receive)
+  pub none-twice : NoneTwice (log receive)
   pub decides-across : DecidesAcross (log receive)
 
 -- and of one with the batch beside it.
@@ -21,13 +22,15 @@ pub record DelaysSteps (m : Machine) : Type 0 where
   pub once-each : OnceEach (logSteps m)
   pub once-each-restarted : OnceEachRestarted (logSteps m) (ranSteps m)
   pub none-for-another : NoneForAnother (logSteps m)
+  pub none-twice : NoneTwice (logSteps m)
   pub decides-across : DecidesAcross (logSteps m)
 
 pub record Theorems : Type 0 where
   pub delays : (receive : Receiver) → MeetsContract receive → Delays receive
   pub delays-steps : (m : Machine) → MeetsAll m → DelaysSteps m
-  -- What the window is needed for, what exactly once means, and what an even sender keeps to.
+  -- What the window and the reset time are needed for, what exactly once means, and what an even sender keeps to.
   pub window-holds : WindowHolds
+  pub fewer-ticks : FewerTicks
   pub up-at-first-is-once : UpAtFirstIsOnce
   pub spaced-sends : SpacedSends
   pub beginnings-keep : BeginningsKeep

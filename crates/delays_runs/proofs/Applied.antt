@@ -16,8 +16,10 @@ use Rattle.delays.specs.ByNumber.{new, calls, timeOf, line, traffic, b, L, R, b
 use Rattle.delays.proofs.ByNumber.{sharp, traffic-sharp}
 use Rattle.delays.proofs.Theorems as delays
 use Rattle.delays_runs.specs.DelaysRuns.{slow, outage, around, slowWindow, bursts, burst, volleys, hush, volleyWindow, old, again, pause, wide, far, wideWindow, steps}
+use Rattle.delays_runs.specs.DelaysNeeded.{twice}
 use Rattle.delays_runs.specs.Applied.{Applied, AppliedSteps}
 use Rattle.delays_runs.proofs.DelaysRuns.{round-sharp, bursts-shown, bursts-round, restart, wide-shown, in-batches}
+use Rattle.delays_runs.proofs.DelaysNeeded.{fewer-needed}
 use Rattle.delays_runs.proofs.Computing.{running}
 
 of-the-receiver : Applied theReceiver
@@ -41,6 +43,8 @@ of-the-receiver =
       bursts-round = d .none-for-another (volleys 0) 65531 0 hush (new (volleyWindow 0) 5) 0 (calls (volleys 0) hush) (bursts-round .right .gives .fresh)
           (bursts-round .right .gives .timed) (bursts-round .right .keeps) (bursts-round .right .often) (bursts-round .right .long)
           (bursts-round .right .sends) (lit≤ tt);
+      one-tick-more = d .none-twice (new L (R + 1)) 0 (calls line (twice 7 7)) (twice 7 7) (fewer-needed .right .fresh) (fewer-needed .right .timed)
+          (fewer-needed .fewer) (fewer-needed .near);
       opened = d .once-each-opened busy 1 [] missed caught (address 1) 0 inTraffic (timeOf busy) (blank ∷ []) (new inTraffic (timeOf busy)) 0 (calls busy caught)
           refl refl (traffic-sharp .right .timed) (traffic-sharp .lawful .sends) (traffic-sharp .lawful .keeps) (traffic-sharp .lawful .loses)
           (lit≤ tt) (lit≤ tt);

@@ -13,7 +13,7 @@ use Rattle.delays.specs.OnceEach.{Kind, copy, close}
 use Rattle.delays.specs.ByNumber.{new, line, b}
 use Rattle.delays.proofs.Losing.{loses-by}
 use Rattle.delays_runs.specs.DelaysRuns.{hole, level, again}
-use Rattle.delays_runs.specs.DelaysNeeded.{DelaysNeeded, TicksNeeded, BegunNeeded, anew, twice, sooner, pair, falling, fallen}
+use Rattle.delays_runs.specs.DelaysNeeded.{DelaysNeeded, FewerNeeded, TicksNeeded, BegunNeeded, anew, twice, sooner, pair, falling, fallen}
 use Rattle.delays_runs.proofs.Hole.{not-losing}
 use Rattle.delays_runs.proofs.Computing.{running}
 
@@ -120,6 +120,18 @@ delays-needed = record {
     given = refl;
     wanted = refl;
   };
+}
+
+pub fewer-needed : FewerNeeded
+unfolding running
+fewer-needed = record {
+  least = (refl, refl);
+  as-many = refl;
+  wrong = record { fresh = fresh 5 4 refl; timed = record { order = refl; numbered = refl }; given = refl };
+  fewer = refl;
+  near = refl;
+  right = record { fresh = fresh 5 5 refl; timed = record { order = refl; numbered = refl }; given = refl };
+  round = (refl, refl);
 }
 
 pub ticks-needed : TicksNeeded

@@ -16,6 +16,7 @@ use Rattle.delays.specs.Formulas.{leastWindow}
 use Rattle.delays.specs.Line.{came, ticked, indices}
 use Rattle.delays.specs.OnceEach.{upAtFirst, Judged}
 use Rattle.delays.specs.ByNumber.{new, calls, timeOf, line, traffic, L, R, busy, caught, inTraffic}
+use Rattle.delays_runs.specs.DelaysNeeded.{twice}
 use Rattle.delays_runs.specs.DelaysRuns.{slow, outage, slowWindow, bursts, burst, volleys, hush, volleyWindow, old, again, pause, wide, far, wideWindow, steps}
 
 abbrev pub opens : Call
@@ -31,6 +32,8 @@ pub record Applied (receive : Receiver) : Type 0 where
   pub round-once : distinct (handedOf (verdicts (log receive 0 (new (slowWindow 1) 10) (calls (slow 1) (outage 1)))) (indices (outage 1))) ≡ true
   -- the same of a sender of bursts
   pub bursts-round : Judged (volleyWindow 0) 5 (verdicts (log receive 0 (new (volleyWindow 0) 5) (calls (volleys 0) hush))) hush
+  -- a tick that comes too soon, with R one more
+  pub one-tick-more : Judged L (R + 1) (verdicts (log receive 0 (new L (R + 1)) (calls line (twice 7 7)))) (twice 7 7)
   -- opened in the middle of traffic, in a table of one free slot
   pub opened : verdicts (log receive 0 (receive (blank ∷ []) opens .table) (calls busy caught)) ≡ upAtFirst (indices caught)
   -- one longer than R tau + J

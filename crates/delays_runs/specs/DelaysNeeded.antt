@@ -19,10 +19,10 @@ use Rattle.demands.specs.Examples.{address, from}
 use Rattle.demands.specs.Needed.{All, AllBut}
 use Rattle.delays.specs.Formulas.{apartIn, leastWindow, span}
 use Rattle.delays.specs.Line.{Known, most, J, Sends, Event, came, ticked, indices, kept, Keeps, frequent, Loses}
-use Rattle.delays.specs.Forgetting.{forgetting}
-use Rattle.delays.specs.OnceEach.{kinds, kindOf, Timed, upAtFirst, windowFor, copiesBy}
-use Rattle.delays.specs.ByNumber.{new, calls, timeOf, Lawful, Gives, line, b, L, R}
-use Rattle.delays_runs.specs.DelaysRuns.{beats, slow, around, slowWindow, hole, again, pause, level}
+use Rattle.delays.specs.Forgetting.{forgetting, allNearSince}
+use Rattle.delays.specs.OnceEach.{kinds, kindOf, Timed, upAtFirst, windowFor, fewerBetween, copiesBy}
+use Rattle.delays.specs.ByNumber.{new, calls, timeOf, Lawful, Gives, line, traffic, b, L, R}
+use Rattle.delays_runs.specs.DelaysRuns.{beats, slow, outage, around, slowWindow, hole, again, pause, level}
 
 -- ---- of `OnceEach`, one by one
 
@@ -103,6 +103,21 @@ pub record DelaysNeeded : Type 0 where
   -- a stream that has handed up an index.
   pub begun : Breaks 0 line b (came 0 4 ∷ []) (run theReceiver (new L R) (calls line (came 0 2 ∷ []))) (calls line (came 0 4 ∷ []))
       (duplicate ∷ []) (up ∷ [])
+
+-- ---- of `NoneTwice`: as many ticks as R
+
+pub record FewerNeeded : Type 0 where
+  -- With R by the formula fewer fall between two copies (`FewerTicks`), and in the run of `Sharp` by no more than one.
+  pub least : (fewerBetween R traffic ≡ true) × (fewerBetween (R - 1) traffic ≡ false)
+  -- Four ticks between two copies, since one comes too soon (`ticks` of `DelaysNeeded`): as many as R.
+  pub as-many : fewerBetween R (twice 7 7) ≡ false
+  pub wrong : Gives line (twice 7 7) (new L R) (up ∷ up ∷ [])
+  -- R one more, as the receivers of host/ have it
+  pub fewer : fewerBetween (R + 1) (twice 7 7) ≡ true
+  pub near : allNearSince L (R + 1) 0 [] (twice 7 7) ≡ true
+  pub right : Gives line (twice 7 7) (new L (R + 1)) (up ∷ duplicate ∷ [])
+  -- numbers that come round, and no index twice: `wrong` of `RoundSharp`
+  pub round : (fewerBetween 10 (outage 2) ≡ true) × (allNearSince (slowWindow 2) 10 0 [] (outage 2) ≡ false)
 
 -- ---- of `NoneForAnother`: ticks that stay away
 
