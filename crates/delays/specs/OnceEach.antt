@@ -11,9 +11,9 @@ use Rattle.record.specs.Sizes.{vectorRule}
 use Rattle.stream.specs.Record.{lawful}
 use Rattle.stream.specs.Decisions.{Verdict, up, duplicate}
 use Rattle.calls.specs.Table.{Table, at}
-use Rattle.calls.specs.Calls.{Call, opening, placed}
+use Rattle.calls.specs.Calls.{opening, placed}
 use Rattle.demands.specs.Receiver.{Receiver}
-use Rattle.demands.specs.Seen.{Seen, arrived, tick, ended, nothing, log, numbers, verdicts}
+use Rattle.demands.specs.Seen.{Seen, arrived, tick, ended, nothing, numbers, verdicts}
 use Rattle.demands.specs.Unlimited.{elem}
 use Rattle.demands.specs.Demand3.{numberOf}
 use Rattle.demands.specs.Corollaries.{handedOf, distinct}
@@ -131,16 +131,16 @@ abbrev pub FewerTicks : Type 0
 FewerTicks = (k : Known) (start : ℕ) (es : List Event) → Keeps k start es → fewerBetween (leastTime (J k) (k .tau)) es ≡ true
 
 -- From an open with L and R on.
-abbrev pub OnceEachOpened : Receiver → Type 0
-OnceEachOpened receive =
-    (k : Known) (b : ℕ) (still : List ℕ) (before es : List Event) (dest : List ℕ) (vlan window time : ℕ) (t u : Table) (i : ℕ) (calls : List Call)
+abbrev pub OnceEachOpened : {A : Type 0} → Receiver → Sees A → Type 0
+OnceEachOpened {A} receive sees =
+    (k : Known) (b : ℕ) (still : List ℕ) (before es : List Event) (dest : List ℕ) (vlan window time : ℕ) (t u : Table) (i : ℕ) (run : A)
     → receive t (opening dest vlan vectorRule window time) .said ≡ answers (placed i)
     → receive t (opening dest vlan vectorRule window time) .table ≡ u
-    → Timed (log receive) u i calls es
+    → Timed sees u i run es
     → Sends k (J k) b → Keeps k 0 (before ++ es) → Loses k still (before ++ es)
     → windowFor before b (k .m) ≤ window
     → leastTime (J k) (k .tau) ≤ time
-    → verdicts (log receive i u calls) ≡ upAtFirst (indices es)
+    → verdicts (sees i u run) ≡ upAtFirst (indices es)
 
 -- ---- outages: any number may be lost in a row
 

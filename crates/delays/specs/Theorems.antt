@@ -10,7 +10,7 @@ use Rattle.delays.specs.ByNumber.{Sharp, TrafficSharp}
 pub record Delays (receive : Receiver) : Type 0 where
   pub once-each-even : OnceEachEven (log receive)
   pub once-each : OnceEach (log receive)
-  pub once-each-opened : OnceEachOpened receive
+  pub once-each-opened : OnceEachOpened receive (log receive)
   pub once-each-restarted : OnceEachRestarted (log receive) (run receive)
   pub none-for-another : NoneForAnother (log receive)
   pub none-twice : NoneTwice (log receive)
@@ -20,6 +20,7 @@ pub record Delays (receive : Receiver) : Type 0 where
 pub record DelaysSteps (m : Machine) : Type 0 where
   pub once-each-even : OnceEachEven (logSteps m)
   pub once-each : OnceEach (logSteps m)
+  pub once-each-opened : OnceEachOpened (m .receive) (logSteps m)
   pub once-each-restarted : OnceEachRestarted (logSteps m) (ranSteps m)
   pub none-for-another : NoneForAnother (logSteps m)
   pub none-twice : NoneTwice (logSteps m)

@@ -9,7 +9,7 @@ use Rattle.demands.specs.Steps.{Machine, MeetsAll, theMachine}
 use Rattle.demands.specs.Examples.{address}
 use Rattle.demands.proofs.Alike.{carried, the-receiver-meets}
 use Rattle.demands.proofs.Stepping.{the-machine-meets}
-use Rattle.demands.proofs.Stepping as stepping
+use Rattle.demands.proofs.Stepping as steps-proofs
 use Rattle.delays.specs.Formulas.{leastWindow}
 use Rattle.delays.specs.Line.{came, ticked}
 use Rattle.delays.specs.ByNumber.{new, calls, timeOf, line, traffic, b, L, R, busy, missed, caught, inTraffic}
@@ -20,7 +20,7 @@ use Rattle.delays_runs.specs.DelaysNeeded.{twice}
 use Rattle.delays_runs.specs.Applied.{Applied, AppliedSteps}
 use Rattle.delays_runs.proofs.DelaysRuns.{round-sharp, bursts-shown, bursts-round, restart, wide-shown, in-batches}
 use Rattle.delays_runs.proofs.DelaysNeeded.{fewer-needed}
-use Rattle.delays_runs.proofs.Computing.{running}
+use Rattle.delays_runs.proofs.Computing.{running, stepping}
 
 of-the-receiver : Applied theReceiver
 unfolding running
@@ -58,11 +58,15 @@ pub applied : {receive : Receiver} → MeetsContract receive → Applied receive
 applied m = carried Applied of-the-receiver m
 
 of-the-machine : AppliedSteps theMachine
-unfolding running
-of-the-machine = record {
-  in-batches = delays.theorems .delays-steps theMachine the-machine-meets .once-each line b [] [] traffic (new L R) 0 steps (in-batches .fresh)
-      (in-batches .timed) (sharp .lawful .sends) (sharp .lawful .keeps) (sharp .lawful .loses) (lit≤ tt) (lit≤ tt);
-}
+unfolding stepping
+of-the-machine =
+    let d = delays.theorems .delays-steps theMachine the-machine-meets in
+    record {
+      in-batches = d .once-each line b [] [] traffic (new L R) 0 steps (in-batches .fresh) (in-batches .timed) (sharp .lawful .sends) (sharp .lawful .keeps)
+          (sharp .lawful .loses) (lit≤ tt) (lit≤ tt);
+      opened = d .once-each-opened line b [] [] traffic (address 1) 0 L R (blank ∷ []) (new L R) 0 steps refl refl (in-batches .timed) (sharp .lawful .sends)
+          (sharp .lawful .keeps) (sharp .lawful .loses) (lit≤ tt) (lit≤ tt);
+    }
 
 pub applied-steps : {m : Machine} → MeetsAll m → AppliedSteps m
-applied-steps m = stepping.carried AppliedSteps of-the-machine m
+applied-steps m = steps-proofs.carried AppliedSteps of-the-machine m

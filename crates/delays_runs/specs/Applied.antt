@@ -1,6 +1,6 @@
 -- The statements of `delays` applied to runs at their bounds, of every receiver that meets the contract: none asks for more than
 -- these runs keep to. Assumes nothing.
-use Prim.Native.Nat.{_+_}
+use Prim.Native.Nat.{ℕ, _+_}
 use mathlib.Core.Path.{_≡_}
 use mathlib.Core.Bool.{true}
 use mathlib.Core.List.{[], _∷_, _++_}
@@ -19,8 +19,9 @@ use Rattle.delays.specs.ByNumber.{new, calls, timeOf, line, traffic, L, R, busy
 use Rattle.delays_runs.specs.DelaysNeeded.{twice}
 use Rattle.delays_runs.specs.DelaysRuns.{slow, outage, slowWindow, bursts, burst, volleys, hush, volleyWindow, old, again, pause, wide, far, wideWindow, steps}
 
-abbrev pub opens : Call
-opens = opening (address 1) 0 vectorRule inTraffic (timeOf busy)
+-- An open of the stream, below in a table of one free slot.
+abbrev pub opens : (window time : ℕ) → Call
+opens window time = opening (address 1) 0 vectorRule window time
 
 pub record Applied (receive : Receiver) : Type 0 where
   pub sharp : verdicts (log receive 0 (new L R) (calls line traffic)) ≡ upAtFirst (indices traffic)
@@ -34,8 +35,8 @@ pub record Applied (receive : Receiver) : Type 0 where
   pub bursts-round : Judged (volleyWindow 0) 5 (verdicts (log receive 0 (new (volleyWindow 0) 5) (calls (volleys 0) hush))) hush
   -- a tick that comes too soon, with R one more
   pub one-tick-more : Judged L (R + 1) (verdicts (log receive 0 (new L (R + 1)) (calls line (twice 7 7)))) (twice 7 7)
-  -- opened in the middle of traffic, in a table of one free slot
-  pub opened : verdicts (log receive 0 (receive (blank ∷ []) opens .table) (calls busy caught)) ≡ upAtFirst (indices caught)
+  -- opened in the middle of traffic
+  pub opened : verdicts (log receive 0 (receive (blank ∷ []) (opens inTraffic (timeOf busy)) .table) (calls busy caught)) ≡ upAtFirst (indices caught)
   -- one longer than R tau + J
   pub restart :
       verdicts (log receive 0 (run receive (new L R) (calls line (old ++ (ticked 19 ∷ []))))
@@ -45,3 +46,4 @@ pub record Applied (receive : Receiver) : Type 0 where
 -- The same with the batch beside it.
 pub record AppliedSteps (m : Machine) : Type 0 where
   pub in-batches : verdicts (logSteps m 0 (new L R) steps) ≡ upAtFirst (indices traffic)
+  pub opened : verdicts (logSteps m 0 (m .receive (blank ∷ []) (opens L R) .table) steps) ≡ upAtFirst (indices traffic)
