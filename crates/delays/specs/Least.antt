@@ -1,4 +1,5 @@
--- No smaller L or R will do, whatever the delays are. Assumes nothing.
+-- No smaller L or R will do, whatever T, J, m and tau are: some run that keeps to these four goes wrong. (They do not say that ticks come
+-- in time, and the runs for L have none. Where a row of losses lasts R ticks the stream is reset, and a smaller L would do.) Assumes nothing.
 use Prim.Native.Nat.{ℕ, _+_, _*_, _≤_, _<_}
 use mathlib.Core.Path.{_≡_}
 use mathlib.Core.List.{List, [], _++_, map}

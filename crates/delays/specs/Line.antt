@@ -17,7 +17,7 @@ pub record Known : Type 0 where
   pub tauMost : ℕ  -- and the most
   pub m : ℕ  -- how many indices in a row have no copy that arrives, at most
 
--- The delays over both networks, and their spread J.
+-- The delays over both networks, and their spread J. (Only these are asked for below: a copy is not held to its own network.)
 unfoldable pub least : Known → ℕ
 least k = min (k .least0) (k .least1)
 

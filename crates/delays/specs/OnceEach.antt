@@ -91,6 +91,18 @@ OnceEachEven {A} sees =
     → leastTime (J k) (k .tau) ≤ at t i .time
     → ExactlyOnce (verdicts (sees i t run)) (indices es)
 
+-- From an open with L and R on.
+abbrev pub OnceEachOpened : {A : Type 0} → Receiver → Sees A → Type 0
+OnceEachOpened {A} receive sees =
+    (k : Known) (b : ℕ) (still : List ℕ) (before es : List Event) (dest : List ℕ) (vlan window time : ℕ) (t u : Table) (i : ℕ) (run : A)
+    → receive t (opening dest vlan vectorRule window time) .said ≡ answers (placed i)
+    → receive t (opening dest vlan vectorRule window time) .table ≡ u
+    → Timed sees u i run es
+    → Sends k (J k) b → Keeps k 0 (before ++ es) → Loses k still (before ++ es)
+    → windowFor before b (k .m) ≤ window
+    → leastTime (J k) (k .tau) ≤ time
+    → verdicts (sees i u run) ≡ upAtFirst (indices es)
+
 -- A run may end anywhere: of a run that keeps to a line every beginning does, and of what comes later a copy may yet come. So these
 -- statements hold all along an endless run.
 abbrev pub BeginningsKeep : Type 0
@@ -114,7 +126,7 @@ DecidesAcross {A} sees =
 
 -- Third: a reset by tick comes behind the last copy of what it forgets, since fewer than R ticks fall between two copies of one index.
 
--- No copy of x comes behind so many ticks.
+-- Behind the first so many ticks there is no copy of x.
 unfoldable pub noneBehind : (ticks x : ℕ) → List Event → Bool
 noneBehind zero x es = not (elem x (indices es))
 noneBehind (suc n) x [] = true
@@ -130,18 +142,6 @@ fewerBetween n (ticked c ∷ es) = fewerBetween n es
 abbrev pub FewerTicks : Type 0
 FewerTicks = (k : Known) (start : ℕ) (es : List Event) → Keeps k start es → fewerBetween (leastTime (J k) (k .tau)) es ≡ true
 
--- From an open with L and R on.
-abbrev pub OnceEachOpened : {A : Type 0} → Receiver → Sees A → Type 0
-OnceEachOpened {A} receive sees =
-    (k : Known) (b : ℕ) (still : List ℕ) (before es : List Event) (dest : List ℕ) (vlan window time : ℕ) (t u : Table) (i : ℕ) (run : A)
-    → receive t (opening dest vlan vectorRule window time) .said ≡ answers (placed i)
-    → receive t (opening dest vlan vectorRule window time) .table ≡ u
-    → Timed sees u i run es
-    → Sends k (J k) b → Keeps k 0 (before ++ es) → Loses k still (before ++ es)
-    → windowFor before b (k .m) ≤ window
-    → leastTime (J k) (k .tau) ≤ time
-    → verdicts (sees i u run) ≡ upAtFirst (indices es)
-
 -- ---- outages: any number may be lost in a row
 
 -- "None is taken for another": each arrival is judged by its index, by the receiver that forgets nothing but at a reset by tick; and
@@ -150,8 +150,8 @@ pub record Judged (window time : ℕ) (vs : List Verdict) (es : List Event) : Ty
   pub verdicts : vs ≡ forgetting window time 0 [] es
   pub once : distinct (handedOf vs (indices es)) ≡ true
 
--- That is so whatever the times are, if fewer than R ticks fall between two copies of one index: with ticks that come too soon now and
--- then too, as long as R is more than there can be.
+-- That is so whatever the times are, if fewer than R ticks fall between two copies of one index and the numbers do not come round: also
+-- where ticks come too soon now and then, as long as R is more than fall there.
 abbrev pub NoneTwice : {A : Type 0} → Sees A → Type 0
 NoneTwice {A} sees =
     (t : Table) (i : ℕ) (run : A) (es : List Event) → FreshVector (at t i) → Timed sees t i run es
@@ -188,7 +188,7 @@ pub record Silence {A : Type 0} (sees : Sees A) (k : Known) (start last x a : �
   pub over : copiesBy start (last + most k) es ≡ true
   pub ticks : frequent (k .tauMost) (start + k .tauMost) (es ++ came x a ∷ []) ≡ true
 
--- If x was sent more than R tau + J behind the last of the old count, the new one is exactly once from its first copy on.
+-- If x was sent more than R tauMost + J behind the last of the old count, the new one is exactly once from its first copy on.
 abbrev pub OnceEachRestarted : {A : Type 0} → Sees A → (ran : Table → A → Table) → Type 0
 OnceEachRestarted {A} sees ran =
     (k : Known) (b : ℕ) (still : List ℕ) (start last x a : ℕ) (was es : List Event) (t : Table) (i : ℕ) (old new : A)

@@ -6,10 +6,10 @@ use Rattle.demands.specs.Corollaries.{handedOf, distinct}
 use Rattle.demands.specs.Steps.{theMachine, tableOf, ranSteps, seenIn, seenOfStep, logSteps}
 use Rattle.delays.proofs.Computing.{timing}
 use Rattle.delays_runs.specs.DelaysRuns.{beats, slow, outage, hole, bursts, burst, volleys, hush, old, again, lull, back, level, wide, far, steps}
-use Rattle.delays_runs.specs.DelaysNeeded.{tardy, older, since, anew, twice, sooner, pair, falling, fallen}
+use Rattle.delays_runs.specs.DelaysNeeded.{tardy, older, overdue, anew, twice, sooner, pair, falling, fallen}
 
 unfoldable pub running : Unit {0}
-unfolding timing handedOf distinct beats slow outage tardy hole bursts burst volleys hush old again older since anew lull back level wide far twice sooner pair falling fallen
+unfolding timing handedOf distinct beats slow outage tardy hole bursts burst volleys hush old again older overdue anew lull back level wide far twice sooner pair falling fallen
 running = tt
 
 -- and with a batch

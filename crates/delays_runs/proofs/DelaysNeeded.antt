@@ -13,7 +13,7 @@ use Rattle.delays.specs.OnceEach.{Kind, copy, close}
 use Rattle.delays.specs.ByNumber.{new, line, b}
 use Rattle.delays.proofs.Losing.{loses-by}
 use Rattle.delays_runs.specs.DelaysRuns.{hole, level, again}
-use Rattle.delays_runs.specs.DelaysNeeded.{DelaysNeeded, FewerNeeded, TicksNeeded, BegunNeeded, anew, twice, sooner, pair, falling, fallen}
+use Rattle.delays_runs.specs.DelaysNeeded.{DelaysNeeded, FewerNeeded, TicksNeeded, SilenceNeeded, anew, twice, sooner, pair, falling, fallen}
 use Rattle.delays_runs.proofs.Hole.{not-losing}
 use Rattle.delays_runs.proofs.Computing.{running}
 
@@ -146,22 +146,17 @@ ticks-needed = record {
   wanted = refl;
 }
 
-pub begun-needed : BegunNeeded
+pub silence-needed : SilenceNeeded
 unfolding running
-begun-needed = record {
-  vector = refl;
-  lawful = refl;
-  order = refl;
-  broken = refl;
-  over = refl;
-  ticks = refl;
+silence-needed = record {
   longer = omega arith;
-  timed = record { order = refl; numbered = refl };
   kept = record {
     sends = record { rises = λ x. omega arith; within = λ x n p. omega (arith, p) };
     keeps = record { some = lit≤ tt; kept = refl };
     loses = loses-by (again 14) [] anew refl refl;
   };
-  given = refl;
   wanted = refl;
+  begun = record { broken = (refl, (refl, (refl, (λ p. omega arith, (refl, (refl, tt)))))); timed = record { order = refl; numbered = refl }; given = refl };
+  over = record { broken = (refl, (refl, (refl, (lit≤ tt, (false≢true, (refl, tt)))))); timed = record { order = refl; numbered = refl }; given = refl };
+  ticks = record { broken = (refl, (refl, (refl, (lit≤ tt, (refl, (false≢true, tt)))))); timed = record { order = refl; numbered = refl }; given = refl };
 }

@@ -22,7 +22,7 @@ use Rattle.delays.specs.Line.{Known, most, J, Sends, Event, came, ticked, indic
 use Rattle.delays.specs.Forgetting.{forgetting, allNearSince}
 use Rattle.delays.specs.OnceEach.{kinds, kindOf, Timed, upAtFirst, windowFor, fewerBetween, copiesBy}
 use Rattle.delays.specs.ByNumber.{new, calls, timeOf, Lawful, Gives, line, traffic, b, L, R}
-use Rattle.delays_runs.specs.DelaysRuns.{beats, slow, outage, around, slowWindow, hole, again, pause, level}
+use Rattle.delays_runs.specs.DelaysRuns.{beats, slow, outage, around, slowWindow, hole, old, again, pause, level}
 
 -- ---- of `OnceEach`, one by one
 
@@ -135,40 +135,47 @@ pub record TicksNeeded : Type 0 where
   pub gives : Gives (slow 1) tardy (new (slowWindow 1) 10) (up ∷ up ∷ duplicate ∷ [])
   pub wanted : forgetting (slowWindow 1) 10 0 [] tardy ≡ up ∷ rogue ∷ up ∷ []
 
--- ---- of `OnceEachRestarted`: looked at too late
+-- ---- of `OnceEachRestarted`: no silence
 
 -- The old count of `Restart`, up to its last copy.
 unfoldable pub older : List Event
 older = ticked 7 ∷ came 0 7 ∷ ticked 9 ∷ came 1 9 ∷ ticked 11 ∷ came 2 11 ∷ []
 
--- The next tick comes at 14, one later than it may, and two more.
-unfoldable pub since : List Event
-since = beats 3 12 2
+-- The same, where the last copy comes later than it may, just behind a tick; and three ticks.
+unfoldable pub overdue : List Event
+overdue = ticked 7 ∷ came 0 7 ∷ ticked 9 ∷ came 1 9 ∷ ticked 11 ∷ ticked 13 ∷ came 2 13 ∷ beats 3 13 2
 
--- Silent for longer than R tau + J: the new count begins when it does in `right` of `Restart`.
+-- Silent for longer than R tauMost + J: the new count begins when it does in `right` of `Restart`, and its 0 comes at 20.
 abbrev pub renewed : Known
 renewed = again (pause + 1)
 
 unfoldable pub anew : List Event
 anew = came 0 20 ∷ ticked 20 ∷ came 1 22 ∷ []
 
-abbrev pub afterOlder : Table
-afterOlder = run theReceiver (new L R) (calls line older)
+-- What it asks for of the old count: 0 vector, 1 lawful, 2 order, 3 begun, 4 over, 5 ticks.
+abbrev pub silent : (start : ℕ) → Table → (was : List Event) → List (Type 0)
+silent start t was =
+    (at t 0 .rule ≡ vectorRule)
+    ∷ (lawful (at t 0) ≡ true)
+    ∷ (kinds (log theReceiver 0 t (calls line was)) ≡ map kindOf was)
+    ∷ (start ≤ line .sent 2 + most renewed)
+    ∷ (copiesBy start (line .sent 2 + most renewed) was ≡ true)
+    ∷ (frequent (renewed .tauMost) (start + renewed .tauMost) (was ++ came 0 20 ∷ []) ≡ true)
+    ∷ []
 
-abbrev pub afterSince : Table
-afterSince = run theReceiver afterOlder (calls line since)
+-- A run that breaks one alone. The new 0 comes before the fourth tick, and is taken for the old one: a command is lost.
+pub record SilenceBreaks (place start : ℕ) (t : Table) (was : List Event) : Type 0 where
+  pub broken : AllBut place (silent start t was)
+  pub timed : Timed (log theReceiver) (run theReceiver t (calls line was)) 0 (calls renewed anew) anew
+  pub given : verdicts (log theReceiver 0 (run theReceiver t (calls line was)) (calls renewed anew)) ≡ duplicate ∷ up ∷ []
 
--- What `OnceEachRestarted` asks for but for `begun` of `Silence`: the run is looked at from 12 on, one too late, and so the tick that is
--- late is not seen to be. 0 comes just before the fourth tick, and is taken for the old one. A command is lost.
-pub record BegunNeeded : Type 0 where
-  pub vector : at afterOlder 0 .rule ≡ vectorRule
-  pub lawful : lawful (at afterOlder 0) ≡ true
-  pub order : kinds (log theReceiver 0 afterOlder (calls line since)) ≡ map kindOf since
-  pub broken : 12 ≡ line .sent 2 + most renewed + 1
-  pub over : copiesBy 12 (line .sent 2 + most renewed) since ≡ true
-  pub ticks : frequent (renewed .tauMost) (12 + renewed .tauMost) (since ++ came 0 20 ∷ []) ≡ true
+pub record SilenceNeeded : Type 0 where
   pub longer : line .sent 2 + pause < renewed .sent 0
-  pub timed : Timed (log theReceiver) afterSince 0 (calls renewed anew) anew
   pub kept : Lawful renewed b [] anew
-  pub given : verdicts (log theReceiver 0 afterSince (calls renewed anew)) ≡ duplicate ∷ up ∷ []
   pub wanted : upAtFirst (indices anew) ≡ up ∷ up ∷ []
+  -- looked at from 12 on, one too late, and so the tick at 14, one later than it may come, is not seen to be late;
+  pub begun : SilenceBreaks 3 12 (run theReceiver (new L R) (calls line older)) (beats 3 12 2)
+  -- an old copy that comes too late;
+  pub over : SilenceBreaks 4 5 (new L R) overdue
+  -- no tick at 19.
+  pub ticks : SilenceBreaks 5 5 (new L R) old

@@ -50,7 +50,8 @@ gotSteps m i t (s ∷ ss) = gotFrom m i t s ++ gotSteps m i (tableOf m t s) ss
 abbrev pub GotAsCalls : Machine → Type 0
 GotAsCalls m = (t : Table) (i : ℕ) (ss : List Step) → gotSteps m i t ss ≡ got (m .receive) i t (readAs m t ss)
 
--- It may as well go by the two length bytes: in front of each frame that it finds so they tell how long it is.
+-- The two bytes in front of each frame that it finds so are its length: it may as well go along the output by them. (How many frames
+-- there are, and of which stream, the answers tell.)
 unfoldable pub lengthsStand : List (Option (Said Answer)) → (output : List ℕ) → Bool
 lengthsStand [] output = true
 lengthsStand (none ∷ rest) output = lengthsStand rest output

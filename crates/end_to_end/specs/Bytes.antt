@@ -87,7 +87,7 @@ BytesToBytes receive side =
     → Between receive side k b still before es s sending t i calls places
     → got receive i t calls ≡ givenAt (sent side s sending) (onceEach [] places)
 
--- The same of a sender that was reset, from the first copy of its new count on, if it was silent for longer than R tau + J.
+-- The same of a sender that was reset, from the first copy of its new count on, if it was silent for longer than R tauMost + J.
 abbrev pub BytesToBytesRestarted : Receiver → Side → Type 0
 BytesToBytesRestarted receive side =
     (k : Known) (b : ℕ) (still : List ℕ) (start last x a : ℕ) (was es : List Event) (s : Sender) (sending : List sends.Call) (t : Table) (i : ℕ) (old new : List Call) (places : List ℕ)

@@ -1,6 +1,6 @@
 -- From bytes to bytes over PRP lines (order 7): a copy of a sent frame that is turned to PRP for the network that it goes out on, and
--- turned from PRP where it comes, is that copy again. So what is asked of copies (`FromSender`) is met over such a line as over any
--- other, if its frames come unchanged. Assumes nothing.
+-- turned from PRP where it comes, is that copy again. So what is asked of the frames that a stream hears (`FromSender`) is met over such
+-- a line as over any other, if its frames come unchanged and no other frame is taken for one of the stream's. Assumes nothing.
 use Prim.Native.Nat.{ℕ, _+_, _≤_}
 use mathlib.Core.Path.{_≡_}
 use mathlib.Core.List.{List, [], _∷_, _++_}
@@ -26,7 +26,7 @@ SentOverPrp side =
     → (t : Turn) × (toOf (trailerOf kind) network f ≡ answers t)
     × (fromOf (trailerOf kind) (t .frame) ≡ answers (record { network = network; number = numberOf (s .next + k); frame = f }))
 
--- The same of the two calls, with any buffers that have room for it: neither refuses.
+-- The same of the two calls, with any buffers that have room for the copy (on the line it is no longer): neither refuses.
 abbrev pub SentOverPrpCalls : Side → Type 0
 SentOverPrpCalls side =
     (s : Sender) (sending : List sends.Call) (k : ℕ) (f : List ℕ) (kind : Kind) (network : ℕ) (out back : List ℕ)
