@@ -1,11 +1,11 @@
 -- By the theorems, not by computing. Assumes nothing.
 use Prim.Native.Nat.{_+_}
 use mathlib.Core.Path.{refl}
-use mathlib.Core.List.{[], _∷_, _++_}
+use mathlib.Core.List.{[], _∷_, _++_, map}
 use lib.Dec.{lit≤}
 use Rattle.calls.specs.Table.{blank}
 use Rattle.demands.specs.Receiver.{Receiver, MeetsContract, theReceiver}
-use Rattle.demands.specs.Steps.{Machine, MeetsAll, theMachine}
+use Rattle.demands.specs.Steps.{single, Machine, MeetsAll, theMachine}
 use Rattle.demands.specs.Examples.{address}
 use Rattle.demands.proofs.Alike.{carried, the-receiver-meets}
 use Rattle.demands.proofs.Stepping.{the-machine-meets}
@@ -17,7 +17,7 @@ use Rattle.delays.proofs.ByNumber.{sharp, traffic-sharp}
 use Rattle.delays.proofs.Theorems as delays
 use Rattle.delays_runs.specs.DelaysRuns.{slow, outage, around, slowWindow, bursts, burst, volleys, hush, volleyWindow, old, again, pause, wide, far, wideWindow, steps}
 use Rattle.delays_runs.specs.DelaysNeeded.{twice}
-use Rattle.delays_runs.specs.Applied.{Applied, AppliedSteps}
+use Rattle.delays_runs.specs.Applied.{fromZero, Applied, AppliedSteps}
 use Rattle.delays_runs.proofs.DelaysRuns.{round-sharp, bursts-shown, bursts-round, restart, wide-shown, in-batches}
 use Rattle.delays_runs.proofs.DelaysNeeded.{fewer-needed}
 use Rattle.delays_runs.proofs.Computing.{running, stepping}
@@ -39,7 +39,6 @@ of-the-receiver =
       widest = d .once-each wide 0 [] [] far (new wideWindow (timeOf wide)) 0 (calls wide far) (wide-shown .right .fresh)
           (wide-shown .right .timed) (wide-shown .lawful .sends) (wide-shown .lawful .keeps) (wide-shown .lawful .loses) (lit≤ tt) (lit≤ tt);
       round = j;
-      round-once = j .once;
       bursts-round = d .none-for-another (volleys 0) 65531 0 hush (new (volleyWindow 0) 5) 0 (calls (volleys 0) hush) (bursts-round .right .gives .fresh)
           (bursts-round .right .gives .timed) (bursts-round .right .keeps) (bursts-round .right .often) (bursts-round .right .long)
           (bursts-round .right .sends) (lit≤ tt);
@@ -66,6 +65,11 @@ of-the-machine =
           (sharp .lawful .loses) (lit≤ tt) (lit≤ tt);
       opened = d .once-each-opened line b [] [] traffic (address 1) 0 L R (blank ∷ []) (new L R) 0 steps refl refl (in-batches .timed) (sharp .lawful .sends)
           (sharp .lawful .keeps) (sharp .lawful .loses) (lit≤ tt) (lit≤ tt);
+      restart = d .once-each-restarted (again (pause + 1)) b [] 5 (line .sent 2) 0 20 (old ++ (ticked 19 ∷ [])) (ticked 21 ∷ came 1 22 ∷ came 0 25 ∷ []) (new L R) 0
+          (map single (calls line (old ++ (ticked 19 ∷ [])))) (map single (calls (again (pause + 1)) fromZero))
+          (record { vector = refl; lawful = refl; order = refl; begun = lit≤ tt; over = refl; ticks = refl }) (restart .longer)
+          (record { order = refl; numbered = refl }) (restart .right .lawful .sends) (restart .right .lawful .keeps) (restart .right .lawful .loses)
+          (lit≤ tt) (lit≤ tt);
     }
 
 pub applied-steps : {m : Machine} → MeetsAll m → AppliedSteps m

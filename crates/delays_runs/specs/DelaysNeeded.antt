@@ -4,23 +4,26 @@ use Prim.Native.Nat.{ℕ, suc, _+_, _-_, _*_, _/_, _≤_, _<_}
 use mathlib.Core.Path.{_≡_}
 use mathlib.Core.Bool.{true, false}
 use mathlib.Core.List.{List, [], _∷_, _++_, map}
+use Rattle.refusal.specs.Checks.Said.{answers}
 use Rattle.record.specs.Sizes.{vectorRule}
 use Rattle.record.specs.declared.Stream.{Stream}
-use Rattle.stream.specs.Record.{lawful}
+use Rattle.frame.specs.Frame.{destOf}
+use Rattle.stream.specs.Record.{lawful, opened}
 use Rattle.stream.specs.Decisions.{Verdict, up, duplicate, rogue}
 use Rattle.calls.specs.Table.{Table, at}
-use Rattle.calls.specs.Calls.{Call, opening, closing, resetting}
+use Rattle.calls.specs.Calls.{Call, opening, closing, resetting, placed}
 use Rattle.demands.specs.Receiver.{theReceiver, run}
 use Rattle.demands.specs.Seen.{Seen, log, numbers, verdicts}
 use Rattle.demands.specs.Demand3.{numberOf}
-use Rattle.demands.specs.Missed.{FreshVector}
-use Rattle.demands.specs.Steps.{Step, theMachine, logSteps}
+use Rattle.demands.specs.Corollaries.{handedOf, distinct}
+use Rattle.demands.specs.Missed.{FreshVector, ExactlyOnce}
+use Rattle.demands.specs.Steps.{theMachine, logSteps}
 use Rattle.demands.specs.Examples.{address, from}
 use Rattle.demands.specs.Needed.{All, AllBut}
 use Rattle.delays.specs.Formulas.{apartIn, leastWindow, span}
-use Rattle.delays.specs.Line.{Known, most, J, Sends, Event, came, ticked, indices, kept, Keeps, frequent, Loses}
+use Rattle.delays.specs.Line.{Known, most, J, Sends, Spaced, Event, came, ticked, indices, kept, Keeps, frequent, Loses}
 use Rattle.delays.specs.Forgetting.{forgetting, allNearSince}
-use Rattle.delays.specs.OnceEach.{kinds, kindOf, Timed, upAtFirst, windowFor, fewerBetween, copiesBy}
+use Rattle.delays.specs.OnceEach.{Sees, kinds, kindOf, Timed, upAtFirst, windowFor, fewerBetween, copiesBy}
 use Rattle.delays.specs.ByNumber.{new, calls, timeOf, Lawful, Gives, line, traffic, b, L, R}
 use Rattle.delays_runs.specs.DelaysRuns.{beats, slow, outage, around, slowWindow, hole, old, again, pause, level}
 
@@ -41,13 +44,31 @@ asked k b still before es s seen =
     ∷ (timeOf k ≤ s .time)
     ∷ []
 
--- It asks for no more, in any slot, by single calls and with batches.
+-- It asks for no more, in any slot; and what the other statements ask for and give, written out.
+pub record Written {A : Type 0} (sees : Sees A) : Type 0 where
+  pub each : (k : Known) (b : ℕ) (still : List ℕ) (before es : List Event) (t : Table) (i : ℕ) (run : A)
+      → All (asked k b still before es (at t i) (sees i t run)) → verdicts (sees i t run) ≡ upAtFirst (indices es)
+  pub even : (k : Known) (T : ℕ) (still : List ℕ) (before es : List Event) (t : Table) (i : ℕ) (run : A)
+      → FreshVector (at t i) → Timed sees t i run es → Spaced k T → Keeps k 0 (before ++ es) → Loses k still (before ++ es)
+      → windowFor before (J k / T) (k .m) ≤ at t i .window → J k / k .tau + 2 ≤ at t i .time
+      → ExactlyOnce (verdicts (sees i t run)) (indices es)
+  pub twice : (t : Table) (i : ℕ) (run : A) (es : List Event) → FreshVector (at t i) → Timed sees t i run es
+      → fewerBetween (at t i .time) es ≡ true → allNearSince (at t i .window) (at t i .time) 0 [] es ≡ true
+      → (verdicts (sees i t run) ≡ forgetting (at t i .window) (at t i .time) 0 [] es) × (distinct (handedOf (verdicts (sees i t run)) (indices es)) ≡ true)
+  pub another : (k : Known) (c start : ℕ) (es : List Event) (t : Table) (i : ℕ) (run : A)
+      → FreshVector (at t i) → Timed sees t i run es → Keeps k start es → frequent (k .tauMost) (start + k .tauMost) es ≡ true
+      → timeOf k ≤ at t i .time → Sends k (span (at t i .time) (k .tauMost) (J k)) c → c ≤ 65536 - at t i .window
+      → (verdicts (sees i t run) ≡ forgetting (at t i .window) (at t i .time) 0 [] es) × (distinct (handedOf (verdicts (sees i t run)) (indices es)) ≡ true)
+
+-- By single calls and with batches; from an open on; and the ticks between two copies.
 pub record DelaysPremisesAre : Type 0 where
-  pub calls : (k : Known) (b : ℕ) (still : List ℕ) (before es : List Event) (t : Table) (i : ℕ) (calls : List Call)
-      → All (asked k b still before es (at t i) (log theReceiver i t calls)) → verdicts (log theReceiver i t calls) ≡ upAtFirst (indices es)
-  pub steps : (k : Known) (b : ℕ) (still : List ℕ) (before es : List Event) (t : Table) (i : ℕ) (steps : List Step)
-      → All (asked k b still before es (at t i) (logSteps theMachine i t steps))
-      → verdicts (logSteps theMachine i t steps) ≡ upAtFirst (indices es)
+  pub calls : Written (log theReceiver)
+  pub steps : Written (logSteps theMachine)
+  pub opened : (k : Known) (b : ℕ) (still : List ℕ) (before es : List Event) (dest : List ℕ) (vlan window time : ℕ) (t : Table) (i : ℕ) (calls : List Call)
+      → theReceiver t (opening dest vlan vectorRule window time) .said ≡ answers (placed i)
+      → All (asked k b still before es (opened (destOf dest) vlan vectorRule window time) (log theReceiver i (theReceiver t (opening dest vlan vectorRule window time) .table) calls))
+      → verdicts (log theReceiver i (theReceiver t (opening dest vlan vectorRule window time) .table) calls) ≡ upAtFirst (indices es)
+  pub fewer : (k : Known) (start : ℕ) (es : List Event) → 1 ≤ k .tau → kept k start 0 es ≡ true → fewerBetween (J k / k .tau + 2) es ≡ true
 
 -- A run that breaks one alone, its verdicts and those that it should have.
 pub record Breaks (place : ℕ) (k : Known) (b : ℕ) (es : List Event) (t : Table) (calls : List Call) (vs ws : List Verdict) : Type 0 where

@@ -16,7 +16,7 @@ use Rattle.end_to_end.proofs.Runs.{computing as running, spaced}
 
 pub batch-got : BatchGot
 unfolding computing flatMap overlay runsPast framesIn addsFor ends turnsIn comesTo reached tableAfter packed before answersOf bundle batchOf theMachine tableOf callsOf readAs gotOf got takes lengthsStand gotIn gotFrom gotSteps plain numbered four fourAndOne
-batch-got = record { answered = refl; output = refl; lengths = refl; first-wrong = refl; second-wrong = refl; slot-0 = refl; slot-3 = refl; calls-0 = refl; calls-3 = refl }
+batch-got = record { answered = refl; output = refl; lengths = refl; first-wrong = refl; second-wrong = refl; long = refl; long-wrong = refl; slot-0 = refl; slot-3 = refl; calls-0 = refl; calls-3 = refl }
 
 -- ---- from bytes to bytes
 

@@ -4,6 +4,7 @@ use mathlib.Core.Path.{_≡_, refl, ap, _∙_}
 use mathlib.Core.Logic.{inl}
 use mathlib.Core.List.{List}
 use native.Mathlib.Omega.{arith}
+use lib.Dec.{lit≤}
 use lib.ListN.{length, take, getD}
 use borrow.Author.Tests.{le-ltb}
 use Rattle.refusal.specs.Checks.Said.{answers}
@@ -13,13 +14,14 @@ use Rattle.frame.proofs.Bytes.{overlay-front}
 use Rattle.frame.proofs.Heads.{head-whole}
 use Rattle.frame.proofs.Writes.{tag-length}
 use Rattle.demands.specs.Demand3.{numberOf}
-use Rattle.sender.specs.Runs.{Side, MeetsSide, Pair, Carries}
-use Rattle.sender.proofs.Numbers.{sent-from}
+use Rattle.sender.specs.Runs.{Side, MeetsSide, theSide, Pair, Carries, WithoutReset}
+use Rattle.sender.proofs.Numbers.{sent-from, the-side-meets}
 use Rattle.prp.specs.declared.Kind.{Kind}
 use Rattle.prp.specs.Prp.{Trailer, trailerOf, Told, widthOf, trailerBytes, same, lanOf, networkOf, isLan, afterType, wears, bodyOf, fromOf, trailed, toAsRead, toOf, turnInto, fromPrp, toPrp}
 use Rattle.prp.proofs.Trailers.{width-is}
 use Rattle.prp.proofs.Turns.{toTurn, trailed-length}
 use Rattle.prp.proofs.ToThenFrom.{to-then-from-is, sizes-fit}
+use Rattle.end_to_end.specs.Runs.{onWay, near, sevenSent}
 use Rattle.end_to_end.specs.PrpLines.{SentOverPrp, SentOverPrpCalls, onLine, foreign, PrpRun}
 use Rattle.end_to_end.proofs.Runs.{computing}
 use Rattle.end_to_end.proofs.Heard.{Accepted, accepted, same-copy}
@@ -92,6 +94,10 @@ unfoldable turning : Unit {0}
 unfolding computing widthOf trailerBytes same lanOf networkOf isLan afterType wears bodyOf fromOf trailed toAsRead toOf turnInto fromPrp toPrp onLine foreign
 turning = tt
 
+numbered : WithoutReset near sevenSent
+unfolding turning
+numbered = record { sixteen = lit≤ tt; whole = refl }
+
 pub prp-run : PrpRun
 unfolding turning
 prp-run = record {
@@ -101,6 +107,8 @@ prp-run = record {
   enough = refl;
   room-out = refl;
   room-back = refl;
+  turns = λ kind w h. sent-over-prp theSide the-side-meets near sevenSent 2 (onWay 2 65535) kind w numbered (_, refl, inl refl) h;
+  calls = λ kind w out back h o b. sent-over-prp-calls theSide the-side-meets near sevenSent 2 (onWay 2 65535) kind w out back numbered (_, refl, inl refl) h o b;
   network = refl;
   stranger = (refl, λ e. let z : _≡_ {A = ℕ} 1 0 = ap (λ (g : List ℕ). getD g 15 0) e in omega arith);
 }

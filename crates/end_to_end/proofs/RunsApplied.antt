@@ -1,12 +1,12 @@
 -- The statements applied to the runs of `specs/Runs`: by the theorems, not by computing. Assumes nothing.
 use mathlib.Core.Path.{_≡_, refl, sym, subst}
 use mathlib.Core.Logic.{inr}
-use mathlib.Core.List.{[], _∷_}
+use mathlib.Core.List.{[], _∷_, map}
 use lib.Dec.{lit≤}
 use lib.ListN.{replicate}
 use Rattle.demands.specs.Receiver.{Receiver, MeetsContract, theReceiver}
 use Rattle.demands.specs.Examples.{frame}
-use Rattle.demands.specs.Steps.{Machine, MeetsAll, theMachine}
+use Rattle.demands.specs.Steps.{single, Machine, MeetsAll, theMachine, tableOf, ranSteps, callsOf, readAs, seenIn, seenOfStep, logSteps}
 use Rattle.demands.proofs.Alike.{carried, the-receiver-meets}
 use Rattle.demands.proofs.Stepping as stepping
 use Rattle.demands.proofs.Stepping.{the-machine-meets}
@@ -16,7 +16,7 @@ use Rattle.sender.proofs.Numbers.{the-side-meets}
 use Rattle.delays.specs.Line.{least, most, J, came, ticked}
 use Rattle.delays.specs.ByNumber.{line, b, L, R}
 use Rattle.end_to_end.specs.Runs.{into, comes, new, near, sevenSent, theyCome, itSees, places, lineFrom, oldRun, cameBefore, restComes, restSeen, restPlaces, inTraffic, other, otherSent, EndApplied}
-use Rattle.end_to_end.specs.Batches.{BytesToBytesSteps}
+use Rattle.end_to_end.specs.Batches.{BytesToBytesSteps, BytesToBytesRestartedSteps, LengthsStand}
 use Rattle.end_to_end.specs.BatchRuns.{stepsCome, stepsSeen, stepPlaces, StepsApplied}
 use Rattle.end_to_end.specs.Theorems.{EndToEnd}
 use Rattle.end_to_end.proofs.Runs.{computing, both-meet, restart-meets, traffic-meets}
@@ -49,15 +49,24 @@ applied both receive k side m =
     let d = of-the-two (both theReceiver the-receiver-meets theSide the-side-meets) in
     subst (EndApplied receive) (sym (same-side m)) (carried (λ (r : Receiver). EndApplied r theSide) d k)
 
--- With a batch the same.
-of-the-machine : BytesToBytesSteps theMachine theSide → StepsApplied theMachine theSide
-unfolding theMachine
-of-the-machine p = record {
-  in-batch = p line b [] [] stepsSeen near sevenSent (new L R) 0 stepsCome stepPlaces (steps-meet .fresh) (steps-meet .between);
+-- With batches the same.
+pub record WithBatches (m : Machine) (side : Side) : Type 0 where
+  pub steps : BytesToBytesSteps m side
+  pub restarted : BytesToBytesRestartedSteps m side
+  pub lengths : LengthsStand m
+
+of-the-machine : WithBatches theMachine theSide → StepsApplied theMachine theSide
+unfolding computing lineFrom theMachine tableOf ranSteps callsOf readAs seenIn seenOfStep logSteps
+of-the-machine d = record {
+  in-batch = d .steps line b [] [] stepsSeen near sevenSent (new L R) 0 stepsCome stepPlaces (steps-meet .fresh) (steps-meet .between);
+  restarted = d .restarted (lineFrom 22) b [] 15 8 0 24 (came 0 15 ∷ ticked 17 ∷ ticked 19 ∷ ticked 21 ∷ ticked 23 ∷ []) [] atFirst (into 32 2 ∷ []) (new L R) 0
+      (map single (oldRun 4)) (single (comes 0 2 0) ∷ []) (0 ∷ [])
+      (record { vector = refl; lawful = refl; order = refl; begun = lit≤ tt; over = refl; ticks = refl }) (restart-meets .longer) (restart-meets .between);
+  lengths = d .lengths;
 }
 
-pub applied-steps : ((m : Machine) → MeetsAll m → (side : Side) → MeetsSide side → BytesToBytesSteps m side)
+pub applied-steps : ((m : Machine) → MeetsAll m → (side : Side) → MeetsSide side → WithBatches m side)
     → (m : Machine) → MeetsAll m → (side : Side) → MeetsSide side → StepsApplied m side
-applied-steps steps m k side s =
-    let d = of-the-machine (steps theMachine the-machine-meets theSide the-side-meets) in
+applied-steps both m k side s =
+    let d = of-the-machine (both theMachine the-machine-meets theSide the-side-meets) in
     subst (StepsApplied m) (sym (same-side s)) (stepping.carried (λ (r : Machine). StepsApplied r theSide) d k)

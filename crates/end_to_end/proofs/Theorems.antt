@@ -4,7 +4,7 @@ use Rattle.demands.specs.Steps.{Machine, MeetsAll}
 use Rattle.sender.specs.Runs.{Side, MeetsSide}
 use Rattle.delays.proofs.Theorems as delays
 use Rattle.end_to_end.specs.Bytes.{BytesToBytes}
-use Rattle.end_to_end.specs.Batches.{BytesToBytesSteps}
+use Rattle.end_to_end.specs.Batches.{BytesToBytesSteps, BytesToBytesRestartedSteps}
 use Rattle.end_to_end.specs.Theorems.{EndToEnd, Theorems}
 -- (The runs first: modules are checked in the order in which they are named, and so a wrong definition is refused at what a run computes.)
 use Rattle.end_to_end.proofs.Runs.{both-meet, restart-meets, traffic-meets, between-needed, heard-needed}
@@ -29,6 +29,9 @@ of-both receive k side m = record {
 of-steps : (m : Machine) → MeetsAll m → (side : Side) → MeetsSide side → BytesToBytesSteps m side
 of-steps m k side s = bytes-to-bytes-steps m k side (of-calls (k .receive) s)
 
+of-restarted-steps : (m : Machine) → MeetsAll m → (side : Side) → MeetsSide side → BytesToBytesRestartedSteps m side
+of-restarted-steps m k side s = bytes-to-bytes-restarted-steps m k side (of-calls (k .receive) s)
+
 pub theorems : Theorems
 theorems = record {
   both = of-both;
@@ -41,10 +44,10 @@ theorems = record {
   got-as-calls = got-as-calls;
   lengths-stand = lengths-stand;
   steps = of-steps;
-  steps-restarted = λ m k side s. bytes-to-bytes-restarted-steps m k side (of-calls (k .receive) s);
+  steps-restarted = of-restarted-steps;
   batch-got = batch-got;
   steps-meet = steps-meet;
-  steps-applied = applied-steps of-steps;
+  steps-applied = applied-steps (λ m k side s. record { steps = of-steps m k side s; restarted = of-restarted-steps m k side s; lengths = lengths-stand m k });
   sent-over-prp = sent-over-prp;
   sent-over-prp-calls = sent-over-prp-calls;
   prp-run = prp-run;

@@ -4,23 +4,24 @@ use Prim.Native.Nat.{ℕ}
 use mathlib.Core.Path.{_≡_}
 use mathlib.Core.Bool.{true, false}
 use mathlib.Core.Option.{none, some}
-use mathlib.Core.List.{List, [], _∷_, _++_, flatMap}
+use mathlib.Core.List.{List, [], _∷_, _++_, map, flatMap}
 use lib.ListN.{take, drop, replicate}
 use Rattle.refusal.specs.Checks.Said.{refused, answers}
 use Rattle.refusal.specs.Numbers.{UNKNOWN}
-use Rattle.calls.specs.Table.{at}
+use Rattle.calls.specs.Table.{Table, at}
 use Rattle.calls.specs.Calls.{arriving, ticking, arrived, handedUp, duplicate}
 use Rattle.batch.specs.Batch.{Batch, batchOf}
 use Rattle.batch.specs.Laws.{preceded}
 use Rattle.demands.specs.Receiver.{theReceiver}
 use Rattle.demands.specs.Missed.{FreshVector}
-use Rattle.demands.specs.Steps.{Step, single, batch, Machine, theMachine, readAs}
+use Rattle.demands.specs.Steps.{Step, single, batch, Machine, theMachine, ranSteps, readAs}
 use Rattle.demands.specs.Examples.{address, frame, start}
+use Rattle.sender.specs.Sender.{atFirst}
 use Rattle.sender.specs.Runs.{Side, theSide, sent}
 use Rattle.delays.specs.Line.{Event}
 use Rattle.delays.specs.ByNumber.{line, b, L, R}
 use Rattle.end_to_end.specs.Bytes.{got, givenAt, onceEach, Between}
-use Rattle.end_to_end.specs.Runs.{message, onWay, comes, new, near, sevenSent, copy, beat}
+use Rattle.end_to_end.specs.Runs.{message, onWay, into, comes, new, near, sevenSent, oldRun, copy, beat}
 use Rattle.end_to_end.specs.Batches.{lengthsStand, gotSteps}
 
 -- A frame to destination k as it is given to a sender, and with number n in its tag.
@@ -56,6 +57,9 @@ pub record BatchGot : Type 0 where
   pub lengths : lengthsStand (batchOf start four .answers) (batchOf start four .output) ≡ true
   pub first-wrong : lengthsStand (batchOf start four .answers) (0 ∷ 15 ∷ drop 2 (batchOf start four .output)) ≡ false
   pub second-wrong : lengthsStand (batchOf start four .answers) (take 18 (batchOf start four .output) ++ 17 ∷ 0 ∷ drop 20 (batchOf start four .output)) ≡ false
+  -- of a longer frame too: 300 is 1 and 44
+  pub long : lengthsStand (some (answers (arrived 0 0 (handedUp 300))) ∷ []) (1 ∷ 44 ∷ []) ≡ true
+  pub long-wrong : lengthsStand (some (answers (arrived 0 0 (handedUp 300))) ∷ []) (0 ∷ 44 ∷ []) ≡ false
   -- Each stream gets its own frames, each once: the frame for slot 3 stands behind the one for slot 0.
   pub slot-0 : gotSteps theMachine 0 start fourAndOne ≡ plain 1 (21 ∷ 22 ∷ []) ∷ plain 1 (23 ∷ []) ∷ []
   pub slot-3 : gotSteps theMachine 3 start fourAndOne ≡ plain 3 (31 ∷ 32 ∷ 33 ∷ []) ∷ []
@@ -91,6 +95,10 @@ pub record StepsMeet : Type 0 where
   pub got : gotSteps theMachine 0 (new L R) stepsCome ≡ message 0 ∷ message 1 ∷ message 2 ∷ message 3 ∷ []
   pub promised : givenAt (sent theSide near sevenSent) (onceEach [] stepPlaces) ≡ message 0 ∷ message 1 ∷ message 2 ∷ message 3 ∷ []
 
--- `BytesToBytesSteps` applied to it, of every machine and every sending side that meet the contracts.
+-- The statements applied, of every machine and every sending side that meet the contracts: to this run, to the sender of `RestartMeets`,
+-- and to any batch.
 pub record StepsApplied (m : Machine) (side : Side) : Type 0 where
   pub in-batch : gotSteps m 0 (new L R) stepsCome ≡ givenAt (sent side near sevenSent) (onceEach [] stepPlaces)
+  pub restarted : gotSteps m 0 (ranSteps m (new L R) (map single (oldRun 4))) (single (comes 0 2 0) ∷ [])
+      ≡ givenAt (sent side atFirst (into 32 2 ∷ [])) (onceEach [] (0 ∷ []))
+  pub lengths : (t : Table) (b : Batch) → lengthsStand (m .batch t b .answers) (m .batch t b .output) ≡ true

@@ -54,6 +54,14 @@ pub record PrpRun : Type 0 where
   pub enough : toPrp of2012 1 (onWay 2 65535) (replicate 22 0) ≡ record { said = answers (record { network = 1; number = 65535; length = 22 }); bytes = onLine 0xB0 }
   pub room-out : toPrp of2012 1 (onWay 2 65535) (replicate 21 0) .said ≡ refused ROOM
   pub room-back : fromPrp of2012 (onLine 0xB0) (replicate 21 0) .said ≡ refused ROOM
+  -- The statements applied to that copy: with either trailer, on either network, in any buffers with room.
+  pub turns : (kind : Kind) (network : ℕ) → network ≤ 1
+      → (t : Turn) × (toOf (trailerOf kind) network (onWay 2 65535) ≡ answers t)
+      × (fromOf (trailerOf kind) (t .frame) ≡ answers (record { network = network; number = 65535; frame = onWay 2 65535 }))
+  pub calls : (kind : Kind) (network : ℕ) (out back : List ℕ) → network ≤ 1 → 22 ≤ length out → 22 ≤ length back
+      → (a : Told) × (toPrp (trailerOf kind) network (onWay 2 65535) out .said ≡ answers a)
+      × (fromPrp (trailerOf kind) (take (a .length) (toPrp (trailerOf kind) network (onWay 2 65535) out .bytes)) back
+      ≡ record { said = answers (record { network = network; number = 65535; length = 22 }); bytes = overlay (onWay 2 65535) back })
   -- a network that is not there
   pub network : toOf first 2 (onWay 2 65535) ≡ refused NETWORK
   -- what is no copy of a send comes otherwise
