@@ -1,9 +1,13 @@
 #include "host.h"
+#include "clock.h"
 #include "nippitsun.h"
 
 #include <errno.h>
+#include <fcntl.h>
+#include <inttypes.h>
 #include <linux/if_packet.h>
 #include <net/if.h>
+#include <poll.h>
 #include <stdarg.h>
 #include <stdio.h>
 #include <stdlib.h>
@@ -11,20 +15,90 @@
 #include <sys/socket.h>
 #include <unistd.h>
 
+static int closed_output;
+
+void hold_descriptors(void)
+{
+    closed_output = fcntl(STDOUT_FILENO, F_GETFD) < 0;
+    int held;
+    do {
+        held = open("/dev/null", O_RDWR);
+        if (held < 0) fail("/dev/null");
+    } while (held <= STDERR_FILENO);
+    close(held);
+}
+
+int output_is_closed(void)
+{
+    return closed_output;
+}
+
+// A line goes out whole, in one write, or not at all. A pipe that has room takes so much without a wait.
+enum { LINE_MOST = 4096 };
+
+static int put_line(const char *line, size_t length)
+{
+    struct pollfd where = {.fd = STDERR_FILENO, .events = POLLOUT};
+    return poll(&where, 1, 0) == 1 && where.revents & POLLOUT && write(STDERR_FILENO, line, length) == (ssize_t)length;
+}
+
+// The line `before`, which may be empty, and this text.
+static void say_behind(const char *before, const char *format, va_list more)
+{
+    static uint64_t unsaid;
+    char line[LINE_MOST];
+    if (unsaid != 0) {
+        int length = snprintf(line, sizeof line, "%" PRIu64 " lines were not said: standard error takes nothing\n", unsaid);
+        if (put_line(line, (size_t)length)) unsaid = 0;
+    }
+    size_t length = (size_t)snprintf(line, sizeof line, "%s", before);
+    length += (size_t)vsnprintf(line + length, sizeof line - length, format, more);
+    // What is longer is cut.
+    if (length > sizeof line - 1) length = sizeof line - 1;
+    line[length] = '\n';
+    // Behind lines that could not be said none is said before that has been.
+    if (unsaid != 0 || !put_line(line, length + 1)) unsaid++;
+}
+
+void say(const char *format, ...)
+{
+    va_list more;
+    va_start(more, format);
+    say_behind("", format, more);
+    va_end(more);
+}
+
+void say_now(const char *format, ...)
+{
+    char now[CLOCK_TEXT + 1];
+    clock_write(now);
+    strcat(now, " ");
+    va_list more;
+    va_start(more, format);
+    say_behind(now, format, more);
+    va_end(more);
+}
+
 _Noreturn void refuse(const char *format, ...)
 {
     va_list more;
     va_start(more, format);
-    fprintf(stderr, "refused: ");
-    vfprintf(stderr, format, more);
-    fprintf(stderr, "\n");
+    say_behind("refused: ", format, more);
     va_end(more);
     exit(2);
 }
 
 _Noreturn void fail(const char *what)
 {
-    fprintf(stderr, "failed: %s: %s\n", what, strerror(errno));
+    say("failed: %s: %s", what, strerror(errno));
+    exit(1);
+}
+
+_Noreturn void fail_packet_socket(void)
+{
+    if (errno != EPERM) fail("packet socket");
+    say("failed: packet socket: %s; it needs the right CAP_NET_RAW: run it as root, give it the right by "
+        "'setcap cap_net_raw,cap_net_admin+ep PROGRAM', or use the unit nippitsun-receive.service", strerror(errno));
     exit(1);
 }
 
@@ -124,7 +198,7 @@ const char *refusal_words(unsigned number)
 int open_sender(const char *interface)
 {
     int s = socket(AF_PACKET, SOCK_RAW, 0);
-    if (s < 0) fail("packet socket");
+    if (s < 0) fail_packet_socket();
     // Type 0: the kernel gives it no frame.
     struct sockaddr_ll where = {.sll_family = AF_PACKET, .sll_ifindex = (int)if_nametoindex(interface)};
     if (where.sll_ifindex == 0) refuse("there is no interface '%s'", interface);
@@ -132,9 +206,20 @@ int open_sender(const char *interface)
     return s;
 }
 
+_Noreturn void end_asked(void)
+{
+    if (output_is_closed()) refuse("standard output is closed");
+    if (fflush(stdout) != 0) fail("standard output");
+    exit(0);
+}
+
 _Noreturn void say_usage(const char *usage, int asked)
 {
-    fputs(usage, asked ? stdout : stderr);
-    if (fflush(stdout) != 0) fail("standard output");
-    exit(asked ? 0 : 2);
+    if (asked) {
+        fputs(usage, stdout);
+        end_asked();
+    }
+    // Without its last line end, which comes with the line.
+    say("%.*s", (int)strlen(usage) - 1, usage);
+    exit(2);
 }

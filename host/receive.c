@@ -202,6 +202,7 @@ static void lock_memory(void)
 
 int main(int count, char **words)
 {
+    hold_descriptors();
     // A reader of standard output that has gone is a failed write, which is said.
     signal(SIGPIPE, SIG_IGN);
     static struct sock_filter program[FILTER_MOST];
