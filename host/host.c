@@ -102,14 +102,19 @@ _Noreturn void fail_packet_socket(void)
     exit(1);
 }
 
-uint64_t read_number(const char *what, const char *text, uint64_t least, uint64_t most)
+static int find_number(const char *text, uint64_t least, uint64_t most, uint64_t *number)
 {
     char *end;
     errno = 0;
-    unsigned long long n = strtoull(text, &end, 10);
+    *number = strtoull(text, &end, 10);
     // strtoull takes a sign and leading blanks; a setting has neither.
-    if (text[0] < '0' || text[0] > '9' || *end != 0 || errno != 0 || n < least || n > most)
-        refuse("%s '%s' is no number from %llu to %llu", what, text, (unsigned long long)least, (unsigned long long)most);
+    return text[0] >= '0' && text[0] <= '9' && *end == 0 && errno == 0 && *number >= least && *number <= most;
+}
+
+uint64_t read_number(const char *what, const char *text, uint64_t least, uint64_t most)
+{
+    uint64_t n;
+    if (!find_number(text, least, most, &n)) refuse("%s '%s' is no number from %" PRIu64 " to %" PRIu64, what, text, least, most);
     return n;
 }
 
@@ -135,6 +140,21 @@ void read_address(const char *text, uint8_t dest[ADDRESS])
     if (*at != 0) refuse("'%s' is no address of six bytes in hex", text);
 }
 
+void write_address(char text[ADDRESS_TEXT], uint64_t dest)
+{
+    for (int i = 0; i < ADDRESS; i++) snprintf(text + 3 * i, 4, "%02x%s", (unsigned)(dest >> 8 * (ADDRESS - 1 - i) & 255), i < ADDRESS - 1 ? ":" : "");
+}
+
+// A name or, for the library to judge, any number that a rule's byte holds.
+static uint8_t read_rule(const char *text)
+{
+    if (strcmp(text, "vector") == 0) return NIPPITSUN_RULE_VECTOR;
+    if (strcmp(text, "match") == 0) return NIPPITSUN_RULE_MATCH;
+    uint64_t n;
+    if (!find_number(text, 0, UINT8_MAX, &n)) refuse("rule '%s' is neither vector nor match", text);
+    return (uint8_t)n;
+}
+
 struct settings read_settings(const char *text)
 {
     enum { DEST, VLAN, RULE, WINDOW, TIME, PARTS };
@@ -149,9 +169,7 @@ struct settings read_settings(const char *text)
     if (found != PARTS) refuse("'%s' is not DEST,VLAN,RULE,L,R", text);
     read_address(parts[DEST], s.dest);
     s.vlan = (uint16_t)read_number("VLAN id", parts[VLAN], 0, UINT16_MAX);
-    if (strcmp(parts[RULE], "vector") == 0) s.rule = NIPPITSUN_RULE_VECTOR;
-    else if (strcmp(parts[RULE], "match") == 0) s.rule = NIPPITSUN_RULE_MATCH;
-    else s.rule = (uint8_t)read_number("rule", parts[RULE], 0, UINT8_MAX);
+    s.rule = read_rule(parts[RULE]);
     s.window = (uint16_t)read_number("window L", parts[WINDOW], 0, UINT16_MAX);
     s.time = (uint16_t)read_number("reset time R", parts[TIME], 0, UINT16_MAX);
     free(copy);

@@ -49,6 +49,10 @@ uint64_t read_number(const char *what, const char *text, uint64_t least, uint64_
 // Six bytes in hex, with or without colons, or refuse.
 void read_address(const char *text, uint8_t dest[ADDRESS]);
 
+// A destination as people read it, six bytes in hex with colons, from the number that a stream's record has.
+enum { ADDRESS_TEXT = sizeof "01:00:5e:00:00:07" };
+void write_address(char text[ADDRESS_TEXT], uint64_t dest);
+
 // DEST,VLAN,RULE,L,R, or refuse.
 struct settings read_settings(const char *text);
 
