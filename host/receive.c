@@ -186,9 +186,9 @@ static void give(int64_t now)
 }
 
 // Waits until then at the latest: for frames, if they are read, and for standard output, if something waits for it.
-static void wait_until(int64_t now, int64_t until, int reading, const sigset_t *held, const sigset_t *outside)
+static void wait_until(int64_t until, int reading, const sigset_t *held, const sigset_t *outside)
 {
-    int64_t pause = until > now ? until - now : 0;
+    int64_t now = clock_now(), pause = until > now ? until - now : 0;
     if (reading && pause != 0) order_sleep(&order, until);
     struct timespec limit = {pause / SECOND, pause % SECOND};
     struct pollfd wait[NETWORKS + 1] = {[NETWORKS] = {.fd = up.used > 0 ? up.descriptor : -1, .events = POLLOUT}};
@@ -224,7 +224,7 @@ static void run(const sigset_t *held, const sigset_t *outside)
         int64_t until = earlier(second, end);
         if (reading) until = asked_to_end || any_waits() ? now : earlier(until, order.next);
         if (reading && wishes.quiet != 0 && !waited) until = earlier(until, last + wishes.quiet);
-        wait_until(now, until, reading, held, outside);
+        wait_until(until, reading, held, outside);
 
         unsigned frames = reading ? turn() : 0;
         now = clock_now();
@@ -266,9 +266,6 @@ static void lock_memory(void)
 // The signals come in at ppoll alone, so none is missed between the test of the flag and the wait.
 static void hold_signals(sigset_t *held, sigset_t *outside)
 {
-    hold_descriptors();
-    // A reader of standard output that has gone is a failed write, which is said.
-    signal(SIGPIPE, SIG_IGN);
     struct sigaction action = {.sa_handler = on_signal};
     sigemptyset(held);
     for (size_t i = 0; i < 3; i++) {
@@ -323,6 +320,8 @@ static _Noreturn void end(void)
 int main(int count, char **words)
 {
     hold_descriptors();
+    // A reader of standard output that has gone is a failed write, which is said.
+    signal(SIGPIPE, SIG_IGN);
     read_words(&wishes, count, words);
     if (output_is_closed() && wishes.give != NOT_AT_ALL) refuse("standard output is closed");
     report.prp = wishes.prp;

@@ -60,6 +60,9 @@ static void hear_network(struct watches *w, size_t slot, int network, int64_t ti
     if (!s->silent[network]) return;
     s->silent[network] = 0;
     s->returns[network]++;
+    // The copies that were missing were this network's, which was said.
+    s->share.poor = 0;
+    s->share.ups = s->share.copies = 0;
     say_slot(w, slot, "back", "arrivals on network %d (%s) again", network, w->ports[network].interface);
 }
 
