@@ -67,8 +67,6 @@ struct Host {
     out: Box<[u8; Stream::FRAME_MOST]>,
     up: Up,
     output: Option<Output>,
-    /// There was no room for what a further call might hand up.
-    filled: bool,
     stalled: Option<Stall>,
     stalls: u64,
     /// The last turn with a frame, and when the next second is over.
@@ -92,11 +90,7 @@ impl Host {
         let ahead = self.clock.ahead(self.order.ahead());
         self.order.known(self.clock.now(), ahead);
         let mut taken = 0;
-        loop {
-            self.filled = self.up.is_full();
-            if self.filled {
-                break;
-            }
+        while !self.up.is_full() {
             match self.order.next() {
                 None => break,
                 Some(Call::Tick) => self.tick()?,
@@ -312,10 +306,9 @@ impl Host {
                 return Ok(Err(e));
             }
         }
-        let filled = std::mem::take(&mut self.filled);
         let now = self.clock.now();
         match &self.stalled {
-            None if filled && self.up.is_half_full() => {
+            None if self.up.is_full() => {
                 let dropped = self.count_dropped()?;
                 self.stalled = Some(Stall {
                     since: now,
@@ -464,6 +457,7 @@ fn receive(options: Options) -> Result<(), Trouble> {
     if gives && socket::output_is_closed() {
         return Err(Trouble::Refused(CLOSED.to_string()));
     }
+    let numbers = port::find_all(&options.interfaces)?;
     let _lock = lock_stats(&options)?;
     let setup = Setup {
         filter: (!options.all).then(|| filter::program(&keys(&options.asked), options.prp)),
@@ -473,7 +467,7 @@ fn receive(options: Options) -> Result<(), Trouble> {
     let mut signals = Signals::hold().map_err(failed("signals"))?;
     let clock = Clock::new();
     let opened = clock.now();
-    let ports = port::open_all(&options.interfaces, &setup)?;
+    let ports = port::open_all(&options.interfaces, numbers, &setup)?;
     let tagged = Box::new([0; Stream::FRAME_MOST]);
     let out = Box::new([0; Stream::FRAME_MOST]);
     let up = Up::new(options.give, options.backlog_kb << 10);
@@ -481,6 +475,8 @@ fn receive(options: Options) -> Result<(), Trouble> {
         true => Some(Output::open().map_err(failed("standard output"))?),
         false => None,
     };
+    // The first time asks for the time zone, which is read from a file.
+    socket::local_time();
     // A page that has to be fetched back from the disk is a stall. Without the right to lock so much the program goes on.
     if let Err(e) = socket::lock_memory() {
         say(&format!("warning: memory is not locked: {}", words(&e)));
@@ -503,7 +499,6 @@ fn receive(options: Options) -> Result<(), Trouble> {
         out,
         up,
         output,
-        filled: false,
         stalled: None,
         stalls: 0,
         last: now,

@@ -12,19 +12,19 @@ use std::str::FromStr;
 
 pub const USAGE: &str = "usage: receive-rust [OPTION].. INTERFACE0 INTERFACE1
   --open DEST,VLAN,RULE,L,R   a stream: address in hex, id, vector or match, window, reset time in ticks; again for more
-  --conf FILE                 the words of FILE stand here: a line OPTIONS=WORDS and a line INTERFACES=WORDS
+  --conf FILE                 the words of FILE in this place: a line OPTIONS=WORDS and a line INTERFACES=WORDS
   --tick MS                   a tick every MS milliseconds (100)
-  --at-once                   no wait of R ticks at the start: what was handed up before a restart may be handed up again
+  --at-once                   no wait at the start. Without this it lasts R ticks, the largest R, and nothing is handed up in it: copies of what was handed up before a restart may still come
   --room KB                   what the kernel may hold for a port, in kilobytes (1024)
-  --no-ring                   read frames one by one, and not from a ring that the kernel fills
-  --backlog KB                what may wait for standard output, in kilobytes (4096)
+  --no-ring                   read frames by system calls and not from a ring that is shared with the kernel
+  --backlog KB                what may wait for standard output, in kilobytes (4096); when it is full nothing more is read, and ticks stop
   --prp first|2012            a PRP line, with trailers of the first edition or of 2012 in place of tags
   --all                       no filter in the kernel: foreign frames are counted as refusals 5 and 6 (16 and 6 with --prp), or 14 with a group source; to look for a wrong key
-  --alarm MS                  say so when a stream's arrivals, hand-ups or second copies are missing for MS milliseconds (1000; 0: never)
+  --alarm MS                  say so when a stream has arrivals on one network and for MS milliseconds none on the other, none on either, or none that is handed up; or when few second copies come (1000; 0: never)
   --stats FILE                write all counters to FILE each second, in the text form that Prometheus reads
   --quiet MS                  end after MS milliseconds without a frame
   --give lines|raw|nothing    frames handed up: 'SLOT NUMBER LENGTH HEX', or two bytes of length and the frame (lines)
-  --check                     read all words, open nothing, and say whether they are good
+  --check                     read all words, say whether they are good, and open nothing
   --version                   print the version
   --help                      print this text
 ";
@@ -98,7 +98,7 @@ pub fn read(
     words: impl IntoIterator<Item = String>,
     mut warn: impl FnMut(String),
 ) -> Result<Asked, Trouble> {
-    let mut words: VecDeque<String> = words.into_iter().collect();
+    let mut words = Words::new(words.into_iter().collect());
     let mut streams = Vec::new();
     let mut asked = Receiver::new(Stream::SLOTS_MOST);
     let mut only_interfaces = false;
@@ -115,9 +115,14 @@ pub fn read(
     let mut give = Give::Lines;
     let mut check = false;
     let mut interfaces = Vec::new();
-    while let Some(word) = words.pop_front() {
+    while let Some(word) = words.next() {
+        let own_file = words.file();
         if only_interfaces || word == "-" || !word.starts_with('-') {
             interfaces.push(word);
+            continue;
+        }
+        if word == "--" {
+            only_interfaces = true;
             continue;
         }
         let (name, mut given) = match word.split_once('=') {
@@ -129,18 +134,18 @@ pub fn read(
                 "option '{name}' doesn't allow an argument"
             )));
         }
-        let mut value = || match given.take().or_else(|| words.pop_front()) {
+        let mut value = || match given.take().or_else(|| words.next()) {
             Some(value) => Ok(value),
             None => Err(misused(&format!("option '{name}' requires an argument"))),
         };
         match name {
-            "--" => only_interfaces = true,
             "--open" => streams.push(open(&mut asked, &value()?, &mut warn)?),
             "--conf" => {
-                let file = read_conf(&value()?)?;
-                file.into_iter()
-                    .rev()
-                    .for_each(|word| words.push_front(word));
+                let file = value()?;
+                if let Some(own) = own_file {
+                    return Err(format!("{own} names a --conf of its own").into());
+                }
+                words.put(read_conf(&file)?, file);
             }
             "--tick" => tick_ms = read_number("tick", &value()?, 1, HOUR_IN_MS)?,
             "--at-once" => at_once = true,
@@ -209,6 +214,46 @@ fn misused(what: &str) -> Trouble {
     Trouble::Misused(format!("receive-rust: {what}\n"))
 }
 
+/// Words that are not read yet.
+struct Words {
+    rest: VecDeque<String>,
+    /// So many of the first ones are of this file, and so is the one that was read last.
+    of_file: usize,
+    file: Option<String>,
+}
+
+impl Words {
+    fn new(rest: VecDeque<String>) -> Words {
+        Words {
+            rest,
+            of_file: 0,
+            file: None,
+        }
+    }
+
+    fn next(&mut self) -> Option<String> {
+        if self.of_file == 0 {
+            self.file = None;
+        }
+        self.of_file = self.of_file.saturating_sub(1);
+        self.rest.pop_front()
+    }
+
+    /// The file that the word is of which was read last.
+    fn file(&self) -> Option<String> {
+        self.file.clone()
+    }
+
+    /// The words of a file come next.
+    fn put(&mut self, words: Vec<String>, file: String) {
+        self.of_file = words.len();
+        self.file = Some(file);
+        for word in words.into_iter().rev() {
+            self.rest.push_front(word);
+        }
+    }
+}
+
 /// The words of a file that the unit reads too: options first, interfaces last.
 fn read_conf(file: &str) -> Result<Vec<String>, String> {
     let bytes = fs::read(file).map_err(|e| format!("{file}: {}", words(&e)))?;
@@ -221,27 +266,21 @@ fn read_conf_text(file: &str, text: &str) -> Result<Vec<String>, String> {
         if is_blank(line) || line.starts_with(&['#', ';'][..]) {
             continue;
         }
-        let (name, value) = match line.split_once('=') {
-            Some(parts @ ("OPTIONS" | "INTERFACES", _)) => parts,
-            _ => {
-                let what = "neither OPTIONS= nor INTERFACES=";
-                return Err(format!("{file}, line {i}: {what}"));
-            }
-        };
-        let to = match name {
-            "OPTIONS" => &mut options,
-            _ => &mut interfaces,
-        };
-        if to.replace(conf_words(value)).is_some() {
+        let found = line.split_once('=').and_then(|(name, value)| {
+            let to = match name {
+                "OPTIONS" => &mut options,
+                "INTERFACES" => &mut interfaces,
+                _ => return None,
+            };
+            Some((name, to, conf_words(value)?))
+        });
+        let (name, to, words) =
+            found.ok_or_else(|| format!("{file}, line {i}: neither OPTIONS= nor INTERFACES="))?;
+        if to.replace(words).is_some() {
             return Err(format!("{file}, line {i}: {name} stands there already"));
         }
     }
-    let words = options.into_iter().chain(interfaces).flatten();
-    let words: Vec<String> = words.collect();
-    if words.iter().any(|w| w.split('=').next() == Some("--conf")) {
-        return Err(format!("{file} names a --conf of its own"));
-    }
-    Ok(words)
+    Ok(options.into_iter().chain(interfaces).flatten().collect())
 }
 
 const BLANKS: [char; 2] = [' ', '\t'];
@@ -250,17 +289,15 @@ fn is_blank(line: &str) -> bool {
     line.trim_matches(&BLANKS[..]).is_empty()
 }
 
-/// Words that are parted by blanks, all of them in one pair of quotes or not.
-fn conf_words(value: &str) -> Vec<String> {
+/// Words that are parted by blanks, all of them in one pair of quotes or not. None: a quote that does not end.
+fn conf_words(value: &str) -> Option<Vec<String>> {
     let value = value.trim_matches(&BLANKS[..]);
-    let inner = ['"', '\'']
-        .iter()
-        .find_map(|&quote| value.strip_prefix(quote)?.strip_suffix(quote));
-    let words = inner.unwrap_or(value).split(&BLANKS[..]);
-    words
-        .filter(|w| !w.is_empty())
-        .map(str::to_string)
-        .collect()
+    let inner = match value.chars().next() {
+        Some(quote @ ('"' | '\'')) => value[1..].strip_suffix(quote)?,
+        _ => value,
+    };
+    let words = inner.split(&BLANKS[..]).filter(|word| !word.is_empty());
+    Some(words.map(str::to_string).collect())
 }
 
 fn open(
@@ -482,8 +519,15 @@ mod tests {
                 "INTERFACES=a\nINTERFACES=b",
                 "f, line 2: INTERFACES stands there already",
             ),
-            ("OPTIONS=--all --conf g", "f names a --conf of its own"),
-            ("OPTIONS=--conf=g", "f names a --conf of its own"),
+            (
+                "OPTIONS=\"--all",
+                "f, line 1: neither OPTIONS= nor INTERFACES=",
+            ),
+            (
+                "INTERFACES='a b\"",
+                "f, line 1: neither OPTIONS= nor INTERFACES=",
+            ),
+            ("OPTIONS='", "f, line 1: neither OPTIONS= nor INTERFACES="),
         ] {
             assert_eq!(words(text).unwrap_err(), said);
         }
@@ -502,6 +546,21 @@ mod tests {
         assert_eq!(o.interfaces, ["a", "b"]);
         let o = options(&format!("--conf={} --tick 3", file.display()));
         assert_eq!(o.tick_ms, 3);
+        // A file in a file is refused, one behind it is not.
+        for word in ["--conf x", "--conf=x"] {
+            fs::write(&file, format!("OPTIONS=--all {word}\n")).unwrap();
+            let said = format!("{} names a --conf of its own", file.display());
+            assert_eq!(refused(&format!("--conf {}", file.display())), said);
+        }
+        fs::write(&file, "OPTIONS=--stats --conf").unwrap();
+        let o = options(&format!("--conf {} {OPEN} a b", file.display()));
+        assert_eq!(o.stats, Some("--conf".into()));
+        fs::write(&file, "OPTIONS=--all").unwrap();
+        let said = "no: No such file or directory";
+        assert_eq!(
+            refused(&format!("--conf {} --conf no", file.display())),
+            said
+        );
         fs::remove_file(&file).unwrap();
         let said = format!("{}: No such file or directory", file.display());
         assert_eq!(refused(&format!("--conf {}", file.display())), said);
@@ -525,6 +584,7 @@ mod tests {
         );
         for (line, said) in [
             ("--no --help", "receive-rust: unrecognized option '--no'\n"),
+            ("--=x", "receive-rust: unrecognized option '--'\n"),
             (
                 "a b --open",
                 "receive-rust: option '--open' requires an argument\n",

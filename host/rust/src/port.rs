@@ -91,8 +91,8 @@ pub struct Port {
     pub counts: Counts,
 }
 
-/// Opens the ports of all networks.
-pub fn open_all(interfaces: &[String; NETWORKS], setup: &Setup) -> Result<Vec<Port>, Trouble> {
+/// The numbers of the interfaces.
+pub fn find_all(interfaces: &[String; NETWORKS]) -> Result<Vec<i32>, Trouble> {
     let numbers = interfaces
         .iter()
         .map(|interface| {
@@ -104,6 +104,19 @@ pub fn open_all(interfaces: &[String; NETWORKS], setup: &Setup) -> Result<Vec<Po
     if numbers[0] == numbers[1] {
         return Err(both_on(&interfaces[0]));
     }
+    Ok(numbers)
+}
+
+pub fn both_on(interface: &str) -> Trouble {
+    Trouble::Refused(format!("both networks are on interface '{interface}'"))
+}
+
+/// Opens the ports of all networks.
+pub fn open_all(
+    interfaces: &[String; NETWORKS],
+    numbers: Vec<i32>,
+    setup: &Setup,
+) -> Result<Vec<Port>, Trouble> {
     if setup.ring && ring::blocks(setup.room as usize).1 {
         let (kb, most) = (setup.room >> 10, ring::SLOTS_MOST);
         say(&format!(
@@ -139,10 +152,6 @@ pub fn open_all(interfaces: &[String; NETWORKS], setup: &Setup) -> Result<Vec<Po
         socket.bind(number).map_err(failed(&port.interface))?;
     }
     Ok(ports)
-}
-
-pub fn both_on(interface: &str) -> Trouble {
-    Trouble::Refused(format!("both networks are on interface '{interface}'"))
 }
 
 /// Why a socket can't be opened, and what is to be done about it where that is known.
