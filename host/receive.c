@@ -342,9 +342,10 @@ int main(int count, char **words)
     report_lock(&report);
     sigset_t held, outside;
     hold_signals(&held, &outside);
-    open_ports();
     up_open(&up, wishes.give, wishes.backlog << 10);
+    // Before there are rings: they are the kernel's and stay in memory, but would count against the limit.
     lock_memory();
+    open_ports();
     ticks_to_wait = wait_of(&wishes);
     order_start(&order, wishes.period, clock_now(), clock_ahead(0));
     if (ticks_to_wait == 0) open_streams();
