@@ -1,5 +1,6 @@
 #include "clock.h"
 
+#include <stdio.h>
 #include <stdlib.h>
 #include <time.h>
 
@@ -37,4 +38,16 @@ int64_t clock_ahead(int64_t known)
     if (llabs(quick - known) < STEP) return known;
     int64_t ahead = measure_ahead();
     return llabs(ahead - known) < STEP ? known : ahead;
+}
+
+void clock_write(char text[CLOCK_TEXT])
+{
+    struct timespec now;
+    struct tm local;
+    clock_gettime(CLOCK_REALTIME, &now);
+    localtime_r(&now.tv_sec, &local);
+    char day[32], offset[sizeof "+0100"];
+    strftime(day, sizeof day, "%Y-%m-%dT%H:%M:%S", &local);
+    strftime(offset, sizeof offset, "%z", &local);
+    snprintf(text, CLOCK_TEXT, "%.19s.%03u%.3s:%.2s", day, (unsigned)(now.tv_nsec / MILLISECOND) % 1000, offset, offset + 3);
 }

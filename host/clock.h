@@ -14,4 +14,8 @@ int64_t clock_now(void);
 // as there was none this answers `known`, the answer before. Without one: 0.
 int64_t clock_ahead(int64_t known);
 
+// The time of day for people, with its end: ISO 8601 in local time, with milliseconds and the offset.
+enum { CLOCK_TEXT = sizeof "2026-11-17T15:04:05.123+01:00" };
+void clock_write(char text[CLOCK_TEXT]);
+
 #endif

@@ -1,9 +1,13 @@
 #include "host.h"
+#include "clock.h"
 #include "nippitsun.h"
 
 #include <errno.h>
+#include <fcntl.h>
+#include <inttypes.h>
 #include <linux/if_packet.h>
 #include <net/if.h>
+#include <poll.h>
 #include <stdarg.h>
 #include <stdio.h>
 #include <stdlib.h>
@@ -11,31 +15,106 @@
 #include <sys/socket.h>
 #include <unistd.h>
 
+static int closed_output;
+
+void hold_descriptors(void)
+{
+    closed_output = fcntl(STDOUT_FILENO, F_GETFD) < 0;
+    int held;
+    do {
+        held = open("/dev/null", O_RDWR);
+        if (held < 0) fail("/dev/null");
+    } while (held <= STDERR_FILENO);
+    close(held);
+}
+
+int output_is_closed(void)
+{
+    return closed_output;
+}
+
+// A line goes out whole, in one write, or not at all. A pipe that has room takes so much without a wait.
+enum { LINE_MOST = 4096 };
+
+static int put_line(const char *line, size_t length)
+{
+    struct pollfd where = {.fd = STDERR_FILENO, .events = POLLOUT};
+    return poll(&where, 1, 0) == 1 && where.revents & POLLOUT && write(STDERR_FILENO, line, length) == (ssize_t)length;
+}
+
+// The line `before`, which may be empty, and this text.
+static void say_behind(const char *before, const char *format, va_list more)
+{
+    static uint64_t unsaid;
+    char line[LINE_MOST];
+    if (unsaid != 0) {
+        int length = snprintf(line, sizeof line, "%" PRIu64 " lines were not said: standard error takes nothing\n", unsaid);
+        if (put_line(line, (size_t)length)) unsaid = 0;
+    }
+    size_t length = (size_t)snprintf(line, sizeof line, "%s", before);
+    length += (size_t)vsnprintf(line + length, sizeof line - length, format, more);
+    // What is longer is cut.
+    if (length > sizeof line - 1) length = sizeof line - 1;
+    line[length] = '\n';
+    // Behind lines that could not be said none is said before that has been.
+    if (unsaid != 0 || !put_line(line, length + 1)) unsaid++;
+}
+
+void say(const char *format, ...)
+{
+    va_list more;
+    va_start(more, format);
+    say_behind("", format, more);
+    va_end(more);
+}
+
+void say_now(const char *format, ...)
+{
+    char now[CLOCK_TEXT + 1];
+    clock_write(now);
+    strcat(now, " ");
+    va_list more;
+    va_start(more, format);
+    say_behind(now, format, more);
+    va_end(more);
+}
+
 _Noreturn void refuse(const char *format, ...)
 {
     va_list more;
     va_start(more, format);
-    fprintf(stderr, "refused: ");
-    vfprintf(stderr, format, more);
-    fprintf(stderr, "\n");
+    say_behind("refused: ", format, more);
     va_end(more);
     exit(2);
 }
 
 _Noreturn void fail(const char *what)
 {
-    fprintf(stderr, "failed: %s: %s\n", what, strerror(errno));
+    say("failed: %s: %s", what, strerror(errno));
     exit(1);
+}
+
+_Noreturn void fail_packet_socket(void)
+{
+    if (errno != EPERM) fail("packet socket");
+    say("failed: packet socket: %s; it needs the right CAP_NET_RAW: run it as root, give it the right by "
+        "'setcap cap_net_raw,cap_net_admin+ep PROGRAM', or use the unit nippitsun-receive.service", strerror(errno));
+    exit(1);
+}
+
+static int find_number(const char *text, uint64_t least, uint64_t most, uint64_t *number)
+{
+    char *end;
+    errno = 0;
+    *number = strtoull(text, &end, 10);
+    // strtoull takes a sign and leading blanks; a setting has neither.
+    return text[0] >= '0' && text[0] <= '9' && *end == 0 && errno == 0 && *number >= least && *number <= most;
 }
 
 uint64_t read_number(const char *what, const char *text, uint64_t least, uint64_t most)
 {
-    char *end;
-    errno = 0;
-    unsigned long long n = strtoull(text, &end, 10);
-    // strtoull takes a sign and leading blanks; a setting has neither.
-    if (text[0] < '0' || text[0] > '9' || *end != 0 || errno != 0 || n < least || n > most)
-        refuse("%s '%s' is no number from %llu to %llu", what, text, (unsigned long long)least, (unsigned long long)most);
+    uint64_t n;
+    if (!find_number(text, least, most, &n)) refuse("%s '%s' is no number from %" PRIu64 " to %" PRIu64, what, text, least, most);
     return n;
 }
 
@@ -61,6 +140,21 @@ void read_address(const char *text, uint8_t dest[ADDRESS])
     if (*at != 0) refuse("'%s' is no address of six bytes in hex", text);
 }
 
+void write_address(char text[ADDRESS_TEXT], uint64_t dest)
+{
+    for (int i = 0; i < ADDRESS; i++) snprintf(text + 3 * i, 4, "%02x%s", (unsigned)(dest >> 8 * (ADDRESS - 1 - i) & 255), i < ADDRESS - 1 ? ":" : "");
+}
+
+// A name or, for the library to judge, any number that a rule's byte holds.
+static uint8_t read_rule(const char *text)
+{
+    if (strcmp(text, "vector") == 0) return NIPPITSUN_RULE_VECTOR;
+    if (strcmp(text, "match") == 0) return NIPPITSUN_RULE_MATCH;
+    uint64_t n;
+    if (!find_number(text, 0, UINT8_MAX, &n)) refuse("rule '%s' is neither vector nor match", text);
+    return (uint8_t)n;
+}
+
 struct settings read_settings(const char *text)
 {
     enum { DEST, VLAN, RULE, WINDOW, TIME, PARTS };
@@ -75,9 +169,7 @@ struct settings read_settings(const char *text)
     if (found != PARTS) refuse("'%s' is not DEST,VLAN,RULE,L,R", text);
     read_address(parts[DEST], s.dest);
     s.vlan = (uint16_t)read_number("VLAN id", parts[VLAN], 0, UINT16_MAX);
-    if (strcmp(parts[RULE], "vector") == 0) s.rule = NIPPITSUN_RULE_VECTOR;
-    else if (strcmp(parts[RULE], "match") == 0) s.rule = NIPPITSUN_RULE_MATCH;
-    else s.rule = (uint8_t)read_number("rule", parts[RULE], 0, UINT8_MAX);
+    s.rule = read_rule(parts[RULE]);
     s.window = (uint16_t)read_number("window L", parts[WINDOW], 0, UINT16_MAX);
     s.time = (uint16_t)read_number("reset time R", parts[TIME], 0, UINT16_MAX);
     free(copy);
@@ -124,7 +216,7 @@ const char *refusal_words(unsigned number)
 int open_sender(const char *interface)
 {
     int s = socket(AF_PACKET, SOCK_RAW, 0);
-    if (s < 0) fail("packet socket");
+    if (s < 0) fail_packet_socket();
     // Type 0: the kernel gives it no frame.
     struct sockaddr_ll where = {.sll_family = AF_PACKET, .sll_ifindex = (int)if_nametoindex(interface)};
     if (where.sll_ifindex == 0) refuse("there is no interface '%s'", interface);
@@ -132,9 +224,20 @@ int open_sender(const char *interface)
     return s;
 }
 
+_Noreturn void end_asked(void)
+{
+    if (output_is_closed()) refuse("standard output is closed");
+    if (fflush(stdout) != 0) fail("standard output");
+    exit(0);
+}
+
 _Noreturn void say_usage(const char *usage, int asked)
 {
-    fputs(usage, asked ? stdout : stderr);
-    if (fflush(stdout) != 0) fail("standard output");
-    exit(asked ? 0 : 2);
+    if (asked) {
+        fputs(usage, stdout);
+        end_asked();
+    }
+    // Without its last line end, which comes with the line.
+    say("%.*s", (int)strlen(usage) - 1, usage);
+    exit(2);
 }

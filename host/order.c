@@ -81,10 +81,10 @@ static enum call next_by_turns(struct order *o, const int64_t *const head[NETWOR
         o->whose = 1 - *network;
         return FRAME;
     }
+    // All that waited has been called.
+    o->time = later(o->time, o->turn);
     if (o->line[0].settled && o->line[1].settled) {
-        // All that waited has been called.
         o->unsettled = 0;
-        o->time = later(o->time, o->turn);
         for (int i = 0; i < NETWORKS; i++) o->line[i].newest = o->line[i].horizon = PAST;
     }
     return NOTHING;
@@ -104,7 +104,6 @@ enum call order_next(struct order *o, const int64_t *const head[NETWORKS], int *
     if (o->next <= horizon && (first < 0 || o->next <= *head[first])) {
         o->time = later(o->time, o->next);
         o->next += o->period;
-        o->ticks++;
         return TICK;
     }
     if (first >= 0 && *head[first] <= horizon) {

@@ -29,7 +29,7 @@ struct order {
     int stepped;   // real time was found to have stepped in this turn
     int unsettled; // since a step: stamps cannot be compared
     int whose;     // then: the port that has its turn
-    uint64_t ticks, late, steps;
+    uint64_t late, steps; // turns that came late, and steps of real time
 };
 
 enum call { NOTHING, TICK, FRAME };

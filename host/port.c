@@ -4,12 +4,9 @@
 #include <arpa/inet.h>
 #include <errno.h>
 #include <linux/errqueue.h>
-#include <linux/if_ether.h>
-#include <linux/if_packet.h>
 #include <linux/net_tstamp.h>
 #include <net/if.h>
-#include <stdio.h>
-#include <string.h>
+#include <sys/ioctl.h>
 #include <sys/socket.h>
 #include <time.h>
 #include <unistd.h>
@@ -22,35 +19,62 @@ static int ask_for_stamps(int s)
     return setsockopt(s, SOL_SOCKET, SO_TIMESTAMPING, &flags, sizeof flags);
 }
 
+// Type 0: until it is bound, the socket would take the frames of every interface.
+static int packet_socket(void)
+{
+    return socket(AF_PACKET, SOCK_RAW, 0);
+}
+
 void stamps_on(void)
 {
     // The kernel stamps as long as any socket asks for it, and begins a moment later. This one is bound to nothing and stays
     // open, so that a port that is opened while the program runs need not wait.
-    int s = socket(AF_PACKET, SOCK_RAW, 0);
-    if (s < 0) fail("packet socket");
+    int s = packet_socket();
+    if (s < 0) fail_packet_socket();
     if (ask_for_stamps(s) != 0) fail("SO_TIMESTAMPING");
     nanosleep(&(struct timespec){0, 20 * MILLISECOND}, NULL);
+}
+
+// A socket with a ring, if one is asked for and to be had.
+static int make_socket(struct port *p, unsigned slots)
+{
+    int s = packet_socket();
+    if (s < 0 || slots == 0) return s;
+    const char *step = ring_open(&p->ring, s, slots);
+    if (step == NULL) return s;
+    if (!p->ringless) say("warning: %s: no ring: %s: %s; frames are read one by one", p->interface, step, strerror(errno));
+    p->ringless = 1;
+    // Some steps may be done, and are not undone.
+    close(s);
+    return packet_socket();
+}
+
+// The room for frames that wait without a ring.
+static const char *make_room(struct port *p, int s, int room)
+{
+    int on = 1;
+    if (setsockopt(s, SOL_PACKET, PACKET_AUXDATA, &on, sizeof on) != 0) return "PACKET_AUXDATA";
+    // The kernel doubles this, for its own records of a frame. Without the right to pass the machine's limit
+    // (CAP_NET_ADMIN) the limit itself is taken, which may be enough.
+    if (setsockopt(s, SOL_SOCKET, SO_RCVBUFFORCE, &room, sizeof room) == 0) return NULL;
+    int given = 0;
+    socklen_t size = sizeof given;
+    setsockopt(s, SOL_SOCKET, SO_RCVBUF, &room, sizeof room);
+    getsockopt(s, SOL_SOCKET, SO_RCVBUF, &given, &size);
+    int poor = given / 2 < room;
+    if (poor && !p->poor) say("warning: %s has no more room for waiting frames than net.core.rmem_max allows", p->interface);
+    p->poor |= poor;
+    return NULL;
 }
 
 static const char *set_up(struct port *p, int s, const struct port_settings *settings)
 {
     // All of it before the bind: no frame comes in before the filter and the stamps.
-    int on = 1;
     if (settings->filter.len != 0
         && setsockopt(s, SOL_SOCKET, SO_ATTACH_FILTER, &settings->filter, sizeof settings->filter) != 0) return "SO_ATTACH_FILTER";
-    if (setsockopt(s, SOL_PACKET, PACKET_AUXDATA, &on, sizeof on) != 0) return "PACKET_AUXDATA";
     if (ask_for_stamps(s) != 0) return "SO_TIMESTAMPING";
-    // The kernel doubles this, for its own records of a frame. Without the right to pass the machine's limit
-    // (CAP_NET_ADMIN) the limit itself is taken, which may be enough.
-    if (setsockopt(s, SOL_SOCKET, SO_RCVBUFFORCE, &settings->room, sizeof settings->room) != 0) {
-        int given = 0;
-        socklen_t size = sizeof given;
-        setsockopt(s, SOL_SOCKET, SO_RCVBUF, &settings->room, sizeof settings->room);
-        getsockopt(s, SOL_SOCKET, SO_RCVBUF, &given, &size);
-        int poor = given / 2 < settings->room;
-        if (poor && !p->poor) fprintf(stderr, "warning: %s has no more room for waiting frames than net.core.rmem_max allows\n", p->interface);
-        p->poor |= poor;
-    }
+    const char *failed = p->ring.at == NULL ? make_room(p, s, settings->room) : NULL;
+    if (failed != NULL) return failed;
     struct sockaddr_ll where = {.sll_family = AF_PACKET, .sll_protocol = htons(ETH_P_ALL)};
     where.sll_ifindex = (int)if_nametoindex(p->interface);
     if (where.sll_ifindex == 0) return p->interface;
@@ -61,27 +85,32 @@ static const char *set_up(struct port *p, int s, const struct port_settings *set
     return NULL;
 }
 
+static void close_port(struct port *p)
+{
+    ring_close(&p->ring);
+    close(p->socket);
+    p->socket = -1;
+}
+
 const char *port_open(struct port *p, const struct port_settings *settings)
 {
-    p->socket = -1;
-    // Type 0: until it is bound, the socket would take the frames of every interface.
-    int s = socket(AF_PACKET, SOCK_RAW, 0);
-    if (s < 0) return "packet socket";
-    const char *failed = set_up(p, s, settings);
-    if (failed == NULL) p->socket = s;
-    else {
+    p->head = p->tail = p->freed = 0;
+    p->socket = make_socket(p, settings->slots);
+    if (p->socket < 0) return "packet socket";
+    const char *failed = set_up(p, p->socket, settings);
+    if (failed != NULL) {
         int why = errno;
-        close(s);
+        close_port(p);
         errno = why;
     }
     return failed;
 }
 
-// The frame's stamp, and its VLAN tag put back.
-static void complete(struct port *p, struct frame *f, struct msghdr *message, size_t length)
+// A frame that was read without a ring: its length as the socket had it, its stamp and its VLAN tag stand beside it.
+static void complete(struct frame *f, struct msghdr *message, size_t whole)
 {
-    f->at = f->room + VLAN_TAG;
-    f->length = length;
+    f->whole = whole;
+    f->length = whole < FRAME_PLACE ? whole : FRAME_PLACE;
     f->time = 0;
     for (struct cmsghdr *c = CMSG_FIRSTHDR(message); c != NULL; c = CMSG_NXTHDR(message, c)) {
         if (c->cmsg_level == SOL_SOCKET && c->cmsg_type == SCM_TIMESTAMPING) {
@@ -90,34 +119,47 @@ static void complete(struct port *p, struct frame *f, struct msghdr *message, si
             f->time = t.ts[0].tv_sec * SECOND + t.ts[0].tv_nsec;
         }
         if (c->cmsg_level != SOL_PACKET || c->cmsg_type != PACKET_AUXDATA) continue;
-        // The kernel has taken the VLAN tag out of the frame. Without it the key would have VLAN id 0.
         struct tpacket_auxdata aux;
         memcpy(&aux, CMSG_DATA(c), sizeof aux);
-        if (!(aux.tp_status & TP_STATUS_VLAN_VALID) || length < TYPE_AT) continue;
-        uint16_t mark = aux.tp_status & TP_STATUS_VLAN_TPID_VALID ? aux.tp_vlan_tpid : ETH_P_8021Q;
-        f->at = f->room;
-        f->length = length + VLAN_TAG;
-        memmove(f->at, f->at + VLAN_TAG, TYPE_AT);
-        f->at[TYPE_AT] = (uint8_t)(mark >> 8);
-        f->at[TYPE_AT + 1] = (uint8_t)mark;
-        f->at[TYPE_AT + 2] = (uint8_t)(aux.tp_vlan_tci >> 8);
-        f->at[TYPE_AT + 3] = (uint8_t)aux.tp_vlan_tci;
+        frame_put_tag_back(f, aux.tp_status, aux.tp_vlan_tpid, aux.tp_vlan_tci);
     }
-    if (f->time == 0) p->unstamped++;
 }
 
-int port_read(struct port *p)
+// Counts a frame that is in the queue.
+static void count(struct port *p, const struct frame *f)
+{
+    p->frames++;
+    // A packet socket also shows what this machine sends, if no filter stops it.
+    if (f->outgoing) p->outgoing++;
+    if (f->time == 0) p->unstamped++;
+    if (f->whole <= FRAME_PLACE || p->cut++ != 0) return;
+    say_now("cut: network %d (%s): a frame of %zu bytes is longer than a place that frames are read into; such frames are refused with 3",
+            p->number, p->interface, f->whole);
+}
+
+static int read_ring(struct port *p)
+{
+    // A small ring may have fewer slots than the queue has places.
+    while (p->tail < QUEUE && p->ring.lent < p->ring.slots) {
+        struct frame *f = &p->queue[p->tail];
+        if (!ring_take(&p->ring, f)) return 1;
+        p->tail++;
+        count(p, f);
+    }
+    return 0;
+}
+
+static int read_socket(struct port *p)
 {
     enum { CONTROL = CMSG_SPACE(sizeof(struct tpacket_auxdata)) + CMSG_SPACE(sizeof(struct scm_timestamping)) };
     static _Alignas(struct cmsghdr) char controls[QUEUE][CONTROL];
     static struct mmsghdr messages[QUEUE];
     static struct iovec parts[QUEUE];
     static struct sockaddr_ll from[QUEUE];
-    p->head = p->tail = 0;
-    while (p->socket >= 0 && p->tail < QUEUE) {
+    while (p->tail < QUEUE) {
         unsigned most = QUEUE - p->tail;
         for (unsigned i = 0; i < most; i++) {
-            parts[i] = (struct iovec){p->queue[p->tail + i].room + VLAN_TAG, NIPPITSUN_FRAME_MOST + 1};
+            parts[i] = (struct iovec){p->places[p->tail + i] + VLAN_TAG, FRAME_PLACE};
             messages[i].msg_hdr = (struct msghdr){
                 .msg_name = &from[i],
                 .msg_namelen = sizeof from[i],
@@ -127,23 +169,44 @@ int port_read(struct port *p)
                 .msg_controllen = CONTROL,
             };
         }
-        int got = recvmmsg(p->socket, messages, most, MSG_DONTWAIT, NULL);
+        // MSG_TRUNC: the length is that of the whole frame.
+        int got = recvmmsg(p->socket, messages, most, MSG_DONTWAIT | MSG_TRUNC, NULL);
         // Fewer than asked for is no proof that nothing waits; this is.
         if (got < 0 && (errno == EAGAIN || errno == EWOULDBLOCK)) return 1;
         // An interface that went down says so before the frames that still wait.
         if (got < 0 && errno == ENETDOWN) p->down = 1;
         if (got < 0 && (errno == EINTR || errno == ENETDOWN)) continue;
         if (got < 0) fail("receive");
-        p->frames += (uint64_t)got;
         for (int i = 0; i < got; i++) {
-            struct frame *f = &p->queue[p->tail++];
-            // A packet socket also shows what this machine sends, if no filter stops it.
+            struct frame *f = &p->queue[p->tail];
+            f->at = p->places[p->tail++] + VLAN_TAG;
             f->outgoing = from[i].sll_pkttype == PACKET_OUTGOING;
-            if (f->outgoing) p->outgoing++;
-            complete(p, f, &messages[i].msg_hdr, messages[i].msg_len);
+            complete(f, &messages[i].msg_hdr, messages[i].msg_len);
+            count(p, f);
         }
     }
-    return p->socket < 0;
+    return 0;
+}
+
+int port_read(struct port *p)
+{
+    p->head = p->tail = p->freed = 0;
+    if (p->socket < 0) return 1;
+    return p->ring.at != NULL ? read_ring(p) : read_socket(p);
+}
+
+void port_free(struct port *p)
+{
+    if (p->ring.at != NULL) ring_give_back(&p->ring, p->head - p->freed);
+    p->freed = p->head;
+}
+
+void port_went_down(struct port *p)
+{
+    int why = 0;
+    socklen_t size = sizeof why;
+    getsockopt(p->socket, SOL_SOCKET, SO_ERROR, &why, &size);
+    p->down = 1;
 }
 
 void port_count_drops(struct port *p)
@@ -161,10 +224,29 @@ static int bound_to(const struct port *p)
     return p->socket < 0 || getsockname(p->socket, (struct sockaddr *)&bound, &size) != 0 ? 0 : bound.sll_ifindex;
 }
 
+enum port_state port_state(const struct port *p)
+{
+    // By the number: the interface may have another name by now.
+    int number = bound_to(p);
+    struct ifreq asked = {0};
+    if (number <= 0 || if_indextoname((unsigned)number, asked.ifr_name) == NULL || ioctl(p->socket, SIOCGIFFLAGS, &asked) != 0) return NOT_THERE;
+    if (!(asked.ifr_flags & IFF_UP)) return DOWN;
+    return asked.ifr_flags & IFF_RUNNING ? UP : NO_CARRIER;
+}
+
 int port_has(const struct port *p, const char *interface)
 {
     int number = bound_to(p);
     return number > 0 && (unsigned)number == if_nametoindex(interface);
+}
+
+int port_close_twin(struct port *p, const struct port *other)
+{
+    // A name may have changed hands after it was looked up.
+    int number = bound_to(p);
+    if (number <= 0 || number != bound_to(other)) return 0;
+    close_port(p);
+    return 1;
 }
 
 int port_close_dead(struct port *p)
@@ -173,7 +255,6 @@ int port_close_dead(struct port *p)
     // A socket whose interface went down only is still bound, and goes on when that comes up.
     if (bound_to(p) >= 0) return 0;
     port_count_drops(p);
-    close(p->socket);
-    p->socket = -1;
+    close_port(p);
     return 1;
 }

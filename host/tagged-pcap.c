@@ -40,6 +40,7 @@ static const char usage[] =
 
 int main(int count, char **words)
 {
+    hold_descriptors();
     static const struct option options[] = {
         {"sender", required_argument, NULL, 's'},
         {"prp", required_argument, NULL, 'p'},
@@ -59,6 +60,7 @@ int main(int count, char **words)
         }
     }
     if (optind != count) say_usage(usage, 0);
+    if (output_is_closed()) refuse("standard output is closed");
 
     // pcap with microseconds, version 2.4, no limit on the length that matters here, Ethernet.
     put(0xA1B2C3D4);

@@ -25,6 +25,7 @@ static void ask_to_end(int signal)
 
 int main(int count, char **words)
 {
+    hold_descriptors();
     if (count != 3) say_usage("usage: count ROOM-IN-KILOBYTES INTERFACE\n", count == 2 && strcmp(words[1], "--help") == 0);
     int room = (int)read_number("room", words[1], 1, 1 << 20) << 10, s = socket(AF_PACKET, SOCK_RAW, 0);
     if (s < 0) fail("packet socket");

@@ -273,6 +273,7 @@ static int try_line(const char *name, int prp, uint64_t frames)
 
 int main(int count, char **words)
 {
+    hold_descriptors();
     uint64_t frames = count > 1 ? read_number("frames", words[1], 1, UINT32_MAX) : 200000;
     return try_line("tags", NO_PRP, frames) || try_line("PRP of the first edition", NIPPITSUN_PRP_FIRST, frames)
         || try_line("PRP of 2012", NIPPITSUN_PRP_2012, frames);

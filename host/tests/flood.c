@@ -100,6 +100,7 @@ static void *send_all(void *given)
 
 int main(int count, char **words)
 {
+    hold_descriptors();
     static const struct option options[] = {
         {"stream", required_argument, NULL, 's'}, {"untagged", no_argument, NULL, 'u'},  {"reflected", no_argument, NULL, 'g'},
         {"count", required_argument, NULL, 'c'},  {"rate", required_argument, NULL, 'r'}, {"help", no_argument, NULL, 'h'},

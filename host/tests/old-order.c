@@ -55,7 +55,6 @@ enum call order_next(struct order *o, const int64_t *const head[NETWORKS], int *
     }
     if (ticked || o->read < o->next) return NOTHING;
     ticked = 1;
-    o->ticks++;
     o->next = o->next + o->period > o->read ? o->next + o->period : o->read + o->period;
     return TICK;
 }

@@ -275,6 +275,7 @@ static void run(void)
 
 int main(int count, char **words)
 {
+    hold_descriptors();
     uint64_t runs = count > 1 ? read_number("runs", words[1], 1, UINT32_MAX) : 1000, done = 0;
     for (seed = 1; done < runs; seed++) {
         state = seed * UINT64_C(0x9E3779B97F4A7C15) | 1;
