@@ -9,34 +9,45 @@ mod options;
 mod order;
 mod port;
 mod report;
-mod silence;
+mod ring;
+mod say;
 mod socket;
 mod trouble;
+mod up;
+mod watch;
 
 use clock::Clock;
 use filter::Key;
 use nippitsun::{prp, Arrival, Receiver, Stream, Verdict};
 use options::{Asked, Give, Options};
-use order::{Call, Order, Time};
+use order::{Call, Order, Time, NETWORKS};
 use port::{Port, Setup};
-use report::{say, Network, Refused, Report};
-use silence::{News, Silences};
-use socket::{Signal, Signals};
+use report::{About, Network, Refused, Report};
+use say::{say, say_now};
+use socket::{Came, Output, Signal, Signals};
 use std::ffi::OsString;
-use std::io::{self, BufWriter, Stdout, Write};
+use std::fs::{File, OpenOptions};
+use std::io::{self, Write};
 use std::process::ExitCode;
 use trouble::{failed, words, Trouble};
+use up::Up;
+use watch::{News, Rise, Watches};
 
+const MILLISECOND: Time = 1_000_000;
 const SECOND: Time = 1_000_000_000;
 
 /// Longer than any program runs, and times can still be added to it.
 const NEVER: Time = Time::MAX / 2;
 
-/// How long frames are still taken after a signal, if they do not stop.
+/// How long frames are still taken and given after a signal, if they do not stop, or their reader does.
 const LAST_TURNS: Time = 5 * SECOND;
 
-/// The standard library's formatter, byte by byte, would take longer than all the rest of this program's own work.
-const DIGITS: &[u8; 16] = b"0123456789abcdef";
+/// Standard output takes nothing, and there is no more room for what is handed up.
+struct Stall {
+    since: Time,
+    /// What the kernel had dropped by then.
+    dropped: [u64; NETWORKS],
+}
 
 struct Host {
     options: Options,
@@ -44,52 +55,96 @@ struct Host {
     clock: Clock,
     order: Order,
     ports: Vec<Port>,
-    silences: Silences,
+    /// So many ticks of the wait at the start are left. Until then the table is empty, and nothing is called.
+    wait: u64,
+    receiver: Receiver,
+    watches: Watches,
+    drops: [Rise; NETWORKS],
     refused: Refused,
     damaged: u64,
     /// Where the library writes a frame of a PRP line that it has turned, and one that it hands up.
     tagged: Box<[u8; Stream::FRAME_MOST]>,
     out: Box<[u8; Stream::FRAME_MOST]>,
-    up: BufWriter<Stdout>,
+    up: Up,
+    output: Option<Output>,
+    stalled: Option<Stall>,
+    stalls: u64,
+    /// The last turn with a frame, and when the next second is over.
+    last: Time,
+    second: Time,
+    /// When all must be done, once it has been asked for.
+    end: Option<Time>,
+    /// No port is read any more: what waits for standard output is given, and no more.
+    closing: bool,
     stats_failed: bool,
 }
 
 impl Host {
-    /// One turn: reads the ports, and makes the calls whose time has come. Answers how many frames there were.
+    /// One turn: reads the ports, and makes the calls whose time has come, as long as there is room for what they hand up.
+    /// Answers how many frames there were.
     fn turn(&mut self) -> Result<u64, Trouble> {
         self.order.begin(self.clock.now());
         for port in &mut self.ports {
             port.fill(&mut self.order)?;
         }
         let ahead = self.clock.ahead(self.order.ahead());
-        if self.order.known(self.clock.now(), ahead) {
-            self.silences.begin_anew(self.order.horizon());
-        }
+        self.order.known(self.clock.now(), ahead);
         let mut taken = 0;
-        while let Some(call) = self.order.next() {
-            match call {
-                Call::Tick => {
-                    let ticked = self.options.receiver.tick();
-                    self.damaged = ticked
-                        .map_err(|refusal| Trouble::Failed(refusal.to_string()))?
-                        .damaged;
-                }
-                Call::Frame {
+        while !self.up.is_full() {
+            match self.order.next() {
+                None => break,
+                Some(Call::Tick) => self.tick()?,
+                Some(Call::Frame {
                     network: port,
                     place,
                     time,
-                } => {
+                }) => {
                     taken += 1;
-                    self.arrival(port, place, time)?;
+                    match self.wait {
+                        0 => self.arrival(port, place, time)?,
+                        _ => self.ports[port].count_early(place),
+                    }
                 }
             }
         }
-        for news in self.silences.found_by(self.order.horizon()) {
-            self.tell(news);
+        for port in &mut self.ports {
+            port.free(&self.order);
         }
-        // Whoever reads standard output has each frame before the next wait.
-        self.up.flush().map_err(failed("standard output"))?;
+        if self.wait == 0 {
+            let found = self.watches.found_by(self.order.time);
+            self.tell(&found)?;
+        }
         Ok(taken)
+    }
+
+    fn tick(&mut self) -> Result<(), Trouble> {
+        let refused = |refusal: nippitsun::Refusal| Trouble::Failed(refusal.to_string());
+        if self.wait == 0 {
+            self.damaged = self.receiver.tick().map_err(refused)?.damaged;
+            return Ok(());
+        }
+        self.wait -= 1;
+        match self.wait {
+            0 => self.listen(),
+            _ => Ok(()),
+        }
+    }
+
+    /// The wait is over: from here on the streams are open.
+    fn listen(&mut self) -> Result<(), Trouble> {
+        for &settings in &self.options.streams {
+            let opened = self.receiver.open(settings);
+            opened.map_err(|refusal| Trouble::Failed(refusal.to_string()))?;
+        }
+        let alarm = match self.options.alarm_ms {
+            0 => None,
+            ms => Some(ms * MILLISECOND),
+        };
+        self.watches = Watches::new(self.options.streams.len(), alarm, self.order.time);
+        self.last = self.clock.now();
+        let [first, second] = &self.options.interfaces;
+        say(&format!("listening on {first} and {second}"));
+        Ok(())
     }
 
     /// A frame of a port. One of a PRP line is turned here and no earlier: the order goes by the port that it came on, and the
@@ -116,47 +171,70 @@ impl Host {
                 (network, &self.tagged[..turned.length])
             }
         };
-        let receiver = &mut self.options.receiver;
-        match receiver.arrival(network as u8, frame, &mut self.out[..]) {
-            Ok(Arrival {
-                slot,
-                number,
-                verdict,
-            }) => {
-                if let Verdict::HandedUp { length } = verdict {
-                    let frame = &self.out[..length];
-                    hand_up(&mut self.up, self.options.give, slot, number, frame)
-                        .map_err(failed("standard output"))?;
-                }
-                if let Some(news) = self.silences.arrival(slot, network, time) {
-                    self.tell(news);
-                }
+        let answer = self
+            .receiver
+            .arrival(network as u8, frame, &mut self.out[..]);
+        let Arrival {
+            slot,
+            number,
+            verdict,
+        } = match answer {
+            Ok(arrival) => arrival,
+            Err(refusal) => {
+                self.refused[usize::from(refusal.number())] += 1;
+                return Ok(());
             }
-            Err(refusal) => self.refused[usize::from(refusal.number())] += 1,
+        };
+        if let Verdict::HandedUp { length } = verdict {
+            self.up.hand_up(slot, number, &self.out[..length]);
+        }
+        let stream = &self.receiver.records()[slot];
+        let news = self.watches.arrival(slot, network, verdict, stream, time);
+        self.tell(&news)
+    }
+
+    fn tell(&self, news: &[News]) -> Result<(), Trouble> {
+        if news.is_empty() {
+            return Ok(());
+        }
+        let about = About {
+            alarm_ms: self.options.alarm_ms,
+            interfaces: &self.options.interfaces,
+            states: [self.ports[0].state()?, self.ports[1].state()?],
+        };
+        for &news in news {
+            let stream = &self.receiver.records()[news.slot];
+            say_now(&report::news_line(news, stream, &about));
         }
         Ok(())
     }
 
-    fn tell(&self, news: News) {
-        let stream = &self.options.receiver.records()[news.slot];
-        say(&report::news_line(news, stream, self.options.alarm_ms));
-    }
-
-    fn report(&mut self) -> Result<Report<'_>, Trouble> {
+    fn count_dropped(&mut self) -> Result<[u64; NETWORKS], Trouble> {
         for port in &mut self.ports {
             port.count_dropped()?;
         }
+        Ok([0, 1].map(|network: usize| self.ports[network].counts.dropped))
+    }
+
+    fn report(&mut self) -> Result<Report<'_>, Trouble> {
+        self.count_dropped()?;
+        let states = [self.ports[0].state()?, self.ports[1].state()?];
         Ok(Report {
-            records: self.options.receiver.records(),
-            silences: &self.silences,
+            listening: self.wait == 0,
+            records: self.receiver.records(),
+            watches: &self.watches,
             refused: &self.refused,
             damaged: self.damaged,
             networks: [0, 1].map(|network: usize| Network {
+                interface: &self.options.interfaces[network],
                 counts: self.ports[network].counts,
-                open: self.ports[network].is_open(),
+                state: states[network],
             }),
             prp: self.options.prp.is_some(),
-            ticks: self.order.ticks,
+            waiting: self.up.frames() as u64,
+            stalls: self.stalls,
+            // Those of the wait were not called.
+            ticks: self.order.ticks - (self.options.ticks_of_wait() - self.wait),
             late: self.order.late,
             steps: self.order.steps,
         })
@@ -173,81 +251,174 @@ impl Host {
             None => return Ok(()),
         };
         let written = report::write_over(&file, &self.report()?.prometheus());
-        if let Err(e) = written {
-            if !self.stats_failed {
-                say(&format!("warning: {}: {}", file.display(), words(&e)));
+        let (name, failed) = (file.display(), written.is_err());
+        match written {
+            Err(e) if !self.stats_failed => say(&format!("warning: {name}: {}", words(&e))),
+            Ok(()) if self.stats_failed => {
+                say_now(&format!("again: {name}: counters are written again"))
             }
-            self.stats_failed = true;
+            _ => {}
+        }
+        self.stats_failed = failed;
+        Ok(())
+    }
+
+    /// What has risen since this was last asked for, and whether second copies come.
+    fn look_at_counters(&mut self) -> Result<(), Trouble> {
+        let found = self.watches.look(self.receiver.records(), self.order.time);
+        self.tell(&found)?;
+        let dropped = self.count_dropped()?;
+        for (network, interface) in self.options.interfaces.iter().enumerate() {
+            if let Some(rose) = self.drops[network].look(dropped[network]) {
+                say_now(&report::drops_line(rose, network, interface));
+            }
         }
         Ok(())
     }
 
-    /// Turns, until a signal or a long quiet ends them.
-    fn run(&mut self, signals: &mut Signals) -> Result<(), Trouble> {
-        let quiet = self.options.quiet.unwrap_or(NEVER);
-        let mut last = self.clock.now();
-        let mut second = last + SECOND;
-        let mut end = None;
+    /// Are the ports read? Not while there is no room for what is handed up: frames and ticks stay in their order, so neither
+    /// is called then.
+    fn reads(&self) -> bool {
+        self.stalled.is_none() && !self.closing
+    }
+
+    fn wait(&mut self, signals: &Signals) -> Result<Came, Trouble> {
+        let now = self.clock.now();
+        let mut sockets = [None; NETWORKS];
+        let pause = if self.reads() {
+            sockets = [self.ports[0].socket(), self.ports[1].socket()];
+            let quiet = self.last + self.options.quiet.unwrap_or(NEVER);
+            let until = self.end.map_or(self.second.min(quiet), |_| now);
+            self.order.pause(now, until)
+        } else {
+            let until = self.end.map_or(self.second, |end| end.min(self.second));
+            (until - now).max(0)
+        };
+        let waiting = self.up.waiting() > 0;
+        let output = self.output.as_ref().filter(|_| waiting);
+        socket::wait(sockets, signals, output, pause).map_err(failed("ppoll"))
+    }
+
+    /// Gives what waits, as far as it is taken, and sees whether that stops the turns or lets them go on.
+    fn give(&mut self) -> Result<io::Result<()>, Trouble> {
+        if let Some(output) = &mut self.output {
+            if let Err(e) = self.up.give(output) {
+                return Ok(Err(e));
+            }
+        }
+        let now = self.clock.now();
+        match &self.stalled {
+            None if self.up.is_full() => {
+                let dropped = self.count_dropped()?;
+                self.stalled = Some(Stall {
+                    since: now,
+                    dropped,
+                });
+                self.stalls += 1;
+                let kb = self.options.backlog_kb;
+                say_now(&format!(
+                    "stalled: standard output takes nothing, and the backlog of {kb} KB is full: nothing more is read, and \
+                     ticks stop"
+                ));
+            }
+            Some(stall) if !self.up.is_half_full() => {
+                let (ms, before) = ((now - stall.since) / MILLISECOND, stall.dropped);
+                self.stalled = None;
+                let dropped = self.count_dropped()?;
+                let [first, second] = &self.options.interfaces;
+                say_now(&format!(
+                    "again: standard output takes frames after {ms} ms; dropped by the kernel meanwhile on network 0 ({first}): \
+                     {}, on network 1 ({second}): {}",
+                    dropped[0] - before[0],
+                    dropped[1] - before[1]
+                ));
+            }
+            _ => {}
+        }
+        Ok(Ok(()))
+    }
+
+    fn look_after_ports(&mut self, each_second: bool) -> Result<(), Trouble> {
+        if let [one, other] = &mut self.ports[..] {
+            one.look(other, &self.order, &self.setup, each_second)?;
+            other.look(one, &self.order, &self.setup, each_second)?;
+        }
+        Ok(())
+    }
+
+    /// Turns, until a signal, a long quiet or standard output ends them. Answers why nothing more could be given, if that is so.
+    fn run(&mut self, signals: &mut Signals) -> Result<Option<io::Error>, Trouble> {
         loop {
-            let now = self.clock.now();
-            let until = end.map_or(second.min(last + quiet), |_| now);
-            let pause = self.order.pause(now, until);
-            let sockets = [self.ports[0].socket(), self.ports[1].socket()];
-            let signalled = socket::wait(sockets, signals, pause).map_err(failed("ppoll"))?;
-
-            let taken = self.turn()?;
-
-            let now = self.clock.now();
-            if taken != 0 {
-                last = now;
-            }
-            let each_second = now >= second;
-            if let [one, other] = &mut self.ports[..] {
-                one.look(other, &self.setup, each_second)?;
-                other.look(one, &self.setup, each_second)?;
-            }
-            if each_second {
-                second = now + SECOND;
-                self.write_stats()?;
-            }
-            if signalled {
-                match signals.next().map_err(failed("signals"))? {
-                    Signal::Say => self.say_counters()?,
-                    Signal::End => end = end.or(Some(now + LAST_TURNS)),
+            let came = self.wait(signals)?;
+            for (port, error) in self.ports.iter_mut().zip(came.errors) {
+                if error {
+                    port.went_down()?;
                 }
             }
-            let waiting = self.order.has_frames();
-            let all_taken = taken == 0 && !waiting;
-            let ended = end.map_or(false, |end| all_taken || now >= end);
-            if ended || (now - last >= quiet && !waiting) {
-                return Ok(());
+            let taken = match self.reads() {
+                true => Some(self.turn()?),
+                false => None,
+            };
+            // Whoever reads standard output has each frame before the next wait.
+            if let Err(e) = self.give()? {
+                return Ok(Some(e));
+            }
+            let now = self.clock.now();
+            if self.wait > 0 || taken.map_or(false, |taken| taken > 0) {
+                self.last = now;
+            }
+            let each_second = now >= self.second;
+            if taken.is_some() {
+                self.look_after_ports(each_second)?;
+            }
+            if each_second {
+                self.second = now + SECOND;
+                self.look_at_counters()?;
+                self.write_stats()?;
+            }
+            if came.signal {
+                match signals.next().map_err(failed("signals"))? {
+                    Signal::Say => self.say_counters()?,
+                    Signal::End if self.wait > 0 => return Ok(None),
+                    Signal::End => self.end = self.end.or(Some(now + LAST_TURNS)),
+                }
+            }
+            if self.is_over(taken, now) {
+                return Ok(None);
             }
         }
     }
-}
 
-/// A frame that was handed up, in the form that was asked for.
-fn hand_up(
-    up: &mut impl Write,
-    give: Give,
-    slot: usize,
-    number: u16,
-    frame: &[u8],
-) -> io::Result<()> {
-    match give {
-        Give::Lines => {
-            write!(up, "{slot} {number} {} ", frame.len())?;
-            for byte in frame {
-                let (high, low) = (usize::from(byte >> 4), usize::from(byte & 15));
-                up.write_all(&[DIGITS[high], DIGITS[low]])?;
+    /// Behind a turn, or a wait without one: is all done that is to be done before the end?
+    fn is_over(&mut self, taken: Option<u64>, now: Time) -> bool {
+        if taken.is_some() && self.reads() && !self.order.has_frames() {
+            let quiet = self.options.quiet.unwrap_or(NEVER);
+            let is_quiet = now - self.last >= quiet;
+            let is_last = self.end.is_some() && taken == Some(0);
+            self.closing = is_quiet || is_last;
+            if self.closing {
+                self.end = self.end.or(Some(now + LAST_TURNS));
             }
-            writeln!(up)
         }
-        Give::Raw => {
-            up.write_all(&(frame.len() as u16).to_be_bytes())?;
-            up.write_all(frame)
+        let given = self.closing && self.up.waiting() == 0;
+        given || self.end.map_or(false, |end| now >= end)
+    }
+
+    /// The last words. What was handed up and not given is a failure.
+    fn close(&mut self, why: Option<io::Error>) -> Result<(), Trouble> {
+        self.look_at_counters()?;
+        self.write_stats()?;
+        self.say_counters()?;
+        let (frames, reason) = (
+            self.up.frames(),
+            why.map_or("its reader takes nothing".to_string(), |e| words(&e)),
+        );
+        match frames {
+            0 => Ok(()),
+            _ => Err(Trouble::Failed(format!(
+                "standard output: {reason}; {frames} frames that were handed up were not given"
+            ))),
         }
-        Give::Nothing => Ok(()),
     }
 }
 
@@ -256,29 +427,68 @@ fn keys(receiver: &Receiver) -> Vec<Key> {
     used.map(|stream| (stream.dest, stream.vlan)).collect()
 }
 
+/// The lock beside the file of counters, held for as long as it is open. Where it can't be made, the file itself can't either,
+/// which is said later.
+fn lock_stats(options: &Options) -> Result<Option<File>, Trouble> {
+    let file = match &options.stats {
+        Some(file) => file,
+        None => return Ok(None),
+    };
+    let mut open = OpenOptions::new();
+    let lock = open.write(true).create(true);
+    match lock.open(report::beside(file, ".lock")) {
+        Ok(lock) if socket::is_locked_by_another(&lock) => {
+            let what = format!("--stats {}: another receiver writes it", file.display());
+            Err(Trouble::Refused(what))
+        }
+        lock => Ok(lock.ok()),
+    }
+}
+
+fn say_how_it_begins(options: &Options) {
+    let (ticks, ms, all) = (options.ticks_of_wait(), options.tick_ms, options.wait_ms());
+    say(&format!(
+        "waiting for {ticks} ticks of {ms} ms, {all} ms in all: copies of what was handed up before may still come"
+    ));
+}
+
 fn receive(options: Options) -> Result<(), Trouble> {
+    let gives = options.give != Give::Nothing;
+    if gives && socket::output_is_closed() {
+        return Err(Trouble::Refused(CLOSED.to_string()));
+    }
+    let numbers = port::find_all(&options.interfaces)?;
+    let _lock = lock_stats(&options)?;
     let setup = Setup {
-        filter: (!options.all).then(|| filter::program(&keys(&options.receiver), options.prp)),
+        filter: (!options.all).then(|| filter::program(&keys(&options.asked), options.prp)),
         room: options.room_kb << 10,
+        ring: options.ring,
     };
     let mut signals = Signals::hold().map_err(failed("signals"))?;
     let clock = Clock::new();
     let opened = clock.now();
-    let ports = port::open_all(&options.interfaces, &setup)?;
+    let ports = port::open_all(&options.interfaces, numbers, &setup)?;
     let tagged = Box::new([0; Stream::FRAME_MOST]);
     let out = Box::new([0; Stream::FRAME_MOST]);
-    let up = BufWriter::with_capacity(1 << 16, io::stdout());
+    let up = Up::new(options.give, options.backlog_kb << 10);
+    let output = match gives {
+        true => Some(Output::open().map_err(failed("standard output"))?),
+        false => None,
+    };
+    // The first time asks for the time zone, which is read from a file.
+    socket::local_time();
     // A page that has to be fetched back from the disk is a stall. Without the right to lock so much the program goes on.
     if let Err(e) = socket::lock_memory() {
         say(&format!("warning: memory is not locked: {}", words(&e)));
     }
-    let [first, second] = &options.interfaces;
-    say(&format!("listening on {first} and {second}"));
-    let alarm = (options.alarm_ms != 0).then(|| options.alarm_ms * 1_000_000);
     let now = clock.now();
+    let period = options.tick_ms * MILLISECOND;
     let mut host = Host {
-        order: Order::new(options.period, opened, now, clock.measure_ahead()),
-        silences: Silences::new(Stream::SLOTS_MOST, alarm, now),
+        order: Order::new(period, opened, now, clock.measure_ahead()),
+        wait: options.ticks_of_wait(),
+        receiver: Receiver::new(Stream::SLOTS_MOST),
+        watches: Watches::new(0, None, now),
+        drops: [Rise::default(); NETWORKS],
         options,
         setup,
         clock,
@@ -288,12 +498,24 @@ fn receive(options: Options) -> Result<(), Trouble> {
         tagged,
         out,
         up,
+        output,
+        stalled: None,
+        stalls: 0,
+        last: now,
+        second: now + SECOND,
+        end: None,
+        closing: false,
         stats_failed: false,
     };
-    host.run(&mut signals)?;
-    host.write_stats()?;
-    host.say_counters()
+    match host.wait {
+        0 => host.listen()?,
+        _ => say_how_it_begins(&host.options),
+    }
+    let why = host.run(&mut signals)?;
+    host.close(why)
 }
+
+const CLOSED: &str = "standard output is closed";
 
 fn run() -> Result<(), Trouble> {
     let words = std::env::args_os().skip(1).map(|word| {
@@ -304,8 +526,10 @@ fn run() -> Result<(), Trouble> {
     let warn = |what| say(&format!("warning: {what}"));
     let text = match options::read(words, warn)? {
         Asked::Run(options) => return receive(*options),
-        Asked::Version => format!("nippitsun {}\n", nippitsun::VERSION),
-        Asked::Help => options::USAGE.to_string(),
+        Asked::Text(_) if socket::output_is_closed() => {
+            return Err(Trouble::Refused(CLOSED.to_string()))
+        }
+        Asked::Text(text) => text,
     };
     let written = io::stdout().write_all(text.as_bytes());
     written.map_err(failed("standard output"))
@@ -316,7 +540,7 @@ fn main() -> ExitCode {
         Ok(()) => return ExitCode::SUCCESS,
         Err(Trouble::Failed(what)) => (format!("failed: {what}"), 1),
         Err(Trouble::Refused(what)) => (format!("refused: {what}"), 2),
-        Err(Trouble::Misused(what)) => (what + options::USAGE.trim_end(), 2),
+        Err(Trouble::Misused(what)) => (what + options::USAGE, 2),
     };
     say(&said);
     ExitCode::from(status)

@@ -14,7 +14,7 @@ pub const BATCH: usize = 64;
 
 #[derive(Clone, Copy, Debug, PartialEq, Eq)]
 pub enum Call {
-    /// The frame that was read so many-th in the last batch of this network, and its time.
+    /// The frame that was read so many-th in the last batch of this network, and the order's time at its call.
     Frame {
         network: usize,
         place: usize,
@@ -60,6 +60,8 @@ pub struct Order {
     /// The stamps of this turn can't be compared: the ports take turns, and this one is next.
     by_turns: bool,
     turn_of: usize,
+    /// Up to here all frames and ticks have been called. It never goes back, and never runs ahead of the clock.
+    pub time: Time,
     pub ticks: u64,
     pub late: u64,
     pub steps: u64,
@@ -86,6 +88,7 @@ impl Order {
             tick: now + period,
             by_turns: false,
             turn_of: 0,
+            time: now,
             ticks: 0,
             late: 0,
             steps: 0,
@@ -94,7 +97,16 @@ impl Order {
 
     /// Are there frames that were read and not yet called?
     pub fn has_frames(&self) -> bool {
-        self.lanes.iter().any(|lane| lane.first().is_some())
+        (0..NETWORKS).any(|network| self.has_frames_of(network))
+    }
+
+    pub fn has_frames_of(&self, network: usize) -> bool {
+        self.lanes[network].first().is_some()
+    }
+
+    /// How many frames of this network's last batch have been called.
+    pub fn called(&self, network: usize) -> usize {
+        self.lanes[network].called
     }
 
     /// How long to wait for a frame before the next turn: until the next tick or until this time at most.
@@ -154,9 +166,8 @@ impl Order {
 
     /// The clock, and real time less monotonic time, both behind the ports' reading: so no frame of this turn was stamped by
     /// a step that is not known. Both clocks are slewed alike, so they move apart by a step alone. Stamps from before and
-    /// behind it can't be compared: until each port has said that it is empty they take turns, and there is no tick. Answers
-    /// whether it is a step.
-    pub fn known(&mut self, now: Time, ahead: i64) -> bool {
+    /// behind it can't be compared: until each port has said that it is empty they take turns, and there is no tick.
+    pub fn known(&mut self, now: Time, ahead: i64) {
         let stepped = ahead != self.ahead;
         self.ahead = ahead;
         self.steps += u64::from(stepped);
@@ -179,14 +190,10 @@ impl Order {
                 lane.horizon = self.clock;
             }
         }
-        stepped
     }
 
-    /// Up to here every frame is known, and called once `next` answers none.
-    pub fn horizon(&self) -> Time {
-        if self.by_turns {
-            return self.clock;
-        }
+    /// Up to here every frame is known.
+    fn horizon(&self) -> Time {
         self.lanes.iter().fold(self.clock, |least, lane| {
             least.min(lane.horizon.max(lane.newest))
         })
@@ -202,11 +209,13 @@ impl Order {
         let network = usize::from(times[1] < times[0]);
         let time = times[network];
         if self.tick <= time && self.tick <= horizon {
+            self.time = self.time.max(self.tick);
             self.tick += self.period;
             self.ticks += 1;
             return Some(Call::Tick);
         }
-        (time <= horizon).then(|| self.take(network, time))
+        self.time = self.time.max(time.min(horizon));
+        (time <= horizon).then(|| self.take(network))
     }
 
     fn next_by_turns(&mut self) -> Option<Call> {
@@ -219,20 +228,29 @@ impl Order {
         {
             return None;
         }
-        let network = [self.turn_of, 1 - self.turn_of]
+        let waiting = [self.turn_of, 1 - self.turn_of]
             .into_iter()
-            .find(|&network| self.lanes[network].first().is_some())?;
-        self.turn_of = 1 - network;
-        Some(self.take(network, self.clock))
+            .find(|&network| self.has_frames_of(network));
+        match waiting {
+            Some(network) => {
+                self.turn_of = 1 - network;
+                Some(self.take(network))
+            }
+            None => {
+                // All that was queued by the clock has been called. Time goes on, however often real time steps.
+                self.time = self.time.max(self.clock);
+                None
+            }
+        }
     }
 
-    fn take(&mut self, network: usize, time: Time) -> Call {
+    fn take(&mut self, network: usize) -> Call {
         let place = self.lanes[network].called;
         self.lanes[network].called += 1;
         Call::Frame {
             network,
             place,
-            time,
+            time: self.time,
         }
     }
 }
@@ -328,7 +346,7 @@ mod tests {
         let mut o = order();
         let calls = turn(&mut o, 100, [(&[7], true), (&[], true)]);
         assert_eq!(calls, [frame(0, 0, 7)]);
-        assert_eq!(o.horizon(), 100);
+        assert_eq!(o.time, 100);
     }
 
     #[test]
@@ -387,17 +405,18 @@ mod tests {
             o.read(1, Some(MS + 3 + step));
             o.empty(1);
             o.known(2 * MS + 1, step);
-            let at = 2 * MS;
             let calls: Vec<Call> = std::iter::from_fn(|| o.next()).collect();
-            let expected = [frame(0, 0, at), frame(1, 0, at), frame(0, 1, at)];
+            let expected = [frame(0, 0, MS), frame(1, 0, MS), frame(0, 1, MS)];
             assert_eq!(calls, expected);
-            assert_eq!((o.steps, o.tick), (1, at + TICK));
+            // Nothing waits any more, so time goes on, though the stamps can't be compared yet.
+            let at = 2 * MS;
+            assert_eq!((o.steps, o.tick, o.time), (1, at + TICK, at));
 
             // Frames of the old clock wait in port 1: no tick, however long that lasts.
             let mut clock = 3 * MS;
             for _ in 0..20 {
                 let calls = turn(&mut o, clock, [(&[], true), (&[MS, MS + 5], false)]);
-                assert_eq!(calls, [frame(1, 0, clock), frame(1, 1, clock)]);
+                assert_eq!(calls, [frame(1, 0, at), frame(1, 1, at)]);
                 clock += 2 * MS;
             }
             // Port 0 has more than port 1: what is left behind does not wait for the time of an old stamp.
@@ -414,6 +433,43 @@ mod tests {
             assert_eq!((o.ticks, o.steps), (0, 1));
             assert_eq!(o.tick, clock - 2 * MS + 1 + TICK);
         }
+    }
+
+    #[test]
+    fn time_goes_on_however_often_the_clock_steps() {
+        let mut o = order();
+        for i in 1..100 {
+            o.begin(i * MS);
+            assert!(o.wants(0) && o.wants(1));
+            o.read(0, Some(i));
+            o.empty(0);
+            o.empty(1);
+            o.known(i * MS, i * MS);
+            let calls: Vec<Call> = std::iter::from_fn(|| o.next()).collect();
+            assert_eq!(calls, [frame(0, 0, (i - 1) * MS)]);
+            assert_eq!(o.time, i * MS);
+        }
+    }
+
+    #[test]
+    fn time_stays_where_the_calls_stop() {
+        let mut o = order();
+        o.pause(0, TICK);
+        o.begin(TICK);
+        assert!(o.wants(0) && o.wants(1));
+        o.read(0, Some(3));
+        o.read(0, Some(5));
+        o.empty(0);
+        o.empty(1);
+        o.known(TICK, 0);
+        assert_eq!(o.next(), Some(frame(0, 0, 3)));
+        assert_eq!((o.time, o.called(0), o.has_frames()), (3, 1, true));
+        // The next turn goes on there.
+        assert_eq!(
+            turn(&mut o, TICK + 1, [(&[], true), (&[], true)]),
+            [frame(0, 1, 5), Call::Tick]
+        );
+        assert_eq!(o.time, TICK);
     }
 
     #[test]

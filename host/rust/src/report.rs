@@ -2,22 +2,19 @@
 
 use crate::order::NETWORKS;
 use crate::port;
-use crate::silence::{News, Silences, Watch};
+use crate::socket::State;
+use crate::watch::{News, Rose, Side, Watches, What};
 use nippitsun::{Counts, Refusal, Stream};
+use std::ffi::OsString;
 use std::fmt::{Display, Write as _};
 use std::fs;
-use std::io::{self, Write as _};
-use std::path::Path;
-
-/// A line on standard error, in one piece. That nobody reads it is no reason to end: commands matter more.
-pub fn say(line: &str) {
-    let _ = io::stderr().write_all(format!("{line}\n").as_bytes());
-}
+use std::io;
+use std::path::{Path, PathBuf};
 
 /// One of the counters of each stream: name, words, which field.
 type OfStream = (&'static str, &'static str, fn(&Counts) -> u64);
 /// One of the figures of each stream on each network.
-type OfWatch = (&'static str, &'static str, &'static str, fn(&Watch) -> u64);
+type OfSide = (&'static str, &'static str, &'static str, fn(&Side) -> u64);
 /// One of the figures of each network.
 type OfNetwork = (
     &'static str,
@@ -26,9 +23,10 @@ type OfNetwork = (
     fn(&Network) -> u64,
 );
 
-pub struct Network {
+pub struct Network<'a> {
+    pub interface: &'a str,
     pub counts: port::Counts,
-    pub open: bool,
+    pub state: State,
 }
 
 /// How many numbers a refusal can have: it is told in a byte, and not every one below the greatest is given.
@@ -38,13 +36,18 @@ pub type Refused = [u64; NUMBERS];
 
 /// All counters at one time.
 pub struct Report<'a> {
+    /// The wait at the start is over.
+    pub listening: bool,
     pub records: &'a [Stream],
-    pub silences: &'a Silences,
+    pub watches: &'a Watches,
     pub refused: &'a Refused,
     pub damaged: u64,
-    pub networks: [Network; NETWORKS],
+    pub networks: [Network<'a>; NETWORKS],
     /// The line is a PRP line.
     pub prp: bool,
+    /// Frames that wait for standard output, and how often there was no room for more.
+    pub waiting: u64,
+    pub stalls: u64,
     pub ticks: u64,
     pub late: u64,
     pub steps: u64,
@@ -69,7 +72,7 @@ const STREAM_COUNTERS: [OfStream; 6] = [
     }),
 ];
 
-const WATCHES: [OfWatch; 3] = [
+const SIDES: [OfSide; 3] = [
     (
         "silent",
         "gauge",
@@ -98,19 +101,33 @@ const CROSSED: OfNetwork = (
     |n| n.counts.crossed,
 );
 
-const OPEN: OfNetwork = (
-    "open",
-    "gauge",
-    "1 while the interface is there and open.",
-    |n| n.open.into(),
-);
+const STATES: [OfNetwork; 2] = [
+    (
+        "open",
+        "gauge",
+        "1 while the interface is there, open and administratively up.",
+        |n| matches!(n.state, State::Up | State::NoCarrier).into(),
+    ),
+    (
+        "carrier",
+        "gauge",
+        "1 while the interface has a carrier.",
+        |n| (n.state == State::Up).into(),
+    ),
+];
 
-const NETWORK_COUNTERS: [OfNetwork; 5] = [
+const NETWORK_COUNTERS: [OfNetwork; 7] = [
     (
         "frames_total",
         "counter",
         "Frames read from a network.",
         |n| n.counts.frames,
+    ),
+    (
+        "early_total",
+        "counter",
+        "Frames read in the wait at the start, and not called.",
+        |n| n.counts.early,
     ),
     (
         "outgoing_total",
@@ -129,6 +146,12 @@ const NETWORK_COUNTERS: [OfNetwork; 5] = [
         "counter",
         "Frames without the kernel's time stamp.",
         |n| n.counts.unstamped,
+    ),
+    (
+        "cut_total",
+        "counter",
+        "Frames longer than a place that frames are read into.",
+        |n| n.counts.cut,
     ),
     (
         "reopened_total",
@@ -152,6 +175,12 @@ impl Text {
     fn value(&mut self, name: &str, labels: &dyn Display, value: u64) {
         let _ = writeln!(self.0, "nippitsun_{name}{labels} {value}");
     }
+
+    /// A family of one value.
+    fn alone(&mut self, name: &str, kind: &str, what: &str, value: u64) {
+        self.family(name, kind, what);
+        self.value(name, &"", value);
+    }
 }
 
 impl Report<'_> {
@@ -160,17 +189,17 @@ impl Report<'_> {
         records.filter(|(_, stream)| stream.is_used()).collect()
     }
 
-    /// A line a stream, a line a refusal that was given, a line a network, and one of the turns.
+    /// A line a stream, a line a refusal that was given, a line a network, one of standard output, and one of the turns.
     pub fn lines(&self) -> String {
         let mut text = String::new();
         for (slot, s) in self.streams() {
-            let (c, [w0, w1]) = (&s.counts, self.silences.of(slot));
+            let (c, [side0, side1]) = (&s.counts, self.watches.of(slot));
             let _ = writeln!(
                 text,
-                "{} rule {} L {} R {} arrivals0 {} arrivals1 {} passed {} discarded {} rogue {} disorder {} lost {} resets {} \
-                 silent0 {} back0 {} silent1 {} back1 {}",
+                "{} rule {} L {} R {} arrivals0 {} arrivals1 {} passed {} discarded {} rogue {} out_of_order {} lost {} \
+                 resets {} silences0 {} returns0 {} silences1 {} returns1 {}",
                 name_of(slot, s),
-                s.rule,
+                rule_of(s),
                 s.window,
                 s.time,
                 c.arrivals0,
@@ -181,10 +210,10 @@ impl Report<'_> {
                 c.disorder,
                 c.lost,
                 c.resets,
-                w0.silences,
-                w0.returns,
-                w1.silences,
-                w1.returns,
+                side0.silences,
+                side0.returns,
+                side1.silences,
+                side1.returns,
             );
         }
         for refusal in Refusal::ALL {
@@ -207,18 +236,33 @@ impl Report<'_> {
             };
             let _ = writeln!(
                 text,
-                "network {i} frames {} outgoing {} dropped {} unstamped {} reopened {}{crossed}",
-                c.frames, c.outgoing, c.dropped, c.unstamped, c.reopened
+                "network {i} ({}) frames {} early {} outgoing {} dropped {} unstamped {} cut {} reopened {}{crossed}",
+                network.interface,
+                c.frames,
+                c.early,
+                c.outgoing,
+                c.dropped,
+                c.unstamped,
+                c.cut,
+                c.reopened
             );
         }
+        let (waiting, stalls) = (self.waiting, self.stalls);
+        let _ = writeln!(text, "output waiting {waiting} stalls {stalls}");
         let (ticks, late, steps) = (self.ticks, self.late, self.steps);
-        let _ = write!(text, "ticks {ticks} late {late} steps {steps}");
-        text
+        let turns = format!("ticks {ticks} late_turns {late} clock_steps {steps}");
+        text + &turns
     }
 
     /// The same in the text form that Prometheus reads.
     pub fn prometheus(&self) -> String {
         let mut text = Text(String::new());
+        text.alone(
+            "listening",
+            "gauge",
+            "1 once the wait at the start is over and the streams are open.",
+            self.listening.into(),
+        );
         let name = "arrivals_total";
         let what = "Arrivals of a stream on a network.";
         text.family(name, "counter", what);
@@ -234,11 +278,11 @@ impl Report<'_> {
                 text.value(name, &labels(slot, s, None), field(&s.counts));
             }
         }
-        for (name, kind, what, field) in WATCHES {
+        for (name, kind, what, field) in SIDES {
             text.family(name, kind, what);
             for (slot, s) in self.streams() {
-                for (network, watch) in self.silences.of(slot).iter().enumerate() {
-                    text.value(name, &labels(slot, s, Some(network)), field(watch));
+                for (network, side) in self.watches.of(slot).iter().enumerate() {
+                    text.value(name, &labels(slot, s, Some(network)), field(side));
                 }
             }
         }
@@ -252,31 +296,48 @@ impl Report<'_> {
             let labels = format!("{{number=\"{number}\"}}");
             text.value("refused_total", &labels, self.refused[usize::from(number)]);
         }
-        text.family(
+        text.alone(
             "damaged",
             "gauge",
             "Records in use that are damaged, at the last tick.",
+            self.damaged,
         );
-        text.value("damaged", &"", self.damaged);
         let crossed = self.prp.then_some(CROSSED);
-        let figures = NETWORK_COUNTERS.into_iter().chain(crossed).chain([OPEN]);
+        let figures = NETWORK_COUNTERS.into_iter().chain(crossed).chain(STATES);
         for (name, kind, what, field) in figures {
             text.family(name, kind, what);
             for (i, network) in self.networks.iter().enumerate() {
                 text.value(name, &format!("{{network=\"{i}\"}}"), field(network));
             }
         }
-        for (name, what, count) in [
-            ("ticks_total", "Ticks.", self.ticks),
+        for (name, kind, what, count) in [
+            (
+                "output_waiting",
+                "gauge",
+                "Frames handed up that wait for standard output.",
+                self.waiting,
+            ),
+            (
+                "stalls_total",
+                "counter",
+                "Times the backlog for standard output was full.",
+                self.stalls,
+            ),
+            ("ticks_total", "counter", "Ticks.", self.ticks),
             (
                 "late_turns_total",
+                "counter",
                 "Turns that came late by more than a quarter of a tick.",
                 self.late,
             ),
-            ("clock_steps_total", "Steps of real time.", self.steps),
+            (
+                "clock_steps_total",
+                "counter",
+                "Steps of real time.",
+                self.steps,
+            ),
         ] {
-            text.family(name, "counter", what);
-            text.value(name, &"", count);
+            text.alone(name, kind, what, count);
         }
         text.0
     }
@@ -284,53 +345,132 @@ impl Report<'_> {
 
 /// What lines call a stream.
 fn name_of(slot: usize, stream: &Stream) -> String {
-    format!("slot {slot} dest {:012x} vlan {}", stream.dest, stream.vlan)
+    format!(
+        "slot {slot} dest {} vlan {}",
+        address_of(stream),
+        stream.vlan
+    )
+}
+
+fn rule_of(stream: &Stream) -> &'static str {
+    match stream.rule {
+        Stream::VECTOR_RULE => "vector",
+        _ => "match",
+    }
+}
+
+fn address_of(stream: &Stream) -> String {
+    let bytes = stream.dest.to_be_bytes();
+    let six: Vec<String> = bytes[2..].iter().map(|b| format!("{b:02x}")).collect();
+    six.join(":")
 }
 
 /// The labels of a stream, and of one network behind them.
 fn labels(slot: usize, stream: &Stream, network: Option<usize>) -> String {
-    let dest: Vec<String> = stream.dest.to_be_bytes()[2..]
-        .iter()
-        .map(|byte| format!("{byte:02x}"))
-        .collect();
-    let (dest, vlan) = (dest.join(":"), stream.vlan);
+    let (dest, vlan) = (address_of(stream), stream.vlan);
     let network = network.map_or(String::new(), |n| format!(",network=\"{n}\""));
     format!("{{slot=\"{slot}\",dest=\"{dest}\",vlan=\"{vlan}\"{network}}}")
 }
 
-/// An alarm after a silence of so many milliseconds, or its end.
-pub fn news_line(news: News, stream: &Stream, alarm_ms: i64) -> String {
-    let (name, network) = (name_of(news.slot, stream), news.network);
-    let other = 1 - network;
-    match news.silent {
-        true => format!(
-            "alarm: {name}: no arrival on network {network} for {alarm_ms} ms, while network {other} has arrivals"
-        ),
-        false => format!("back: {name}: arrivals on network {network} again"),
+fn state_words(state: State) -> &'static str {
+    match state {
+        State::Up => "up",
+        State::Down => "down",
+        State::NoCarrier => "no carrier",
+        State::NotThere => "not there",
     }
+}
+
+/// What the lines about a stream need to know of its networks.
+pub struct About<'a> {
+    pub alarm_ms: i64,
+    pub interfaces: &'a [String; NETWORKS],
+    pub states: [State; NETWORKS],
+}
+
+/// News of a stream, without the time.
+pub fn news_line(news: News, stream: &Stream, about: &About) -> String {
+    let ms = about.alarm_ms;
+    let interface = |network: usize| &about.interfaces[network];
+    let (word, what) = match news.what {
+        What::Silent { network } => {
+            let (own, state) = (interface(network), state_words(about.states[network]));
+            let (other, others) = (1 - network, interface(1 - network));
+            let what = format!(
+                "no arrival on network {network} ({own}, {state}) for {ms} ms, while network {other} ({others}) has arrivals"
+            );
+            ("alarm", what)
+        }
+        What::Heard { network } => {
+            let own = interface(network);
+            (
+                "back",
+                format!("arrivals on network {network} ({own}) again"),
+            )
+        }
+        What::NothingHandedUp => (
+            "alarm",
+            format!("arrivals, but nothing handed up for {ms} ms"),
+        ),
+        What::HandedUpAgain => ("back", "frames are handed up again".to_string()),
+        What::NoArrival => ("alarm", format!("no arrival on either network for {ms} ms")),
+        What::Arrivals => ("back", "arrivals again".to_string()),
+        What::NothingYet => ("alarm", "nothing has come yet".to_string()),
+        What::First => ("back", "the first frame has come".to_string()),
+        What::Single { doubled } => (
+            "alarm",
+            format!("of 16 handed up in a row {doubled} had a second copy"),
+        ),
+        What::Double => ("back", "second copies come again".to_string()),
+        What::Rogues { count, since_ms } => (
+            "rogues",
+            format!("{count} in the last second, nothing handed up for {since_ms} ms"),
+        ),
+        What::NoMoreRogues => ("over", "no more rogues".to_string()),
+        What::Lost { count } => ("lost", format!("{count} in the last second")),
+        What::NoneLost => ("over", "none lost any more".to_string()),
+    };
+    format!("{word}: {}: {what}", name_of(news.slot, stream))
+}
+
+/// The kernel drops frames of a network, or no more, without the time.
+pub fn drops_line(rose: Rose, network: usize, interface: &str) -> String {
+    match rose {
+        Rose::By(count) => format!(
+            "dropped by the kernel on network {network} ({interface}): {count} in the last second"
+        ),
+        Rose::NoMore => format!("over: no more dropped on network {network} ({interface})"),
+    }
+}
+
+/// A name beside the file.
+pub fn beside(file: &Path, end: &str) -> PathBuf {
+    let mut name: OsString = file.into();
+    name.push(end);
+    name.into()
 }
 
 /// Writes the text beside the file and renames it over it, so that no reader sees half of it.
 pub fn write_over(file: &Path, text: &str) -> io::Result<()> {
-    let mut beside = file.as_os_str().to_owned();
-    beside.push(".new");
-    fs::write(&beside, text)?;
-    fs::rename(&beside, file)
+    let new = beside(file, ".new");
+    fs::write(&new, text)?;
+    fs::rename(&new, file)
 }
 
 #[cfg(test)]
 mod tests {
     use super::*;
+    use nippitsun::Verdict;
     use std::collections::BTreeSet;
 
     /// Streams in slots 0 and 2, network 1 silent for the second.
     fn with_report(prp: bool, look: impl Fn(&Report)) {
-        let stream = |dest, vlan, passed| Stream {
+        let stream = |dest, vlan, rule, passed| Stream {
             dest,
             vlan,
             window: 5,
             time: 3,
-            rule: Stream::VECTOR_RULE,
+            rule,
             used: 1,
             counts: Counts {
                 arrivals0: passed,
@@ -340,34 +480,43 @@ mod tests {
             ..Stream::default()
         };
         let records = [
-            stream(0x0100_5E00_0007, 100, 7),
+            stream(0x0100_5E00_0007, 100, Stream::VECTOR_RULE, 7),
             Stream::default(),
-            stream(0x0200_0000_0001, 0, 9),
+            stream(0x0200_0000_0001, 0, Stream::MATCH_RULE, 9),
         ];
-        let mut silences = Silences::new(3, Some(10), 0);
-        silences.arrival(2, 0, 6);
-        silences.found_by(11);
+        let mut watches = Watches::new(3, Some(10), 0);
+        watches.arrival(2, 0, Verdict::Rogue, &records[2], 6);
+        watches.found_by(11);
         let mut refused = [0; NUMBERS];
         refused[3] = 4;
         refused[usize::from(Refusal::Group.number())] = 8;
-        let network = |frames, open| Network {
+        let network = |interface, frames, state| Network {
+            interface,
             counts: port::Counts {
                 frames,
+                early: 6,
                 outgoing: 1,
                 dropped: 2,
                 unstamped: 3,
+                cut: 7,
                 reopened: 4,
                 crossed: 5,
             },
-            open,
+            state,
         };
         look(&Report {
+            listening: true,
             records: &records,
-            silences: &silences,
+            watches: &watches,
             refused: &refused,
             damaged: 1,
-            networks: [network(20, true), network(30, false)],
+            networks: [
+                network("eth1", 20, State::NoCarrier),
+                network("eth2", 30, State::Down),
+            ],
             prp,
+            waiting: 12,
+            stalls: 3,
             ticks: 50,
             late: 6,
             steps: 1,
@@ -377,14 +526,15 @@ mod tests {
     #[test]
     fn lines() {
         let expected = "\
-slot 0 dest 01005e000007 vlan 100 rule 1 L 5 R 3 arrivals0 7 arrivals1 0 passed 7 discarded 0 rogue 0 disorder 0 lost 0 resets 0 silent0 0 back0 0 silent1 0 back1 0
-slot 2 dest 020000000001 vlan 0 rule 1 L 5 R 3 arrivals0 9 arrivals1 0 passed 9 discarded 0 rogue 0 disorder 0 lost 0 resets 0 silent0 0 back0 0 silent1 1 back1 0
+slot 0 dest 01:00:5e:00:00:07 vlan 100 rule vector L 5 R 3 arrivals0 7 arrivals1 0 passed 7 discarded 0 rogue 0 out_of_order 0 lost 0 resets 0 silences0 0 returns0 0 silences1 0 returns1 0
+slot 2 dest 02:00:00:00:00:01 vlan 0 rule match L 5 R 3 arrivals0 9 arrivals1 0 passed 9 discarded 0 rogue 0 out_of_order 0 lost 0 resets 0 silences0 0 returns0 0 silences1 1 returns1 0
 refused 3 (frame too long) 4
 refused 14 (group source address) 8
 damaged 1
-network 0 frames 20 outgoing 1 dropped 2 unstamped 3 reopened 4
-network 1 frames 30 outgoing 1 dropped 2 unstamped 3 reopened 4
-ticks 50 late 6 steps 1";
+network 0 (eth1) frames 20 early 6 outgoing 1 dropped 2 unstamped 3 cut 7 reopened 4
+network 1 (eth2) frames 30 early 6 outgoing 1 dropped 2 unstamped 3 cut 7 reopened 4
+output waiting 12 stalls 3
+ticks 50 late_turns 6 clock_steps 1";
         with_report(false, |report| assert_eq!(report.lines(), expected));
         let on_prp = expected.replace("reopened 4\n", "reopened 4 crossed 5\n");
         with_report(true, |report| assert_eq!(report.lines(), on_prp));
@@ -416,13 +566,13 @@ ticks 50 late 6 steps 1";
             assert_eq!(name.split('{').next(), Some(&*family));
             assert!(value.parse::<u64>().is_ok() && values.insert(name.to_string()));
         }
-        // Four families by stream and network, six by stream, one by refusal, six by network and one more on a PRP line, four
+        // Four families by stream and network, six by stream, one by refusal, nine by network and one more on a PRP line, seven
         // alone.
-        let by_network = 6 + usize::from(prp);
-        assert_eq!(families.len(), 15 + by_network);
+        let by_network = 9 + usize::from(prp);
+        assert_eq!(families.len(), 18 + by_network);
         assert_eq!(
             values.len(),
-            4 * 4 + 6 * 2 + Refusal::ALL.len() + by_network * 2 + 4
+            4 * 4 + 6 * 2 + Refusal::ALL.len() + by_network * 2 + 7
         );
         let crossed = "nippitsun_crossed_total{network=\"1\"} 5";
         assert_eq!(text.lines().any(|one| one == crossed), prp);
@@ -432,7 +582,14 @@ ticks 50 late 6 steps 1";
                 "nippitsun_silent{slot=\"2\",dest=\"02:00:00:00:00:01\",vlan=\"0\",network=\"1\"} 1",
                 "nippitsun_refused_total{number=\"3\"} 4",
                 "nippitsun_refused_total{number=\"14\"} 8",
+                "nippitsun_open{network=\"0\"} 1",
                 "nippitsun_open{network=\"1\"} 0",
+                "nippitsun_carrier{network=\"0\"} 0",
+                "nippitsun_early_total{network=\"0\"} 6",
+                "nippitsun_cut_total{network=\"1\"} 7",
+                "nippitsun_output_waiting 12",
+                "nippitsun_stalls_total 3",
+                "nippitsun_listening 1",
                 "nippitsun_clock_steps_total 1",
             ] {
                 assert!(text.lines().any(|one| one == line), "{line}");
@@ -446,20 +603,45 @@ ticks 50 late 6 steps 1";
             vlan: 100,
             ..Stream::default()
         };
-        let line = |silent| {
-            let news = News {
-                slot: 0,
-                network: 1,
-                silent,
-            };
-            news_line(news, &stream, 1000)
+        let about = About {
+            alarm_ms: 1000,
+            interfaces: &["eth1".to_string(), "eth2".to_string()],
+            states: [State::Up, State::NoCarrier],
         };
-        let name = "slot 0 dest 01005e000007 vlan 100";
-        let alarm = "no arrival on network 1 for 1000 ms, while network 0 has arrivals";
-        assert_eq!(line(true), format!("alarm: {name}: {alarm}"));
+        for (what, expected) in [
+            (
+                What::Silent { network: 1 },
+                "alarm: S: no arrival on network 1 (eth2, no carrier) for 1000 ms, while network 0 (eth1) has arrivals",
+            ),
+            (What::Heard { network: 1 }, "back: S: arrivals on network 1 (eth2) again"),
+            (What::NothingHandedUp, "alarm: S: arrivals, but nothing handed up for 1000 ms"),
+            (What::HandedUpAgain, "back: S: frames are handed up again"),
+            (What::NoArrival, "alarm: S: no arrival on either network for 1000 ms"),
+            (What::Arrivals, "back: S: arrivals again"),
+            (What::NothingYet, "alarm: S: nothing has come yet"),
+            (What::First, "back: S: the first frame has come"),
+            (What::Single { doubled: 3 }, "alarm: S: of 16 handed up in a row 3 had a second copy"),
+            (What::Double, "back: S: second copies come again"),
+            (
+                What::Rogues { count: 4, since_ms: 70 },
+                "rogues: S: 4 in the last second, nothing handed up for 70 ms",
+            ),
+            (What::NoMoreRogues, "over: S: no more rogues"),
+            (What::Lost { count: 4 }, "lost: S: 4 in the last second"),
+            (What::NoneLost, "over: S: none lost any more"),
+        ] {
+            let name = "slot 3 dest 01:00:5e:00:00:07 vlan 100";
+            let line = news_line(News { slot: 3, what }, &stream, &about);
+            assert_eq!(line, expected.replace('S', name));
+        }
+        let line = |rose| drops_line(rose, 1, "eth2");
         assert_eq!(
-            line(false),
-            format!("back: {name}: arrivals on network 1 again")
+            line(Rose::By(9)),
+            "dropped by the kernel on network 1 (eth2): 9 in the last second"
+        );
+        assert_eq!(
+            line(Rose::NoMore),
+            "over: no more dropped on network 1 (eth2)"
         );
     }
 

@@ -1,19 +1,23 @@
-//! Packet sockets (packet(7)), the wait for them, and signals, by the C library's own calls, declared by hand so that no
-//! further crate is needed. Numbers and layouts are those of Linux on x86-64 and on Arm of 64 bits. This is the only module
-//! with unsafe code.
+//! Packet sockets (packet(7)), the wait for them, signals, standard output and the time of day, by the C library's own calls,
+//! declared by hand so that no further crate is needed. Numbers and layouts are those of Linux on x86-64 and on Arm of 64
+//! bits. Unsafe code stands here and in `ring` alone.
 #![allow(unsafe_code)]
 
 use crate::filter::Instruction;
 use crate::frame::{VLAN_MARK, VLAN_TAG};
 use crate::order::{Time, BATCH, NETWORKS};
-use nippitsun::Stream;
+use crate::ring::{self, Mapping, Ring};
+use crate::ring::{FRAME_MOST, TP_STATUS_VLAN_TPID_VALID, TP_STATUS_VLAN_VALID};
 use std::ffi::CString;
-use std::fs::File;
-use std::io::{self, Read};
+use std::fs::{File, OpenOptions};
+use std::io::{self, Read, Write};
 use std::mem::size_of;
 use std::os::raw::{c_char, c_int, c_long, c_short, c_uint, c_ulong, c_void};
-use std::os::unix::io::{AsRawFd, FromRawFd, OwnedFd};
+use std::os::unix::fs::{FileTypeExt, OpenOptionsExt};
+use std::os::unix::io::{AsFd, AsRawFd, FromRawFd, OwnedFd};
 use std::ptr;
+use std::sync::atomic::{AtomicBool, Ordering};
+use std::time::{SystemTime, UNIX_EPOCH};
 
 #[cfg(not(all(
     target_os = "linux",
@@ -28,6 +32,7 @@ const SOCK_RAW: c_int = 3;
 const SOCK_CLOEXEC: c_int = 0o2000000;
 const ETH_P_ALL: u16 = 3;
 const SOL_SOCKET: c_int = 1;
+const SO_ERROR: c_int = 4;
 const SO_RCVBUF: c_int = 8;
 const SO_ATTACH_FILTER: c_int = 26;
 const SO_RCVBUFFORCE: c_int = 33;
@@ -36,15 +41,35 @@ const SOF_TIMESTAMPING_RX_SOFTWARE: c_int = 1 << 3;
 const SOF_TIMESTAMPING_SOFTWARE: c_int = 1 << 4;
 const SOL_PACKET: c_int = 263;
 const PACKET_ADD_MEMBERSHIP: c_int = 1;
+const PACKET_RX_RING: c_int = 5;
 const PACKET_STATISTICS: c_int = 6;
 const PACKET_AUXDATA: c_int = 8;
+const PACKET_VERSION: c_int = 10;
+const PACKET_RESERVE: c_int = 12;
+const PACKET_TIMESTAMP: c_int = 17;
 const PACKET_MR_PROMISC: u16 = 1;
-const PACKET_OUTGOING: u8 = 4;
-const TP_STATUS_VLAN_VALID: u32 = 1 << 4;
-const TP_STATUS_VLAN_TPID_VALID: u32 = 1 << 6;
+pub const PACKET_OUTGOING: u8 = 4;
+const TPACKET_V2: c_int = 1;
+const MSG_TRUNC: c_int = 0x20;
 const MSG_DONTWAIT: c_int = 0x40;
+const MSG_NOSIGNAL: c_int = 0x4000;
+const SIOCGIFFLAGS: c_ulong = 0x8913;
+const IFF_UP: u16 = 1;
+const IFF_RUNNING: u16 = 0x40;
 const POLLIN: c_short = 1;
+const POLLOUT: c_short = 4;
+const POLLERR: c_short = 8;
+const EPERM: c_int = 1;
 const ENETDOWN: c_int = 100;
+const O_NOCTTY: c_int = 0o400;
+const O_NONBLOCK: c_int = 0o4000;
+const F_GETFD: c_int = 1;
+const F_GETFL: c_int = 3;
+const F_SETFL: c_int = 4;
+const LOCK_EX: c_int = 2;
+const LOCK_NB: c_int = 4;
+const STANDARD_OUTPUT: c_int = 1;
+const STANDARD_ERROR: c_int = 2;
 const SIG_BLOCK: c_int = 0;
 const SIGINT: u32 = 2;
 const SIGUSR1: u32 = 10;
@@ -144,6 +169,42 @@ struct Statistics {
     dropped: c_uint,
 }
 
+/// `struct tpacket_req`.
+#[repr(C)]
+struct RingSize {
+    block: c_uint,
+    blocks: c_uint,
+    slot: c_uint,
+    slots: c_uint,
+}
+
+/// `struct ifreq`, with the flags of an interface.
+#[repr(C)]
+struct Flags {
+    name: [u8; NAME],
+    flags: u16,
+    rest: [u8; 22],
+}
+
+/// IFNAMSIZ.
+const NAME: usize = 16;
+
+/// `struct tm`. Months count from 0, years from 1900; the offset is in seconds east of Greenwich.
+#[repr(C)]
+struct Calendar {
+    second: c_int,
+    minute: c_int,
+    hour: c_int,
+    day: c_int,
+    month: c_int,
+    year: c_int,
+    day_of_week: c_int,
+    day_of_year: c_int,
+    summer: c_int,
+    offset: c_long,
+    zone: *const c_char,
+}
+
 /// `sigset_t`: signal n is bit n - 1.
 #[repr(C)]
 struct SignalSet([c_ulong; 16]);
@@ -154,9 +215,16 @@ const _: () = assert!(size_of::<Control>() == 104 && size_of::<Head>() == 56);
 const _: () = assert!(size_of::<Part>() == 16 && size_of::<Message>() == 64);
 const _: () = assert!(size_of::<Pause>() == 16 && size_of::<Statistics>() == 8);
 const _: () = assert!(size_of::<Poll>() == 8 && size_of::<SignalSet>() == 128);
+const _: () = assert!(size_of::<RingSize>() == 16 && size_of::<Flags>() == 40);
+const _: () = assert!(size_of::<Calendar>() == 56);
 
 extern "C" {
     fn if_nametoindex(name: *const c_char) -> c_uint;
+    fn if_indextoname(number: c_uint, name: *mut u8) -> *mut c_char;
+    fn ioctl(file: c_int, request: c_ulong, ...) -> c_int;
+    fn fcntl(file: c_int, request: c_int, ...) -> c_int;
+    fn flock(file: c_int, how: c_int) -> c_int;
+    fn localtime_r(seconds: *const c_long, to: *mut Calendar) -> *mut Calendar;
     fn socket(domain: c_int, kind: c_int, protocol: c_int) -> c_int;
     fn bind(socket: c_int, address: *const Address, length: c_uint) -> c_int;
     fn getsockname(socket: c_int, address: *mut Address, length: *mut c_uint) -> c_int;
@@ -168,6 +236,7 @@ extern "C" {
         at: *mut c_void,
         n: *mut c_uint,
     ) -> c_int;
+    fn send(socket: c_int, at: *const u8, length: usize, flags: c_int) -> isize;
     fn recvmmsg(
         socket: c_int,
         messages: *mut Message,
@@ -218,13 +287,15 @@ pub fn interface_number(interface: &str) -> Option<i32> {
 
 /// Bytes for one frame. In front there is room for the VLAN tag; there is one byte more than a frame may have, so that a
 /// longer one, which is cut to this room, is still too long for the library.
-pub type Room = [u8; VLAN_TAG + Stream::FRAME_MOST + 1];
+pub type Room = [u8; VLAN_TAG + FRAME_MOST];
 
 /// A frame that a socket had.
-#[derive(Clone, Copy)]
+#[derive(Clone, Copy, Debug)]
 pub struct Seen {
     /// Bytes of it in its room.
     pub length: usize,
+    /// Bytes of it as the socket had it.
+    pub whole: usize,
     /// Did this machine send it?
     pub outgoing: bool,
     /// The VLAN tag that the kernel took out of it.
@@ -240,6 +311,19 @@ fn named(what: &'static str) -> impl FnOnce(io::Error) -> Failure {
     move |e| (what, e)
 }
 
+/// What is known of an interface.
+#[derive(Clone, Copy, Debug, PartialEq, Eq)]
+pub enum State {
+    Up,
+    /// By whoever is responsible for it.
+    Down,
+    NoCarrier,
+    NotThere,
+}
+
+/// What fails where the program may not have a packet socket.
+pub const OPENING: &str = "packet socket";
+
 /// A packet socket.
 pub struct Socket {
     file: OwnedFd,
@@ -252,7 +336,7 @@ impl Socket {
         // Type 0 is no frame at all: before it is bound, a socket would take those of every interface.
         // SAFETY: three numbers.
         let number = checked(unsafe { socket(AF_PACKET, SOCK_RAW | SOCK_CLOEXEC, 0) })
-            .map_err(named("packet socket"))?;
+            .map_err(named(OPENING))?;
         let socket = Socket {
             // SAFETY: the number is a socket that was opened just now, and nothing else has it.
             file: unsafe { OwnedFd::from_raw_fd(number) },
@@ -306,6 +390,26 @@ impl Socket {
         forced.is_ok() || limited().unwrap_or_else(|_: io::Error| false)
     }
 
+    /// A ring of so many blocks in the place of the socket's own room. Where it fails, the socket may be left with half of it.
+    pub fn make_ring(&self, blocks: usize) -> Result<Ring<Mapping>, Failure> {
+        self.set(SOL_PACKET, PACKET_VERSION, &TPACKET_V2)
+            .map_err(named("PACKET_VERSION"))?;
+        self.set(SOL_PACKET, PACKET_RESERVE, &ring::RESERVE)
+            .map_err(named("PACKET_RESERVE"))?;
+        self.set(SOL_PACKET, PACKET_TIMESTAMP, &SOF_TIMESTAMPING_SOFTWARE)
+            .map_err(named("PACKET_TIMESTAMP"))?;
+        let size = RingSize {
+            block: ring::BLOCK as c_uint,
+            blocks: blocks as c_uint,
+            slot: ring::SLOT as c_uint,
+            slots: (blocks * ring::SLOTS_OF_BLOCK) as c_uint,
+        };
+        self.set(SOL_PACKET, PACKET_RX_RING, &size)
+            .map_err(named("PACKET_RX_RING"))?;
+        let mapping = Mapping::new(self.file.as_raw_fd(), blocks * ring::BLOCK);
+        Ok(Ring::new(mapping.map_err(named("mmap"))?))
+    }
+
     /// From here on the socket takes the frames of this interface.
     pub fn bind(&self, interface: i32) -> io::Result<()> {
         let address = Address {
@@ -334,6 +438,37 @@ impl Socket {
         // SAFETY: the kernel writes at most so many bytes; they belong to this call until it ends, and hold integers only.
         checked(unsafe { getsockname(self.file.as_raw_fd(), &mut address, &mut length) })?;
         Ok((address.interface > 0).then_some(address.interface))
+    }
+
+    /// What is known of the socket's interface, which may have another name by now.
+    pub fn state(&self) -> io::Result<State> {
+        let number = match self.interface()? {
+            Some(number) => number,
+            None => return Ok(State::NotThere),
+        };
+        let mut asked = Flags {
+            name: [0; NAME],
+            flags: 0,
+            rest: [0; 22],
+        };
+        // SAFETY: the name is written into as many bytes as any name of an interface takes.
+        let name = unsafe { if_indextoname(number as c_uint, asked.name.as_mut_ptr()) };
+        // SAFETY: the kernel writes at most so many bytes as the struct has; they belong to this call until it ends.
+        let answer = unsafe { ioctl(self.file.as_raw_fd(), SIOCGIFFLAGS, &mut asked) };
+        if name.is_null() || answer < 0 {
+            return Ok(State::NotThere);
+        }
+        Ok(match (asked.flags & IFF_UP, asked.flags & IFF_RUNNING) {
+            (0, _) => State::Down,
+            (_, 0) => State::NoCarrier,
+            _ => State::Up,
+        })
+    }
+
+    /// Takes an error off that waits on the socket: an interface that went down leaves one, and the wait would end at once
+    /// until it is read.
+    pub fn take_error(&self) -> io::Result<()> {
+        self.get(SOL_SOCKET, SO_ERROR, 0_i32).map(|_| ())
     }
 
     /// Reads frames that wait, as many as there are rooms at most, and at most a batch. That there are fewer does not say
@@ -373,21 +508,24 @@ impl Socket {
         let at = messages.as_mut_ptr();
         // SAFETY: `count` messages are there, and as many parts lead to rooms. Their pointers lead to the arrays above and to
         // the rooms, each with its length beside it. They belong to this call until it ends. They hold integers only, so
-        // whatever the kernel writes there is a value. No limit is given, which the flag makes needless.
+        // whatever the kernel writes there is a value. No limit is given, which the first flag makes needless. The second
+        // one asks for the whole length of a frame that was cut.
         let got = checked(unsafe {
             recvmmsg(
                 self.file.as_raw_fd(),
                 at,
                 count as c_uint,
-                MSG_DONTWAIT,
+                MSG_DONTWAIT | MSG_TRUNC,
                 ptr::null_mut(),
             )
         })?;
         for i in 0..got as usize {
             let beside = &controls[i].bytes[..messages[i].head.control_length.min(CONTROL)];
             let (stamp, vlan) = read_control(beside);
+            let whole = messages[i].received as usize;
             seen.push(Seen {
-                length: messages[i].received as usize,
+                length: whole.min(FRAME_MOST),
+                whole,
                 outgoing: froms[i].packet == PACKET_OUTGOING,
                 vlan,
                 stamp,
@@ -401,6 +539,11 @@ impl Socket {
         let none = Statistics::default();
         Ok(self.get(SOL_PACKET, PACKET_STATISTICS, none)?.dropped)
     }
+}
+
+/// Does a socket need a right that the program has not?
+pub fn is_without_right(error: &io::Error) -> bool {
+    error.raw_os_error() == Some(EPERM)
 }
 
 /// Is this what a socket says whose interface goes down or is removed?
@@ -441,7 +584,7 @@ fn read_control(mut rest: &[u8]) -> (Option<i64>, Option<[u8; VLAN_TAG]>) {
 }
 
 /// So many bytes as a number of this machine, whose low byte is the first.
-fn number(bytes: &[u8], at: usize, length: usize) -> u64 {
+pub fn number(bytes: &[u8], at: usize, length: usize) -> u64 {
     let part = &bytes[at..at + length];
     part.iter().rev().fold(0, |n, b| n << 8 | u64::from(*b))
 }
@@ -486,38 +629,213 @@ impl Signals {
     }
 }
 
-/// Waits until a frame is there, or a signal, or for so long. Answers whether a signal came. A network without a socket has
-/// no frame.
+/// What a wait ended with.
+#[derive(Default)]
+pub struct Came {
+    pub signal: bool,
+    /// On a socket an error waits.
+    pub errors: [bool; NETWORKS],
+}
+
+/// Waits until a frame is there, or a signal, or standard output takes something, or for so long. What is `None` is not waited
+/// for.
 pub fn wait(
     sockets: [Option<&Socket>; NETWORKS],
     signals: &Signals,
+    output: Option<&Output>,
     limit: Time,
-) -> io::Result<bool> {
+) -> io::Result<Came> {
     let socket = |network: usize| sockets[network].map_or(-1, |socket| socket.file.as_raw_fd());
-    let mut files = [socket(0), socket(1), signals.file.as_raw_fd()].map(|file| Poll {
+    let output = output.map_or(-1, |output| output.file.as_raw_fd());
+    let mut files = [
+        (socket(0), POLLIN),
+        (socket(1), POLLIN),
+        (signals.file.as_raw_fd(), POLLIN),
+        (output, POLLOUT),
+    ]
+    .map(|(file, events)| Poll {
         file,
-        events: POLLIN,
+        events,
         came: 0,
     });
+    match poll(&mut files, limit) {
+        Err(e) if e.kind() == io::ErrorKind::Interrupted => Ok(Came::default()),
+        Err(e) => Err(e),
+        Ok(()) => Ok(Came {
+            signal: files[NETWORKS].came != 0,
+            errors: [0, 1].map(|network: usize| files[network].came & POLLERR != 0),
+        }),
+    }
+}
+
+fn poll(files: &mut [Poll], limit: Time) -> io::Result<()> {
     let limit = Pause {
         seconds: limit / 1_000_000_000,
         nanoseconds: limit % 1_000_000_000,
     };
-    // SAFETY: the array is there in the length that is given and belongs to this call until it ends; `came` takes any value.
+    // SAFETY: the files are there in the length that is given and belong to this call until it ends; `came` takes any value.
     // The limit is there as long, and the signals stay as they are.
-    let came = unsafe {
+    checked(unsafe {
         ppoll(
             files.as_mut_ptr(),
             files.len() as c_ulong,
             &limit,
             ptr::null(),
         )
-    };
-    match checked(came) {
-        Err(e) if e.kind() == io::ErrorKind::Interrupted => Ok(false),
-        Err(e) => Err(e),
-        Ok(_) => Ok(files[NETWORKS].came != 0),
+    })?;
+    Ok(())
+}
+
+/// Does standard error take a line now, without a wait?
+pub fn error_is_ready() -> bool {
+    let mut files = [Poll {
+        file: STANDARD_ERROR,
+        events: POLLOUT,
+        came: 0,
+    }];
+    poll(&mut files, 0).is_ok() && files[0].came & POLLOUT != 0
+}
+
+/// The program was started with standard output closed.
+static OUTPUT_IS_CLOSED: AtomicBool = AtomicBool::new(false);
+
+/// The standard library puts /dev/null where a standard file is closed, before `main`. So it is looked at before that.
+#[used]
+#[link_section = ".init_array"]
+static LOOK_FIRST: extern "C" fn() = look_at_output;
+
+extern "C" fn look_at_output() {
+    // SAFETY: two numbers.
+    let flags = unsafe { fcntl(STANDARD_OUTPUT, F_GETFD) };
+    OUTPUT_IS_CLOSED.store(flags < 0, Ordering::Relaxed);
+}
+
+pub fn output_is_closed() -> bool {
+    OUTPUT_IS_CLOSED.load(Ordering::Relaxed)
+}
+
+/// Standard output, which never holds this program up.
+pub struct Output {
+    file: File,
+    is_socket: bool,
+    /// Its flags, where they had to be changed and are put back at the end.
+    flags: Option<c_int>,
+}
+
+impl Output {
+    pub fn open() -> io::Result<Output> {
+        let file: File = io::stdout().as_fd().try_clone_to_owned()?.into();
+        let kind = file.metadata()?.file_type();
+        let is_socket = kind.is_socket();
+        if !kind.is_fifo() && !kind.is_char_device() {
+            return Ok(Output {
+                file,
+                is_socket,
+                flags: None,
+            });
+        }
+        // Opened anew it has flags of its own: a terminal or pipe that others use too does not change for them.
+        let anew = OpenOptions::new()
+            .write(true)
+            .custom_flags(O_NONBLOCK | O_NOCTTY)
+            .open("/proc/self/fd/1");
+        if let Ok(file) = anew {
+            return Ok(Output {
+                file,
+                is_socket,
+                flags: None,
+            });
+        }
+        // SAFETY: two numbers.
+        let flags = checked(unsafe { fcntl(STANDARD_OUTPUT, F_GETFL) })?;
+        set_flags(flags | O_NONBLOCK)?;
+        Ok(Output {
+            file,
+            is_socket,
+            flags: Some(flags),
+        })
     }
+}
+
+fn set_flags(flags: c_int) -> io::Result<()> {
+    // SAFETY: three numbers.
+    checked(unsafe { fcntl(STANDARD_OUTPUT, F_SETFL, flags) })?;
+    Ok(())
+}
+
+impl Write for Output {
+    fn write(&mut self, bytes: &[u8]) -> io::Result<usize> {
+        if !self.is_socket {
+            return self.file.write(bytes);
+        }
+        let flags = MSG_DONTWAIT | MSG_NOSIGNAL;
+        // SAFETY: the bytes are there in the length that is given until the call ends, which only reads them.
+        let sent = unsafe { send(self.file.as_raw_fd(), bytes.as_ptr(), bytes.len(), flags) };
+        match sent {
+            0.. => Ok(sent as usize),
+            _ => Err(io::Error::last_os_error()),
+        }
+    }
+
+    fn flush(&mut self) -> io::Result<()> {
+        Ok(())
+    }
+}
+
+impl Drop for Output {
+    fn drop(&mut self) {
+        // Nothing is left to do where that fails.
+        let _ = self.flags.map(set_flags);
+    }
+}
+
+/// Locks a file for as long as it is open. Answers whether another has it.
+pub fn is_locked_by_another(file: &File) -> bool {
+    // SAFETY: two numbers.
+    let locked = checked(unsafe { flock(file.as_raw_fd(), LOCK_EX | LOCK_NB) });
+    locked.map_or_else(|e| e.kind() == io::ErrorKind::WouldBlock, |_| false)
+}
+
+/// The time of day, as ISO 8601 has it, with milliseconds and the offset of this place.
+pub fn local_time() -> String {
+    let since = SystemTime::now().duration_since(UNIX_EPOCH);
+    let since = since.unwrap_or_default();
+    let seconds = since.as_secs() as c_long;
+    let mut at = Calendar {
+        second: 0,
+        minute: 0,
+        hour: 0,
+        day: 1,
+        month: 0,
+        year: 70,
+        day_of_week: 0,
+        day_of_year: 0,
+        summer: 0,
+        offset: 0,
+        zone: ptr::null(),
+    };
+    // SAFETY: both are there until the call ends. The name of the zone, which it points to, is not used. Where the call fails
+    // the time is the begin of 1970.
+    unsafe { localtime_r(&seconds, &mut at) };
+    time_of_day(&at, since.subsec_millis())
+}
+
+fn time_of_day(at: &Calendar, milliseconds: u32) -> String {
+    let (sign, offset) = match at.offset {
+        east @ 0.. => ('+', east / 60),
+        west => ('-', -west / 60),
+    };
+    format!(
+        "{:04}-{:02}-{:02}T{:02}:{:02}:{:02}.{milliseconds:03}{sign}{:02}:{:02}",
+        1900 + at.year,
+        at.month + 1,
+        at.day,
+        at.hour,
+        at.minute,
+        at.second,
+        offset / 60,
+        offset % 60
+    )
 }
 
 #[cfg(test)]
@@ -546,6 +864,34 @@ mod tests {
         data.extend_from_slice(&tci.to_ne_bytes());
         data.extend_from_slice(&tpid.to_ne_bytes());
         record(SOL_PACKET, PACKET_AUXDATA, &data)
+    }
+
+    #[test]
+    fn times_of_day() {
+        let mut at = Calendar {
+            second: 5,
+            minute: 4,
+            hour: 15,
+            day: 7,
+            month: 10,
+            year: 126,
+            day_of_week: 0,
+            day_of_year: 0,
+            summer: 0,
+            offset: 3600,
+            zone: ptr::null(),
+        };
+        for (offset, behind) in [
+            (3600, "+01:00"),
+            (0, "+00:00"),
+            (-12_600, "-03:30"),
+            (20_700, "+05:45"),
+        ] {
+            at.offset = offset;
+            let expected = format!("2026-11-07T15:04:05.023{behind}");
+            assert_eq!(time_of_day(&at, 23), expected);
+        }
+        assert_eq!(local_time().len(), "2026-11-17T15:04:05.123+01:00".len());
     }
 
     #[test]
