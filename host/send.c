@@ -1,6 +1,6 @@
 // send: the frames of a stream on two network interfaces, numbered and tagged by the proved sender, with losses and skew; or of
 // many streams by the clock; with tags, or with the trailers of a PRP line. Each frame carries its index, so that a test can tell
-// which came through.
+// which came through. A copy that can't be sent is dropped, and the other network's goes out all the same.
 #include "clock.h"
 #include "host.h"
 #include "nippitsun.h"
@@ -8,7 +8,10 @@
 #include <errno.h>
 #include <getopt.h>
 #include <inttypes.h>
+#include <linux/if_packet.h>
+#include <net/if.h>
 #include <sched.h>
+#include <signal.h>
 #include <stdio.h>
 #include <stdlib.h>
 #include <string.h>
@@ -102,8 +105,14 @@ static size_t make_frame(uint8_t *frame, const uint8_t *dest, int vlan, size_t s
     return at + 2;
 }
 
-static int ports[NETWORKS];
-static uint64_t sent[NETWORKS];
+// A network.
+static struct line {
+    const char *interface;
+    int port; // the socket that sends there
+    uint64_t sent, dropped;
+    uint64_t missed; // dropped since a copy went out; 0: the last one did
+    int64_t looked;  // when the interface was last looked for by its name
+} lines[NETWORKS];
 
 // By how many nanoseconds a copy went out late, at most: a machine that is busy holds the sender up.
 static int64_t latest;
@@ -153,7 +162,49 @@ static const uint8_t *copy_for(const struct plan *p, int network, uint64_t place
     return now;
 }
 
-// Sends a copy on a network, but for the networks that are left out.
+// The number of the interface that a socket is bound to; of one that was removed: -1.
+static int bound_to(int port)
+{
+    struct sockaddr_ll where;
+    socklen_t size = sizeof where;
+    return getsockname(port, (struct sockaddr *)&where, &size) != 0 ? -1 : where.sll_ifindex;
+}
+
+// The interface of a network was removed, and its socket is bound to none: it is bound to the one that has the name now, if there
+// is one. It is looked for once a second. The other network's may have been given the name: that one is not taken.
+static int open_anew(int network)
+{
+    struct line *l = &lines[network];
+    int64_t now = clock_now();
+    if (l->looked != 0 && now - l->looked < SECOND) return 0;
+    l->looked = now;
+    struct sockaddr_ll where = {.sll_family = AF_PACKET, .sll_ifindex = (int)if_nametoindex(l->interface)};
+    if (where.sll_ifindex == 0 || where.sll_ifindex == bound_to(lines[1 - network].port)) return 0;
+    return bind(l->port, (struct sockaddr *)&where, sizeof where) == 0;
+}
+
+static int is_full_queue(int why)
+{
+    return why == ENOBUFS || why == EAGAIN || why == EINTR;
+}
+
+// Gives a frame to a network: 0, or the error with which it was not taken.
+static int give(int network, const uint8_t *frame, size_t length)
+{
+    struct line *l = &lines[network];
+    // A full queue is waited for, as losses are chosen, not met. But not for long, and not again while nothing goes out: a card that
+    // is stuck must not hold the other network up.
+    int64_t end = l->missed == 0 ? clock_now() + SECOND : 0;
+    for (;;) {
+        if (send(l->port, frame, length, MSG_DONTWAIT) >= 0) return 0;
+        int why = errno;
+        if ((why == ENXIO || why == ENODEV) && open_anew(network)) continue;
+        if (!is_full_queue(why) || clock_now() >= end) return why;
+        sleep_for(PAUSE);
+    }
+}
+
+// Sends a copy on a network, but for the networks that are left out, or drops it.
 static void send_copy(const struct plan *p, int network, const uint8_t *copy)
 {
     if (p->alone >= 0 && p->alone != network) return;
@@ -165,12 +216,19 @@ static void send_copy(const struct plan *p, int network, const uint8_t *copy)
         copy = turned;
         length = a.length;
     }
-    // A full queue is waited for: losses are chosen, not met.
-    while (send(ports[network], copy, length, 0) < 0) {
-        if (errno != ENOBUFS && errno != EAGAIN && errno != EINTR) fail("send");
-        sleep_for(PAUSE);
+    struct line *l = &lines[network];
+    int why = give(network, copy, length);
+    if (why == 0) {
+        if (l->missed != 0) say_now("back: network %d (%s): copies go out again, %" PRIu64 " were dropped", network, l->interface, l->missed);
+        l->missed = 0;
+        l->sent++;
+    } else {
+        if (l->missed == 0)
+            say_now("dropped: network %d (%s): %s; its copies are dropped until they go out again", network, l->interface,
+                is_full_queue(why) ? "its queue is full" : strerror(why));
+        l->missed++;
+        l->dropped++;
     }
-    sent[network]++;
 }
 
 // Sends the indices from `from` on, and ends before `to`.
@@ -219,8 +277,22 @@ static void send_by_clock(const struct plan *p, uint64_t from, uint64_t to)
     }
 }
 
+// Copies on a network of each stream. Of some streams more may have been dropped than of others: what was dropped of any counts.
+static uint64_t sent_of_each(const struct plan *p, int network)
+{
+    return lines[network].sent / p->streams;
+}
+
+static uint64_t dropped_of_each(const struct plan *p, int network)
+{
+    return (lines[network].sent + lines[network].dropped) / p->streams - sent_of_each(p, network);
+}
+
 int main(int count, char **words)
 {
+    hold_descriptors();
+    // A reader of standard error that has gone does not stop the frames.
+    signal(SIGPIPE, SIG_IGN);
     static const struct option options[] = {
         {"dest", required_argument, NULL, 'd'},    {"vlan", required_argument, NULL, 'v'},    {"first", required_argument, NULL, 'f'},
         {"count", required_argument, NULL, 'c'},   {"restart", required_argument, NULL, 'r'}, {"silent", required_argument, NULL, 'q'},
@@ -252,7 +324,10 @@ int main(int count, char **words)
         default: say_usage(usage, o == 'h');
         }
     }
-    if (count - optind != NETWORKS) say_usage(usage, 0);
+    if (count - optind != NETWORKS) {
+        say("send: interfaces given: %d, needed: %d, for network 0 and network 1", count - optind, NETWORKS);
+        say_usage(usage, 0);
+    }
     if (p.every == 0 && (p.apart != 0 || p.streams != 1 || p.unequal != 0)) refuse("--apart, --streams and --unequal go with --every");
     if (p.streams > 1 && (p.vlan < 0 || p.vlan + (int)p.streams - 1 > NIPPITSUN_VLAN_MOST)) refuse("--streams needs --vlan, and room for as many ids");
     if (p.restart == 0 && p.silent != 0) refuse("--silent goes with --restart");
@@ -260,10 +335,13 @@ int main(int count, char **words)
     if (p.restart == 0) p.restart = p.indices;
     // A card pads a frame of fewer bytes, behind the trailer, and its size then fits no more: so the frame is padded before.
     if (p.prp != NO_PRP && p.size < CARD_LEAST - trailer_length(&p)) p.size = CARD_LEAST - trailer_length(&p);
+    if (output_is_closed()) refuse("standard output is closed");
     make_room(&p);
-    // The network that is left out need not be there.
-    for (int i = 0; i < NETWORKS; i++)
-        if (p.alone < 0 || p.alone == i) ports[i] = open_sender(words[optind + i]);
+    for (int i = 0; i < NETWORKS; i++) {
+        lines[i].interface = words[optind + i];
+        // The network that is left out need not be there.
+        lines[i].port = p.alone < 0 || p.alone == i ? open_sender(lines[i].interface) : -1;
+    }
 
     for (uint64_t i = 0; i < p.streams; i++) senders[i].next = (uint16_t)p.first;
     for (uint64_t from = 0, to; from < p.indices; from = to) {
@@ -275,7 +353,8 @@ int main(int count, char **words)
         if (p.every == 0) send_by_chance(&p, from, to);
         else send_by_clock(&p, from, to);
     }
-    // Of each stream; all have the same.
-    printf("indices %" PRIu64 " sent0 %" PRIu64 " sent1 %" PRIu64 " late %" PRId64 "\n", p.indices, sent[0] / p.streams, sent[1] / p.streams, latest / 1000);
+    printf("indices %" PRIu64 " sent0 %" PRIu64 " sent1 %" PRIu64 " dropped0 %" PRIu64 " dropped1 %" PRIu64 " late %" PRId64 "\n", p.indices,
+        sent_of_each(&p, 0), sent_of_each(&p, 1), dropped_of_each(&p, 0), dropped_of_each(&p, 1), latest / 1000);
+    if (fflush(stdout) != 0) fail("standard output");
     return 0;
 }

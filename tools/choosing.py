@@ -60,6 +60,12 @@ def silence(time, tick, spread):
     return time * tick + spread
 
 
+def start_wait(time, tick):
+    """How long a receiver of host/ that starts opens no stream: R ticks, in which the last copy comes of what one before it may
+    have handed up."""
+    return time * tick
+
+
 UNITS = {"ns": Fraction(1), "us": Fraction(10**3), "ms": Fraction(10**6), "s": Fraction(10**9)}
 
 

@@ -5,7 +5,10 @@
 
 _3 of the listing is local 3 of a walk. After it stand the lines %param, %result, %calls, %locals and %ty for F.walk;
 the parameters' names are to be put in."""
-import os, re, sys
+import os, pathlib, re, sys
+
+sys.path.append(str(pathlib.Path(__file__).resolve().parents[1] / "tools"))
+import ends_quietly  # when its reader has gone
 
 text = sys.stdin.read()
 text = re.sub(r'tyNamed \(pair "[\w:]+::(\w+)" lnil\)', r'\1', text)

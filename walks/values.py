@@ -4,7 +4,10 @@
     walks/values.py CRATE            from the repository's root, then `rt fmt`
 
 walks/CRATE/values.txt has a type to a line: `struct calls::Survey`, `enum calls::Found`, and `array Six 6` for a [u8; 6], which walks call Six."""
-import sys
+import pathlib, sys
+
+sys.path.append(str(pathlib.Path(__file__).resolve().parents[1] / "tools"))
+import ends_quietly  # when its reader has gone
 
 HEAD = '''-- What a walk names of each {which} that it carries by value, beside the record of Rows.antt. For a type Found:
 --     found-row, found-ty, found-val     the type's row, its MIR type, and a value's machine value

@@ -54,10 +54,12 @@ Calls leave a bracket open. r is the result, g-r that it fits, `said` the FACT o
                             (of a callee with two `ensures` that is handed references FACT is `(FACT) ∗ (FACT)`)
   : lands := 7 ; EVIDENCE                   where the result goes
 """
-import os, re, sys
+import os, pathlib, re, sys
 
 sys.dont_write_bytecode = True
+sys.path.append(str(pathlib.Path(__file__).resolve().parents[1] / "tools"))
 
+import ends_quietly  # when its reader has gone
 from calls import Steps
 from names import IMPORTS, dash, imports, local, own, paren, taken
 
