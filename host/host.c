@@ -19,13 +19,12 @@ static int closed_output;
 
 void hold_descriptors(void)
 {
-    closed_output = fcntl(STDOUT_FILENO, F_GETFD) < 0;
-    int held;
-    do {
-        held = open("/dev/null", O_RDWR);
-        if (held < 0) fail("/dev/null");
-    } while (held <= STDERR_FILENO);
-    close(held);
+    for (int i = STDIN_FILENO; i <= STDERR_FILENO; i++) {
+        int closed = fcntl(i, F_GETFD) < 0;
+        if (i == STDOUT_FILENO) closed_output = closed;
+        // The lowest number that is free is this one.
+        if (closed && open("/dev/null", O_RDWR) != i) fail("/dev/null");
+    }
 }
 
 int output_is_closed(void)
@@ -34,8 +33,6 @@ int output_is_closed(void)
 }
 
 // A line goes out whole, in one write, or not at all. A pipe that has room takes so much without a wait.
-enum { LINE_MOST = 4096 };
-
 static int put_line(const char *line, size_t length)
 {
     struct pollfd where = {.fd = STDERR_FILENO, .events = POLLOUT};

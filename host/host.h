@@ -28,7 +28,8 @@ void hold_descriptors(void);
 int output_is_closed(void);
 
 // A line on standard error. It never waits: what can't be taken now is left out, and the next line that can be said is preceded
-// by how many were not. A line is cut at 4096 bytes.
+// by how many were not. A line that has more bytes than this, with its end, is cut.
+enum { LINE_MOST = 4096 };
 void say(const char *format, ...) __attribute__((format(printf, 1, 2)));
 
 // The same with the time in front.

@@ -163,26 +163,37 @@ static void look_after(int network, int each_second)
     say_now("again: network %d (%s): the interface is there and open", network, p->interface);
 }
 
+// What the kernel had dropped when standard output was found to take nothing.
+static uint64_t dropped_before[NETWORKS];
+
+static void stand_still(int64_t now)
+{
+    up.stalled = now;
+    up.stalls++;
+    for (int i = 0; i < NETWORKS; i++) {
+        port_count_drops(&ports[i]);
+        dropped_before[i] = ports[i].dropped;
+    }
+    say_now("stalled: standard output takes nothing, and the backlog of %" PRIu64 " KB is full: nothing more is read, and ticks stop", wishes.backlog);
+}
+
+static void go_on(int64_t now)
+{
+    int64_t stood = now - up.stalled;
+    up.stalled = 0;
+    for (int i = 0; i < NETWORKS; i++) port_count_drops(&ports[i]);
+    say_now("again: standard output takes frames after %" PRId64 " ms; dropped by the kernel meanwhile on network 0 (%s): %" PRIu64 ", on network 1 (%s): %" PRIu64,
+            stood / MILLISECOND, ports[0].interface, ports[0].dropped - dropped_before[0], ports[1].interface, ports[1].dropped - dropped_before[1]);
+}
+
 // Gives what was handed up. While the backlog is full nothing is read and no tick is called, so that frames and ticks stay in the
 // order of stamps; the order takes this for a turn that comes late.
 static void give(int64_t now)
 {
-    static uint64_t before[NETWORKS];
     up_write(&up);
-    int stands = up_full(&up), goes_on = up.stalled != 0 && up.used <= up.size / 2;
-    if (up.error != 0 || (up.stalled == 0 && !stands) || (up.stalled != 0 && !goes_on)) return;
-    for (int i = 0; i < NETWORKS; i++) port_count_drops(&ports[i]);
-    if (goes_on) {
-        say_now("again: standard output takes frames after %" PRId64 " ms; dropped by the kernel meanwhile on network 0 (%s): %" PRIu64
-                ", on network 1 (%s): %" PRIu64, (now - up.stalled) / MILLISECOND, ports[0].interface, ports[0].dropped - before[0],
-                ports[1].interface, ports[1].dropped - before[1]);
-        up.stalled = 0;
-        return;
-    }
-    say_now("stalled: standard output takes nothing, and the backlog of %" PRIu64 " KB is full: nothing more is read, and ticks stop", wishes.backlog);
-    up.stalled = now;
-    up.stalls++;
-    for (int i = 0; i < NETWORKS; i++) before[i] = ports[i].dropped;
+    if (up.error != 0) return;
+    if (up.stalled == 0 && up_full(&up)) stand_still(now);
+    else if (up.stalled != 0 && up.used <= up.size / 2) go_on(now);
 }
 
 // Waits until then at the latest: for frames, if they are read, and for standard output, if something waits for it.
@@ -331,9 +342,10 @@ int main(int count, char **words)
     report_lock(&report);
     sigset_t held, outside;
     hold_signals(&held, &outside);
-    open_ports();
     up_open(&up, wishes.give, wishes.backlog << 10);
+    // Before there are rings: they are the kernel's and stay in memory, but would count against the limit.
     lock_memory();
+    open_ports();
     ticks_to_wait = wait_of(&wishes);
     order_start(&order, wishes.period, clock_now(), clock_ahead(0));
     if (ticks_to_wait == 0) open_streams();

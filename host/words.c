@@ -27,6 +27,8 @@ static const char usage[] =
     "  --version                   print the version\n"
     "  --help                      print this text\n";
 
+_Static_assert(sizeof usage <= LINE_MOST, "the usage is said whole");
+
 static _Noreturn void misused(const char *format, ...)
 {
     char text[1024];
