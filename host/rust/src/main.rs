@@ -56,7 +56,7 @@ struct Host {
     order: Order,
     ports: Vec<Port>,
     /// So many ticks of the wait at the start are left. Until then the table is empty, and nothing is called.
-    wait: u64,
+    ticks_to_wait: u64,
     receiver: Receiver,
     watches: Watches,
     drops: [Rise; NETWORKS],
@@ -100,7 +100,7 @@ impl Host {
                     time,
                 }) => {
                     taken += 1;
-                    match self.wait {
+                    match self.ticks_to_wait {
                         0 => self.arrival(port, place, time)?,
                         _ => self.ports[port].count_early(place),
                     }
@@ -110,7 +110,7 @@ impl Host {
         for port in &mut self.ports {
             port.free(&self.order);
         }
-        if self.wait == 0 {
+        if self.ticks_to_wait == 0 {
             let found = self.watches.found_by(self.order.time);
             self.tell(&found)?;
         }
@@ -119,12 +119,12 @@ impl Host {
 
     fn tick(&mut self) -> Result<(), Trouble> {
         let refused = |refusal: nippitsun::Refusal| Trouble::Failed(refusal.to_string());
-        if self.wait == 0 {
+        if self.ticks_to_wait == 0 {
             self.damaged = self.receiver.tick().map_err(refused)?.damaged;
             return Ok(());
         }
-        self.wait -= 1;
-        match self.wait {
+        self.ticks_to_wait -= 1;
+        match self.ticks_to_wait {
             0 => self.listen(),
             _ => Ok(()),
         }
@@ -220,7 +220,7 @@ impl Host {
         self.count_dropped()?;
         let states = [self.ports[0].state()?, self.ports[1].state()?];
         Ok(Report {
-            listening: self.wait == 0,
+            listening: self.ticks_to_wait == 0,
             records: self.receiver.records(),
             watches: &self.watches,
             refused: &self.refused,
@@ -234,7 +234,7 @@ impl Host {
             waiting: self.up.frames() as u64,
             stalls: self.stalls,
             // Those of the wait were not called.
-            ticks: self.order.ticks - (self.options.ticks_of_wait() - self.wait),
+            ticks: self.order.ticks + self.ticks_to_wait - self.options.ticks_of_wait(),
             late: self.order.late,
             steps: self.order.steps,
         })
@@ -364,7 +364,7 @@ impl Host {
                 return Ok(Some(e));
             }
             let now = self.clock.now();
-            if self.wait > 0 || taken.map_or(false, |taken| taken > 0) {
+            if self.ticks_to_wait > 0 || taken.map_or(false, |taken| taken > 0) {
                 self.last = now;
             }
             let each_second = now >= self.second;
@@ -379,7 +379,7 @@ impl Host {
             if came.signal {
                 match signals.next().map_err(failed("signals"))? {
                     Signal::Say => self.say_counters()?,
-                    Signal::End if self.wait > 0 => return Ok(None),
+                    Signal::End if self.ticks_to_wait > 0 => return Ok(None),
                     Signal::End => self.end = self.end.or(Some(now + LAST_TURNS)),
                 }
             }
@@ -409,15 +409,25 @@ impl Host {
         self.look_at_counters()?;
         self.write_stats()?;
         self.say_counters()?;
-        let (frames, reason) = (
-            self.up.frames(),
-            why.map_or("its reader takes nothing".to_string(), |e| words(&e)),
-        );
-        match frames {
+        self.all_given(why)
+    }
+
+    fn all_given(&self, why: Option<io::Error>) -> Result<(), Trouble> {
+        let reason = why.map_or("its reader takes nothing".to_string(), |e| words(&e));
+        match self.up.frames() {
             0 => Ok(()),
-            _ => Err(Trouble::Failed(format!(
+            frames => Err(Trouble::Failed(format!(
                 "standard output: {reason}; {frames} frames that were handed up were not given"
             ))),
+        }
+    }
+
+    /// The machine has failed. What was handed up before that is given as far as it is taken, and the rest is said.
+    fn give_up(&mut self) {
+        let given = self.give();
+        let why = given.map_or(None, Result::err);
+        if let Err(Trouble::Failed(what)) = self.all_given(why) {
+            say(&format!("failed: {what}"));
         }
     }
 }
@@ -470,7 +480,7 @@ fn receive(options: Options) -> Result<(), Trouble> {
     let ports = port::open_all(&options.interfaces, numbers, &setup)?;
     let tagged = Box::new([0; Stream::FRAME_MOST]);
     let out = Box::new([0; Stream::FRAME_MOST]);
-    let up = Up::new(options.give, options.backlog_kb << 10);
+    let up = Up::new(options.give, options.backlog_kb << 10).map_err(failed("the backlog"))?;
     let output = match gives {
         true => Some(Output::open().map_err(failed("standard output"))?),
         false => None,
@@ -485,7 +495,7 @@ fn receive(options: Options) -> Result<(), Trouble> {
     let period = options.tick_ms * MILLISECOND;
     let mut host = Host {
         order: Order::new(period, opened, now, clock.measure_ahead()),
-        wait: options.ticks_of_wait(),
+        ticks_to_wait: options.ticks_of_wait(),
         receiver: Receiver::new(Stream::SLOTS_MOST),
         watches: Watches::new(0, None, now),
         drops: [Rise::default(); NETWORKS],
@@ -507,12 +517,17 @@ fn receive(options: Options) -> Result<(), Trouble> {
         closing: false,
         stats_failed: false,
     };
-    match host.wait {
+    match host.ticks_to_wait {
         0 => host.listen()?,
         _ => say_how_it_begins(&host.options),
     }
-    let why = host.run(&mut signals)?;
-    host.close(why)
+    match host.run(&mut signals) {
+        Ok(why) => host.close(why),
+        Err(trouble) => {
+            host.give_up();
+            Err(trouble)
+        }
+    }
 }
 
 const CLOSED: &str = "standard output is closed";

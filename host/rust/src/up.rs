@@ -13,6 +13,8 @@ const DIGITS: &[u8; 16] = b"0123456789abcdef";
 const LINE_MOST: usize = 2 * Stream::FRAME_MOST + 32;
 const RAW_MOST: usize = Stream::FRAME_MOST + 2;
 
+const ENOMEM: i32 = 12;
+
 /// No frame has less than two addresses and a type.
 const RAW_LEAST: usize = 14 + 2;
 
@@ -29,17 +31,24 @@ pub struct Up {
 }
 
 impl Up {
-    pub fn new(give: Give, bytes: usize) -> Up {
+    pub fn new(give: Give, bytes: usize) -> io::Result<Up> {
         let bytes = if give == Give::Nothing { 0 } else { bytes };
-        Up {
+        let (mut buffer, mut frames) = (Vec::new(), VecDeque::new());
+        let reserved = buffer.try_reserve_exact(bytes);
+        let reserved = reserved.and_then(|()| frames.try_reserve_exact(bytes / RAW_LEAST));
+        reserved.map_err(|_| io::Error::from_raw_os_error(ENOMEM))?;
+        // Each page is written to, so that it is there before memory is locked.
+        buffer.resize(bytes, 1);
+        frames.resize(bytes / RAW_LEAST, 1);
+        frames.clear();
+        Ok(Up {
             give,
-            // Not zero: then each page is written to, and is there before memory is locked.
-            buffer: vec![1; bytes],
+            buffer,
             first: 0,
             waiting: 0,
-            frames: VecDeque::with_capacity(bytes / RAW_LEAST),
+            frames,
             form: Vec::with_capacity(LINE_MOST),
-        }
+        })
     }
 
     /// Bytes that wait.
@@ -180,7 +189,7 @@ mod tests {
             (Give::Raw, b"\x00\x03\x00\xab\x7f"),
             (Give::Nothing, b""),
         ] {
-            let mut up = Up::new(give, BYTES);
+            let mut up = Up::new(give, BYTES).unwrap();
             up.hand_up(3, 65535, &[0, 0xAB, 0x7F]);
             let mut all = reader(BYTES, 9);
             up.give(&mut all).unwrap();
@@ -192,7 +201,7 @@ mod tests {
     #[test]
     fn the_longest_forms_have_room() {
         for (give, most) in [(Give::Lines, LINE_MOST), (Give::Raw, RAW_MOST)] {
-            let mut up = Up::new(give, BYTES);
+            let mut up = Up::new(give, BYTES).unwrap();
             up.hand_up(Stream::SLOTS_MOST, u16::MAX, &[7; Stream::FRAME_MOST]);
             assert!(up.waiting() <= most);
         }
@@ -200,7 +209,7 @@ mod tests {
 
     #[test]
     fn full_and_half() {
-        let mut up = Up::new(Give::Raw, BYTES);
+        let mut up = Up::new(Give::Raw, BYTES).unwrap();
         let frame = [5; 1998];
         for _ in 0..3 {
             assert!(!up.is_full());
@@ -214,7 +223,7 @@ mod tests {
         assert!(up.waiting() == BYTES / 2 + 1 && up.is_half_full());
         up.give(&mut reader(1, 1)).unwrap();
         assert!(!up.is_half_full());
-        let nothing = Up::new(Give::Nothing, BYTES);
+        let nothing = Up::new(Give::Nothing, BYTES).unwrap();
         assert!(!nothing.is_full() && !nothing.is_half_full());
     }
 
@@ -222,7 +231,7 @@ mod tests {
     #[test]
     fn a_buffer_that_wraps_and_writes_that_take_a_part() {
         for most in [1, 7, 1000, 5000, BYTES] {
-            let mut up = Up::new(Give::Raw, BYTES);
+            let mut up = Up::new(Give::Raw, BYTES).unwrap();
             let (mut slow, mut expected) = (reader(most, 0), Vec::new());
             let mut handed_up = 0_usize;
             while expected.len() < 20 * BYTES {
@@ -252,7 +261,7 @@ mod tests {
 
     #[test]
     fn a_reader_that_dies_leaves_its_frames() {
-        let mut up = Up::new(Give::Lines, BYTES);
+        let mut up = Up::new(Give::Lines, BYTES).unwrap();
         for _ in 0..5 {
             up.hand_up(0, 1, &[1; 20]);
         }

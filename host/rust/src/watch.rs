@@ -202,6 +202,11 @@ impl Watch {
         own.last = time;
         let back = std::mem::take(&mut own.silent);
         own.returns += u64::from(back);
+        if back {
+            // The copies that were missing were this network's, which was said.
+            self.share.poor = None;
+            (self.share.handed_up, self.share.doubled) = (0, 0);
+        }
         let other = &mut self.sides[1 - network];
         if other.since.is_none() && time - other.last > limit / 2 {
             other.since = Some(time);
@@ -519,10 +524,13 @@ mod tests {
         let time = hand_up(&mut w, &s, 600, 0, time);
         assert_eq!(found_of(&mut w, 0, time), [silent(1)]);
         assert_eq!(w.look(&[s], time), []);
+        // Blocks since the last second, the last one half of it before the return, are its silence too.
+        let time = hand_up(&mut w, &s, 40, 0, time);
         let back = What::Heard { network: 1 };
         let heard = w.arrival(0, 1, Verdict::Duplicate, &s, time + 1);
         assert_eq!(what(heard), [back]);
-        assert_eq!(w.look(&[s], time + 1), []);
+        let time = hand_up(&mut w, &s, 17, 17, time + 1);
+        assert_eq!(w.look(&[s], time), []);
     }
 
     #[test]
