@@ -5,6 +5,7 @@ pub mod Delays
 pub mod Opened
 pub mod Restart
 pub mod StartedAgain
+pub mod TwoLives
 pub mod Outage
 pub mod Promise
 pub mod Least

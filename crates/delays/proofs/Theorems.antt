@@ -7,11 +7,12 @@ use Rattle.delays.proofs.EveryBeginning.{beginnings-keep}
 use Rattle.delays.proofs.Delays.{once-each}
 use Rattle.delays.proofs.Opened.{once-each-opened}
 use Rattle.delays.proofs.Restart.{restarted, restarted-steps}
-use Rattle.delays.proofs.StartedAgain.{none-behind-wait, handed-came, none-twice-over-lives, once-each-started-again, once-each-both-lives}
+use Rattle.delays.proofs.StartedAgain.{none-behind-wait, handed-came, none-twice-over-lives, none-twice-in-all-lives, once-each-started-again}
+use Rattle.delays.proofs.TwoLives.{once-each-both-lives}
 use Rattle.delays.proofs.Outage.{none-for-another}
 use Rattle.delays.proofs.FewerTicks.{fewer-ticks, none-twice}
 use Rattle.delays.proofs.Promise.{up-at-first-is-once, even-once}
-use Rattle.delays.proofs.Least.{least-constants}
+use Rattle.delays.proofs.Least.{least-constants, least-wait}
 use Rattle.delays.proofs.ByNumber.{sharp, traffic-sharp, again-sharp}
 
 pub theorems : Theorems
@@ -46,7 +47,9 @@ theorems = record {
   none-behind-wait = none-behind-wait;
   handed-came = handed-came;
   none-twice-over-lives = none-twice-over-lives;
+  none-twice-in-all-lives = none-twice-in-all-lives;
   least-constants = least-constants;
+  least-wait = least-wait;
   sharp = sharp;
   traffic-sharp = traffic-sharp;
   again-sharp = again-sharp;

@@ -60,6 +60,32 @@ NoneTwiceOverLives =
     → distinct (handedOf vs (indices es)) ≡ true
     → distinct (handed ++ handedOf vs (indices es)) ≡ true
 
+-- However often it is started again. A further life is its wait, what comes from its open on, and its verdicts;
+pub record NextLife : Type 0 where
+  pub wait : List Event
+  pub since : List Event
+  pub verdicts : List Verdict
+
+-- what was handed up in all of them, behind what was handed up before;
+unfoldable pub handedInAll : (handed : List ℕ) → List NextLife → List ℕ
+handedInAll handed [] = handed
+handedInAll handed (l ∷ ls) = handedInAll (handed ++ handedOf (l .verdicts) (indices (l .since))) ls
+
+-- and each of them waits, behind all that came before, and hands none up twice by itself.
+abbrev pub EachWaits : (k : Known) (start : ℕ) (old : List Event) → List NextLife → Type 0
+EachWaits k start old [] = Unit {0}
+EachWaits k start old (l ∷ ls) =
+    Keeps k start (copiesIn old ++ l .wait ++ l .since)
+    × (leastWait (J k) (k .tau) ≤ ticksIn (l .wait))
+    × (distinct (handedOf (l .verdicts) (indices (l .since))) ≡ true)
+    × EachWaits k start (old ++ l .wait ++ l .since) ls
+
+abbrev pub NoneTwiceInAllLives : Type 0
+NoneTwiceInAllLives =
+    (k : Known) (start : ℕ) (old : List Event) (handed : List ℕ) (lives : List NextLife)
+    → distinct handed ≡ true → Among handed (indices old) → EachWaits k start old lives
+    → distinct (handedInAll handed lives) ≡ true
+
 -- ---- exactly once from the open on
 
 -- A life of a stream: an open with L and R, whatever the table was, and the events of a run from there on.
@@ -81,7 +107,7 @@ pub record Again (handed : List ℕ) (vs : List Verdict) (es : List Event) : Typ
   -- came before the open, and only then.
   pub each : (x : ℕ) → elem x (handedOf vs (indices es)) ≡ elem x (indices es)
 
--- It is opened in the middle of traffic. (To go on to the next life: `old` is then all of this, and `handed` both lists.)
+-- It is opened in the middle of traffic.
 abbrev pub OnceEachStartedAgain : {A : Type 0} → Receiver → Sees A → Type 0
 OnceEachStartedAgain {A} receive sees =
     (k : Known) (b : ℕ) (still handed : List ℕ) (old wait es : List Event) (window time : ℕ) (u : Table) (i : ℕ) (run : A)

@@ -3,8 +3,8 @@ use Rattle.demands.specs.Receiver.{Receiver, MeetsContract, run}
 use Rattle.demands.specs.Seen.{log}
 use Rattle.demands.specs.Steps.{Machine, MeetsAll, ranSteps, logSteps}
 use Rattle.delays.specs.OnceEach.{OnceEach, OnceEachEven, OnceEachOpened, OnceEachRestarted, NoneForAnother, NoneTwice, DecidesAcross, WindowHolds, FewerTicks, SpacedSends, UpAtFirstIsOnce, BeginningsKeep}
-use Rattle.delays.specs.StartedAgain.{NoneBehindWait, HandedCame, NoneTwiceOverLives, OnceEachStartedAgain, OnceEachBothLives}
-use Rattle.delays.specs.Least.{LeastConstants}
+use Rattle.delays.specs.StartedAgain.{NoneBehindWait, HandedCame, NoneTwiceOverLives, NoneTwiceInAllLives, OnceEachStartedAgain, OnceEachBothLives}
+use Rattle.delays.specs.Least.{LeastConstants, LeastWait}
 use Rattle.delays.specs.ByNumber.{Sharp, TrafficSharp, AgainSharp}
 
 -- Of a receiver that meets the contract,
@@ -44,8 +44,10 @@ pub record Theorems : Type 0 where
   pub none-behind-wait : NoneBehindWait
   pub handed-came : HandedCame
   pub none-twice-over-lives : NoneTwiceOverLives
-  -- No smaller L or R will do; and three runs, at L, R and the wait and one less. (More of them: the crate `delays_runs`.)
+  pub none-twice-in-all-lives : NoneTwiceInAllLives
+  -- No smaller L, R or wait will do; and three runs, at L, R and the wait and one less. (More of them: the crate `delays_runs`.)
   pub least-constants : LeastConstants
+  pub least-wait : LeastWait
   pub sharp : Sharp
   pub traffic-sharp : TrafficSharp
   pub again-sharp : AgainSharp

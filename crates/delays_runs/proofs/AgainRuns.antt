@@ -1,17 +1,21 @@
 -- The runs of `specs/AgainRuns` compute, and what the statements ask for and give. Assumes nothing.
 use mathlib.Core.Path.{refl}
 use mathlib.Core.Bool.{false≢true}
+use mathlib.Core.List.{[], _∷_}
 use native.Mathlib.Omega.{arith}
 use lib.Dec.{lit≤}
+use Rattle.stream.specs.Decisions.{up}
 use Rattle.demands.specs.Receiver.{Receiver, theReceiver}
 use Rattle.demands.specs.Steps.{theMachine}
 use Rattle.demands.proofs.Alike.{the-receiver-meets}
 use Rattle.demands.proofs.Stepping.{the-machine-meets}
+use Rattle.delays.specs.Line.{came, indices}
 use Rattle.delays.specs.OnceEach.{Sees}
-use Rattle.delays.specs.StartedAgain.{OnceEachStartedAgain, OnceEachBothLives}
+use Rattle.delays.specs.StartedAgain.{Among, EachWaits, OnceEachStartedAgain, OnceEachBothLives}
+use Rattle.delays.specs.ByNumber.{line, wait}
 use Rattle.delays.proofs.Theorems.{theorems}
-use Rattle.delays_runs.specs.AgainRuns.{WrittenAgain, AgainPremisesAre, AgainNeeded}
-use Rattle.delays_runs.proofs.Computing.{running, stepping}
+use Rattle.delays_runs.specs.AgainRuns.{WrittenAgain, AgainPremisesAre, AgainNeeded, laterLives, ThreeLives}
+use Rattle.delays_runs.proofs.Computing.{running}
 
 written : {A : Type 0} {receive : Receiver} {sees : Sees A} → OnceEachStartedAgain receive sees → OnceEachBothLives receive sees → WrittenAgain receive sees
 written again lives = record {
@@ -83,4 +87,25 @@ again-needed = record {
   handed-twice = refl;
   not-come = (refl, refl);
   life-twice = refl;
+}
+
+alone : Among (0 ∷ []) (indices (came 0 2 ∷ []))
+unfolding running
+alone x i = i
+
+waits : EachWaits line 0 (came 0 2 ∷ []) (laterLives wait (up ∷ []))
+unfolding running
+waits = (record { some = lit≤ tt; kept = refl }, lit≤ tt, refl, (record { some = lit≤ tt; kept = refl }, lit≤ tt, refl, tt))
+
+pub three-lives : ThreeLives
+unfolding running
+three-lives = record {
+  first = record { fresh = record { vector = refl; lawful = refl; any = refl }; timed = record { order = refl; numbered = refl }; given = refl };
+  second = record { fresh = record { vector = refl; lawful = refl; any = refl }; timed = record { order = refl; numbered = refl }; given = refl };
+  third = record { fresh = record { vector = refl; lawful = refl; any = refl }; timed = record { order = refl; numbered = refl }; given = refl };
+  waits = waits;
+  once = theorems .none-twice-in-all-lives line 0 (came 0 2 ∷ []) (0 ∷ []) (laterLives wait (up ∷ [])) refl alone waits;
+  all = refl;
+  shorter = record { fresh = record { vector = refl; lawful = refl; any = refl }; timed = record { order = refl; numbered = refl }; given = refl };
+  twice = refl;
 }

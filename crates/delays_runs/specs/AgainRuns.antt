@@ -1,7 +1,7 @@
--- A receiver that is started again: what its statements ask for and give, written out, and for each premise that the wait brings in a
--- run with numbers that breaks it alone, of the receiver that the definitions give. (The other premises are those of `OnceEachOpened`:
+-- A receiver that is started again: what its statements ask for and give, written out, for each premise that the wait brings in a run
+-- with numbers that breaks it alone, of the receiver that the definitions give, and three lives. (The other premises are those of `OnceEachOpened`:
 -- `DelaysNeeded`; L, R and the wait at their bounds: `AgainSharp` of `delays`.) Assumes nothing.
-use Prim.Native.Nat.{ℕ, _+_, _/_, _≤_}
+use Prim.Native.Nat.{ℕ, _+_, _-_, _/_, _≤_}
 use mathlib.Core.Path.{_≡_}
 use mathlib.Core.Bool.{true, false}
 use mathlib.Core.List.{List, [], _∷_, _++_, map, flatMap}
@@ -21,8 +21,8 @@ use Rattle.demands.specs.Examples.{frame}
 use Rattle.demands.specs.Needed.{AllBut}
 use Rattle.delays.specs.Line.{Known, J, Sends, Event, came, ticked, indices, kept, Keeps, end, Loses}
 use Rattle.delays.specs.OnceEach.{Sees, Timed, upAtFirst, windowFor}
-use Rattle.delays.specs.StartedAgain.{copiesIn, ticksIn}
-use Rattle.delays.specs.ByNumber.{new, calls, timeOf, Gives, line, L, R, oldLife, newLife, behind, wait}
+use Rattle.delays.specs.StartedAgain.{copiesIn, ticksIn, NextLife, handedInAll, EachWaits}
+use Rattle.delays.specs.ByNumber.{new, calls, timeOf, Gives, line, L, R, oldLife, newLife, upTo, behind, wait, againWindow}
 use Rattle.delays_runs.specs.DelaysRuns.{level}
 
 -- ---- written out
@@ -112,3 +112,27 @@ pub record AgainNeeded : Type 0 where
       × (distinct (65536 ∷ handedOf (upAtFirst (indices (behind wait newLife))) (indices (behind wait newLife))) ≡ false)
   -- A life that hands an index up twice.
   pub life-twice : distinct (handedOf (up ∷ up ∷ []) (0 ∷ 0 ∷ [])) ≡ false
+
+-- ---- three lives
+
+-- On the line of `Sharp` 4 is sent at 8 and comes from 10 to 15; the ticks begin anew with each life. Opened behind so many ticks of the
+-- third.
+unfoldable pub thirdLife : List Event
+thirdLife = ticked 11 ∷ ticked 13 ∷ ticked 15 ∷ came 4 15 ∷ ticked 17 ∷ came 8 18 ∷ []
+
+abbrev pub laterLives : (n : ℕ) (vs : List Verdict) → List NextLife
+laterLives n vs =
+    record { wait = beatsAt (2 ∷ 4 ∷ 6 ∷ 8 ∷ []); since = ticked 10 ∷ came 4 10 ∷ []; verdicts = up ∷ [] }
+    ∷ record { wait = upTo n thirdLife; since = behind n thirdLife; verdicts = vs }
+    ∷ []
+
+pub record ThreeLives : Type 0 where
+  pub first : Gives line (came 0 2 ∷ []) (new L R) (up ∷ [])
+  pub second : Gives line (ticked 10 ∷ came 4 10 ∷ []) (new againWindow R) (up ∷ [])
+  pub third : Gives line (behind wait thirdLife) (new againWindow R) (up ∷ [])
+  pub waits : EachWaits line 0 (came 0 2 ∷ []) (laterLives wait (up ∷ []))
+  pub once : distinct (handedInAll (0 ∷ []) (laterLives wait (up ∷ []))) ≡ true
+  pub all : handedInAll (0 ∷ []) (laterLives wait (up ∷ [])) ≡ 0 ∷ 4 ∷ 8 ∷ []
+  -- The last wait one tick shorter: 4 is handed up in two lives.
+  pub shorter : Gives line (behind (wait - 1) thirdLife) (new againWindow R) (up ∷ up ∷ [])
+  pub twice : handedInAll (0 ∷ []) (laterLives (wait - 1) (up ∷ up ∷ [])) ≡ 0 ∷ 4 ∷ 4 ∷ 8 ∷ []
