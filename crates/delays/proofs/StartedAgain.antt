@@ -54,10 +54,8 @@ came-before n x (came y a ∷ old) rest q i =
 came-before n x (ticked c ∷ old) rest q i = came-before n x old rest q i
 
 pub none-behind-wait : NoneBehindWait
-none-behind-wait k start old wait es q h x i =
-    let f = rw append-assoc at (fewer-ticks k start (copiesIn old ++ wait ++ es) q) in
-    let n = leastWait (J k) (k .tau) in
-    past n x wait es (came-before n x old (wait ++ es) f i) h
+none-behind-wait n old wait es q h x i =
+    past n x wait es (came-before n x old (wait ++ es) (rw (append-assoc (copiesIn old) wait es) at q) i) h
 
 -- ---- none twice
 
@@ -84,10 +82,10 @@ both-distinct (x ∷ xs) ys p q f =
     rw (in-append x xs ys, r .0, f x (here x x xs refl)) (both-distinct xs ys (r .1) q (λ y i. f y (there y x xs i)))
 
 pub none-twice-over-lives : NoneTwiceOverLives
-none-twice-over-lives k start old wait es handed vs q h one among two =
+none-twice-over-lives n old wait es handed vs q h one among two =
     both-distinct handed (handedOf vs (indices es)) one two
     (λ x i. is-not (elem x (handedOf vs (indices es)))
-    (λ j. false≢true (sym (none-behind-wait k start old wait es q h x (among x i)) ∙ handed-came vs (indices es) x j)))
+    (λ j. false≢true (sym (none-behind-wait n old wait es q h x (among x i)) ∙ handed-came vs (indices es) x j)))
 
 -- For the next life all this came before.
 among-all : (handed : List ℕ) (vs : List Verdict) (old wait es : List Event) → Among handed (indices old)
@@ -100,10 +98,10 @@ among-all handed vs old wait es among x i =
 
 pub none-twice-in-all-lives : NoneTwiceInAllLives
 unfolding handedInAll
-none-twice-in-all-lives k start old handed [] one among p = one
-none-twice-in-all-lives k start old handed (l ∷ ls) one among p =
-    none-twice-in-all-lives k start (old ++ l .wait ++ l .since) (handed ++ handedOf (l .verdicts) (indices (l .since))) ls
-    (none-twice-over-lives k start old (l .wait) (l .since) handed (l .verdicts) (p .0) (p .1) one among (p .2))
+none-twice-in-all-lives n old handed [] one among p = one
+none-twice-in-all-lives n old handed (l ∷ ls) one among p =
+    none-twice-in-all-lives n (old ++ l .wait ++ l .since) (handed ++ handedOf (l .verdicts) (indices (l .since))) ls
+    (none-twice-over-lives n old (l .wait) (l .since) handed (l .verdicts) (p .0) (p .1) one among (p .2))
     (among-all handed (l .verdicts) old (l .wait) (l .since) among) (p .3)
 
 -- ---- exactly once from the open on
@@ -118,8 +116,10 @@ once-each-started-again {sees = sees} once k b still handed old wait es window t
     let v = once k b still (copiesIn old ++ wait) es (f .dest) (f .vlan) window time (f .table) u i run (f .answered) (f .left) (f .timed)
     s q o (enough (copiesIn old ++ wait) b (k .m) window l) r in
     let e : ExactlyOnce (verdicts (sees i u run)) (indices es) = rw v (up-at-first-is-once (indices es)) in
+    let few = fewer-ticks k 0 (copiesIn old ++ wait ++ es) q in
     record {
       verdicts = v;
-      once = none-twice-over-lives k 0 old wait es handed (verdicts (sees i u run)) q w one among (e .once);
+      gone = none-behind-wait (leastWait (J k) (k .tau)) old wait es few w;
+      once = none-twice-over-lives (leastWait (J k) (k .tau)) old wait es handed (verdicts (sees i u run)) few w one among (e .once);
       each = e .each;
     }

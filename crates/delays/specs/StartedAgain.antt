@@ -16,7 +16,7 @@ use Rattle.demands.specs.Unlimited.{elem}
 use Rattle.demands.specs.Corollaries.{handedOf, distinct}
 use Rattle.delays.specs.Formulas.{trafficWindow, leastTime, leastWait}
 use Rattle.delays.specs.Line.{Known, J, Sends, Event, came, ticked, indices, Keeps, end, Loses}
-use Rattle.delays.specs.OnceEach.{Sees, Timed, upAtFirst, windowFor}
+use Rattle.delays.specs.OnceEach.{Sees, Timed, upAtFirst, windowFor, fewerBetween}
 
 -- ---- of the line
 
@@ -33,12 +33,13 @@ ticksIn [] = 0
 ticksIn (came x a ∷ es) = ticksIn es
 ticksIn (ticked c ∷ es) = suc (ticksIn es)
 
--- `old` came before the receiver was started again, `wait` comes from then to the open, and es behind it. What came in the old life has
--- no copy behind the wait: its last comes at most J later, and the R-th tick of the wait comes after that.
+-- `old` came before the receiver was started again, `wait` comes from then to the open, and es behind it. If fewer than n ticks fall
+-- between two copies of one index, and the wait has n, what came in the old life has no copy behind it. That is so whatever the times
+-- are; with what is known of a line n is `leastWait`, by `FewerTicks`.
 abbrev pub NoneBehindWait : Type 0
 NoneBehindWait =
-    (k : Known) (start : ℕ) (old wait es : List Event)
-    → Keeps k start (copiesIn old ++ wait ++ es) → leastWait (J k) (k .tau) ≤ ticksIn wait
+    (n : ℕ) (old wait es : List Event)
+    → fewerBetween n (copiesIn old ++ wait ++ es) ≡ true → n ≤ ticksIn wait
     → (x : ℕ) → elem x (indices old) ≡ true → elem x (indices es) ≡ false
 
 -- ---- none twice
@@ -54,8 +55,8 @@ HandedCame = (vs : List Verdict) (indices : List ℕ) → Among (handedOf vs ind
 -- `OnceEach` says, and `NoneForAnother` in outages of any length, none stands twice in both together.
 abbrev pub NoneTwiceOverLives : Type 0
 NoneTwiceOverLives =
-    (k : Known) (start : ℕ) (old wait es : List Event) (handed : List ℕ) (vs : List Verdict)
-    → Keeps k start (copiesIn old ++ wait ++ es) → leastWait (J k) (k .tau) ≤ ticksIn wait
+    (n : ℕ) (old wait es : List Event) (handed : List ℕ) (vs : List Verdict)
+    → fewerBetween n (copiesIn old ++ wait ++ es) ≡ true → n ≤ ticksIn wait
     → distinct handed ≡ true → Among handed (indices old)
     → distinct (handedOf vs (indices es)) ≡ true
     → distinct (handed ++ handedOf vs (indices es)) ≡ true
@@ -72,18 +73,18 @@ handedInAll handed [] = handed
 handedInAll handed (l ∷ ls) = handedInAll (handed ++ handedOf (l .verdicts) (indices (l .since))) ls
 
 -- and each of them waits, behind all that came before, and hands none up twice by itself.
-abbrev pub EachWaits : (k : Known) (start : ℕ) (old : List Event) → List NextLife → Type 0
-EachWaits k start old [] = Unit {0}
-EachWaits k start old (l ∷ ls) =
-    Keeps k start (copiesIn old ++ l .wait ++ l .since)
-    × (leastWait (J k) (k .tau) ≤ ticksIn (l .wait))
+abbrev pub EachWaits : (n : ℕ) (old : List Event) → List NextLife → Type 0
+EachWaits n old [] = Unit {0}
+EachWaits n old (l ∷ ls) =
+    (fewerBetween n (copiesIn old ++ l .wait ++ l .since) ≡ true)
+    × (n ≤ ticksIn (l .wait))
     × (distinct (handedOf (l .verdicts) (indices (l .since))) ≡ true)
-    × EachWaits k start (old ++ l .wait ++ l .since) ls
+    × EachWaits n (old ++ l .wait ++ l .since) ls
 
 abbrev pub NoneTwiceInAllLives : Type 0
 NoneTwiceInAllLives =
-    (k : Known) (start : ℕ) (old : List Event) (handed : List ℕ) (lives : List NextLife)
-    → distinct handed ≡ true → Among handed (indices old) → EachWaits k start old lives
+    (n : ℕ) (old : List Event) (handed : List ℕ) (lives : List NextLife)
+    → distinct handed ≡ true → Among handed (indices old) → EachWaits n old lives
     → distinct (handedInAll handed lives) ≡ true
 
 -- ---- exactly once from the open on
@@ -98,10 +99,11 @@ pub record Life {A : Type 0} (receive : Receiver) (sees : Sees A) (window time :
   pub timed : Timed sees u i run es
 
 -- What is promised of the verdicts of a life that begins with a wait:
-pub record Again (handed : List ℕ) (vs : List Verdict) (es : List Event) : Type 0 where
+pub record Again (handed : List ℕ) (vs : List Verdict) (old es : List Event) : Type 0 where
   -- from the open on each index is handed up at its first arrival, and every later one is a duplicate;
   pub verdicts : vs ≡ upAtFirst (indices es)
-  -- none that was handed up before;
+  -- no copy comes of what came in the old life, and so none is handed up that was before;
+  pub gone : (x : ℕ) → elem x (indices old) ≡ true → elem x (indices es) ≡ false
   pub once : distinct (handed ++ handedOf vs (indices es)) ≡ true
   -- and it is handed up exactly if a copy of it comes behind the open. So what was not handed up before is lost if all its copies
   -- came before the open, and only then.
@@ -117,7 +119,7 @@ OnceEachStartedAgain {A} receive sees =
     → leastWait (J k) (k .tau) ≤ ticksIn wait
     → trafficWindow b (k .m) ≤ window
     → leastTime (J k) (k .tau) ≤ time
-    → Again handed (verdicts (sees i u run)) es
+    → Again handed (verdicts (sees i u run)) old es
 
 -- ---- two lives, both by the formulas
 

@@ -12,7 +12,7 @@ use Rattle.demands.proofs.Stepping.{the-machine-meets}
 use Rattle.delays.specs.Line.{came, indices}
 use Rattle.delays.specs.OnceEach.{Sees}
 use Rattle.delays.specs.StartedAgain.{Among, EachWaits, OnceEachStartedAgain, OnceEachBothLives}
-use Rattle.delays.specs.ByNumber.{line, wait}
+use Rattle.delays.specs.ByNumber.{wait}
 use Rattle.delays.proofs.Theorems.{theorems}
 use Rattle.delays_runs.specs.AgainRuns.{WrittenAgain, AgainPremisesAre, AgainNeeded, laterLives, ThreeLives}
 use Rattle.delays_runs.proofs.Computing.{running}
@@ -22,7 +22,7 @@ written again lives = record {
   again = λ k b still handed old wait es dest vlan window time t i run e p one among s q o w l r. (
       let a = again k b still handed old wait es window time _ i run
       (record { dest = dest; vlan = vlan; table = t; answered = e; left = refl; timed = p }) one among s q o w l r in
-      (a .verdicts, a .once, a .each)
+      (a .verdicts, a .gone, a .once, a .each)
       );
   lives = λ k b still before was wait es dest₀ vlan₀ window₀ time₀ s t j old dest vlan window time r u i new e f p g h q sends c d o l₀ r₀ w l n. (
       let a = lives k b still before was wait es window₀ time₀ t j old window time u i new
@@ -40,10 +40,13 @@ again-premises-are =
     record {
       calls = written (d .once-each-started-again) (d .once-each-both-lives);
       steps = written (s .once-each-started-again) (s .once-each-both-lives);
-      behind-wait = λ k start old wait es some q w. theorems .none-behind-wait k start old wait es (record { some = some; kept = q }) w;
+      behind-wait = theorems .none-behind-wait;
       handed = theorems .handed-came;
-      over-lives = λ k start old wait es handed vs some q w.
-          theorems .none-twice-over-lives k start old wait es handed vs (record { some = some; kept = q }) w;
+      over-lives = theorems .none-twice-over-lives;
+      least = λ T q j tau m n s e few. (
+          let a = theorems .least-wait T q j tau m n s e (omega arith) in
+          (a .old, a .wait, a .es, a .sends, a .keeps, a .loses, a .waited, a .twice)
+          );
     }
 
 pub again-needed : AgainNeeded
@@ -84,6 +87,7 @@ again-needed = record {
     old = record { fresh = record { vector = refl; lawful = refl; any = refl }; timed = record { order = refl; numbered = refl }; given = refl };
     new = record { fresh = record { vector = refl; lawful = refl; any = refl }; timed = record { order = refl; numbered = refl }; given = refl };
   };
+  as-many = (refl, refl);
   handed-twice = refl;
   not-come = (refl, refl);
   life-twice = refl;
@@ -93,9 +97,9 @@ alone : Among (0 ∷ []) (indices (came 0 2 ∷ []))
 unfolding running
 alone x i = i
 
-waits : EachWaits line 0 (came 0 2 ∷ []) (laterLives wait (up ∷ []))
+waits : EachWaits wait (came 0 2 ∷ []) (laterLives wait (up ∷ []))
 unfolding running
-waits = (record { some = lit≤ tt; kept = refl }, lit≤ tt, refl, (record { some = lit≤ tt; kept = refl }, lit≤ tt, refl, tt))
+waits = (refl, lit≤ tt, refl, (refl, lit≤ tt, refl, tt))
 
 pub three-lives : ThreeLives
 unfolding running
@@ -103,8 +107,9 @@ three-lives = record {
   first = record { fresh = record { vector = refl; lawful = refl; any = refl }; timed = record { order = refl; numbered = refl }; given = refl };
   second = record { fresh = record { vector = refl; lawful = refl; any = refl }; timed = record { order = refl; numbered = refl }; given = refl };
   third = record { fresh = record { vector = refl; lawful = refl; any = refl }; timed = record { order = refl; numbered = refl }; given = refl };
+  keeps = record { some = lit≤ tt; kept = refl };
   waits = waits;
-  once = theorems .none-twice-in-all-lives line 0 (came 0 2 ∷ []) (0 ∷ []) (laterLives wait (up ∷ [])) refl alone waits;
+  once = theorems .none-twice-in-all-lives wait (came 0 2 ∷ []) (0 ∷ []) (laterLives wait (up ∷ [])) refl alone waits;
   all = refl;
   shorter = record { fresh = record { vector = refl; lawful = refl; any = refl }; timed = record { order = refl; numbered = refl }; given = refl };
   twice = refl;

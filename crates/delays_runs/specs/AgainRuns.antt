@@ -19,9 +19,11 @@ use Rattle.demands.specs.Corollaries.{handedOf, distinct}
 use Rattle.demands.specs.Steps.{Step, single, batch, theMachine, logSteps}
 use Rattle.demands.specs.Examples.{frame}
 use Rattle.demands.specs.Needed.{AllBut}
-use Rattle.delays.specs.Line.{Known, J, Sends, Event, came, ticked, indices, kept, Keeps, end, Loses}
-use Rattle.delays.specs.OnceEach.{Sees, Timed, upAtFirst, windowFor}
+use Rattle.delays.specs.Line.{Known, J, Sends, Spaced, Event, came, ticked, indices, kept, Keeps, end, Loses}
+use Rattle.delays.specs.Forgetting.{forgetting}
+use Rattle.delays.specs.OnceEach.{Sees, Timed, upAtFirst, windowFor, fewerBetween}
 use Rattle.delays.specs.StartedAgain.{copiesIn, ticksIn, NextLife, handedInAll, EachWaits}
+use Rattle.delays.specs.Least.{even}
 use Rattle.delays.specs.ByNumber.{new, calls, timeOf, Gives, line, L, R, oldLife, newLife, upTo, behind, wait, againWindow}
 use Rattle.delays_runs.specs.DelaysRuns.{level}
 
@@ -36,6 +38,7 @@ pub record WrittenAgain {A : Type 0} (receive : Receiver) (sees : Sees A) : Type
       → Sends k (J k) b → Keeps k 0 (copiesIn old ++ wait ++ es) → Loses k still (copiesIn old ++ wait ++ es)
       → J k / k .tau + 2 ≤ ticksIn wait → b + b + k .m + 2 ≤ window → J k / k .tau + 2 ≤ time
       → (verdicts (sees i (receive t (opening dest vlan vectorRule window time) .table) run) ≡ upAtFirst (indices es))
+      × ((x : ℕ) → elem x (indices old) ≡ true → elem x (indices es) ≡ false)
       × (distinct (handed ++ handedOf (verdicts (sees i (receive t (opening dest vlan vectorRule window time) .table) run)) (indices es)) ≡ true)
       × ((x : ℕ) → elem x (handedOf (verdicts (sees i (receive t (opening dest vlan vectorRule window time) .table) run)) (indices es)) ≡ elem x (indices es))
   -- The old life in the slot j of t, from an open in s on, the new one in the slot i of u, from an open in r on.
@@ -59,15 +62,21 @@ pub record WrittenAgain {A : Type 0} (receive : Receiver) (sees : Sees A) : Type
 pub record AgainPremisesAre : Type 0 where
   pub calls : WrittenAgain theReceiver (log theReceiver)
   pub steps : WrittenAgain theReceiver (logSteps theMachine)
-  pub behind-wait : (k : Known) (start : ℕ) (old wait es : List Event)
-      → 1 ≤ k .tau → kept k start 0 (copiesIn old ++ wait ++ es) ≡ true → J k / k .tau + 2 ≤ ticksIn wait
+  pub behind-wait : (n : ℕ) (old wait es : List Event) → fewerBetween n (copiesIn old ++ wait ++ es) ≡ true → n ≤ ticksIn wait
       → (x : ℕ) → elem x (indices old) ≡ true → elem x (indices es) ≡ false
   pub handed : (vs : List Verdict) (xs : List ℕ) (x : ℕ) → elem x (handedOf vs xs) ≡ true → elem x xs ≡ true
-  pub over-lives : (k : Known) (start : ℕ) (old wait es : List Event) (handed : List ℕ) (vs : List Verdict)
-      → 1 ≤ k .tau → kept k start 0 (copiesIn old ++ wait ++ es) ≡ true → J k / k .tau + 2 ≤ ticksIn wait
+  pub over-lives : (n : ℕ) (old wait es : List Event) (handed : List ℕ) (vs : List Verdict)
+      → fewerBetween n (copiesIn old ++ wait ++ es) ≡ true → n ≤ ticksIn wait
       → distinct handed ≡ true → ((x : ℕ) → elem x handed ≡ true → elem x (indices old) ≡ true)
       → distinct (handedOf vs (indices es)) ≡ true
       → distinct (handed ++ handedOf vs (indices es)) ≡ true
+  pub least : (T q j tau m n : ℕ) → 1 ≤ T → 1 ≤ tau → n ≤ j / tau + 1
+      → (old : List Event) × (wait : List Event) × (es : List Event)
+      × Spaced (even T q j tau m) T
+      × Keeps (even T q j tau m) 0 (copiesIn old ++ wait ++ es)
+      × Loses (even T q j tau m) [] (copiesIn old ++ wait ++ es)
+      × (ticksIn wait ≡ n)
+      × ((window time : ℕ) → distinct (handedOf (forgetting window time 0 [] old) (indices old) ++ handedOf (forgetting window time 0 [] es) (indices es)) ≡ false)
 
 -- ---- with a batch
 
@@ -106,6 +115,10 @@ pub record AgainNeeded : Type 0 where
   pub overlap : Twice 1 line L R 3 7 (1 ∷ 3 ∷ 5 ∷ 7 ∷ [])
   -- a tick less than R.
   pub fewer : Twice 2 line L R 2 7 (2 ∷ 4 ∷ 6 ∷ [])
+  -- Where a tick comes too soon, as many fall between two copies as R has, and a wait of one more is enough: `NoneBehindWait` asks for no
+  -- times.
+  pub as-many : (fewerBetween R (came 0 2 ∷ beatsAt (2 ∷ 4 ∷ 6 ∷ 7 ∷ []) ++ (came 0 7 ∷ [])) ≡ false)
+      × (fewerBetween (R + 1) (came 0 2 ∷ beatsAt (2 ∷ 4 ∷ 6 ∷ 7 ∷ []) ++ (came 0 7 ∷ ticked 9 ∷ [])) ≡ true)
   -- In the run of `AgainSharp`: an index that was handed up twice before, and one that was handed up and came in no life before.
   pub handed-twice : distinct (65535 ∷ 65535 ∷ handedOf (upAtFirst (indices (behind wait newLife))) (indices (behind wait newLife))) ≡ false
   pub not-come : (elem 65536 (indices oldLife) ≡ false)
@@ -130,7 +143,8 @@ pub record ThreeLives : Type 0 where
   pub first : Gives line (came 0 2 ∷ []) (new L R) (up ∷ [])
   pub second : Gives line (ticked 10 ∷ came 4 10 ∷ []) (new againWindow R) (up ∷ [])
   pub third : Gives line (behind wait thirdLife) (new againWindow R) (up ∷ [])
-  pub waits : EachWaits line 0 (came 0 2 ∷ []) (laterLives wait (up ∷ []))
+  pub keeps : Keeps line 0 (came 0 2 ∷ came 4 10 ∷ thirdLife)
+  pub waits : EachWaits wait (came 0 2 ∷ []) (laterLives wait (up ∷ []))
   pub once : distinct (handedInAll (0 ∷ []) (laterLives wait (up ∷ []))) ≡ true
   pub all : handedInAll (0 ∷ []) (laterLives wait (up ∷ [])) ≡ 0 ∷ 4 ∷ 8 ∷ []
   -- The last wait one tick shorter: 4 is handed up in two lives.

@@ -46,7 +46,7 @@ pub record Applied (receive : Receiver) : Type 0 where
       ≡ upAtFirst (indices fromZero)
   -- started again, with a wait of R ticks
   pub again : Again (65534 ∷ 65535 ∷ []) (verdicts (log receive 0 (receive (blank ∷ []) (opens againWindow R) .table) (calls line (behind wait newLife))))
-      (behind wait newLife)
+      oldLife (behind wait newLife)
   pub both-lives : BothLives (verdicts (log receive 0 (receive (blank ∷ []) (opens L R) .table) (calls line oldLife)))
       (verdicts (log receive 0 (receive (blank ∷ []) (opens againWindow R) .table) (calls line (behind wait newLife)))) oldLife (behind wait newLife)
 
@@ -58,6 +58,6 @@ pub record AppliedSteps (m : Machine) : Type 0 where
       verdicts (logSteps m 0 (ranSteps m (new L R) (map single (calls line (old ++ (ticked 19 ∷ []))))) (map single (calls (again (pause + 1)) fromZero)))
       ≡ upAtFirst (indices fromZero)
   pub again : Again (65534 ∷ 65535 ∷ []) (verdicts (logSteps m 0 (m .receive (blank ∷ []) (opens againWindow R) .table) againSteps))
-      (behind wait newLife)
+      oldLife (behind wait newLife)
   pub both-lives : BothLives (verdicts (logSteps m 0 (m .receive (blank ∷ []) (opens L R) .table) (map single (calls line oldLife))))
       (verdicts (logSteps m 0 (m .receive (blank ∷ []) (opens againWindow R) .table) againSteps)) oldLife (behind wait newLife)
