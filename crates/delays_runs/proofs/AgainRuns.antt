@@ -108,6 +108,7 @@ three-lives = record {
   second = record { fresh = record { vector = refl; lawful = refl; any = refl }; timed = record { order = refl; numbered = refl }; given = refl };
   third = record { fresh = record { vector = refl; lawful = refl; any = refl }; timed = record { order = refl; numbered = refl }; given = refl };
   keeps = record { some = lit≤ tt; kept = refl };
+  not-struck = refl;
   waits = waits;
   once = theorems .none-twice-in-all-lives wait (came 0 2 ∷ []) (0 ∷ []) (laterLives wait (up ∷ [])) refl alone waits;
   all = refl;

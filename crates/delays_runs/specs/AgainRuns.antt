@@ -135,15 +135,17 @@ thirdLife = ticked 11 ∷ ticked 13 ∷ ticked 15 ∷ came 4 15 ∷ ticked 17 �
 
 abbrev pub laterLives : (n : ℕ) (vs : List Verdict) → List NextLife
 laterLives n vs =
-    record { wait = beatsAt (2 ∷ 4 ∷ 6 ∷ 8 ∷ []); since = ticked 10 ∷ came 4 10 ∷ []; verdicts = up ∷ [] }
+    record { wait = beatsAt (2 ∷ 4 ∷ 6 ∷ 8 ∷ []); since = came 4 10 ∷ ticked 10 ∷ []; verdicts = up ∷ [] }
     ∷ record { wait = upTo n thirdLife; since = behind n thirdLife; verdicts = vs }
     ∷ []
 
 pub record ThreeLives : Type 0 where
   pub first : Gives line (came 0 2 ∷ []) (new L R) (up ∷ [])
-  pub second : Gives line (ticked 10 ∷ came 4 10 ∷ []) (new againWindow R) (up ∷ [])
+  pub second : Gives line (came 4 10 ∷ ticked 10 ∷ []) (new againWindow R) (up ∷ [])
   pub third : Gives line (behind wait thirdLife) (new againWindow R) (up ∷ [])
   pub keeps : Keeps line 0 (came 0 2 ∷ came 4 10 ∷ thirdLife)
+  -- The old ticks are struck: with the one at 10 there would be as many as R between two copies of 4.
+  pub not-struck : fewerBetween wait (came 4 10 ∷ ticked 10 ∷ thirdLife) ≡ false
   pub waits : EachWaits wait (came 0 2 ∷ []) (laterLives wait (up ∷ []))
   pub once : distinct (handedInAll (0 ∷ []) (laterLives wait (up ∷ []))) ≡ true
   pub all : handedInAll (0 ∷ []) (laterLives wait (up ∷ [])) ≡ 0 ∷ 4 ∷ 8 ∷ []
