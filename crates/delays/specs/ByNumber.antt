@@ -161,8 +161,8 @@ newLife =
     ∷ came 65542 131091
     ∷ []
 
-abbrev pub wait : ℕ
-wait = leastWait (J line) (line .tau)
+abbrev pub waitTicks : ℕ
+waitTicks = leastWait (J line) (line .tau)
 
 abbrev pub againWindow : ℕ
 againWindow = trafficWindow b (line .m)
@@ -177,14 +177,14 @@ pub record AgainSharp : Type 0 where
   -- The old ticks are struck: with them two ticks would be less than tau apart.
   pub lawful : Lawful line b (copiesIn oldLife) newLife
   pub not-struck : kept line 0 0 (oldLife ++ newLife) ≡ false
-  pub whole : upTo wait newLife ++ behind wait newLife ≡ newLife
-  pub as-long : ticksIn (upTo wait newLife) ≡ wait
-  pub right : OpenedBehind wait againWindow (upAtFirst (indices (behind wait newLife))) (65534 ∷ 65535 ∷ 65536 ∷ 65542 ∷ 65540 ∷ 65541 ∷ [])
+  pub whole : upTo waitTicks newLife ++ behind waitTicks newLife ≡ newLife
+  pub as-long : ticksIn (upTo waitTicks newLife) ≡ waitTicks
+  pub right : OpenedBehind waitTicks againWindow (upAtFirst (indices (behind waitTicks newLife))) (65534 ∷ 65535 ∷ 65536 ∷ 65542 ∷ 65540 ∷ 65541 ∷ [])
   -- A tick less: 65535 is handed up in both lives.
-  pub wait-less : OpenedBehind (wait - 1) againWindow (up ∷ up ∷ duplicate ∷ up ∷ up ∷ up ∷ up ∷ up ∷ duplicate ∷ [])
+  pub wait-less : OpenedBehind (waitTicks - 1) againWindow (up ∷ up ∷ duplicate ∷ up ∷ up ∷ up ∷ up ∷ up ∷ duplicate ∷ [])
       (65534 ∷ 65535 ∷ 65537 ∷ 65535 ∷ 65538 ∷ 65536 ∷ 65542 ∷ 65540 ∷ 65541 ∷ [])
   -- No wait: 65534 is, too.
   pub at-once : OpenedBehind 0 againWindow (up ∷ up ∷ up ∷ duplicate ∷ up ∷ up ∷ up ∷ up ∷ up ∷ duplicate ∷ [])
       (65534 ∷ 65535 ∷ 65534 ∷ 65537 ∷ 65535 ∷ 65538 ∷ 65536 ∷ 65542 ∷ 65540 ∷ 65541 ∷ [])
   -- L one less: 65542 is a rogue at its first arrival.
-  pub window-less : OpenedBehind wait (againWindow - 1) (up ∷ rogue ∷ up ∷ up ∷ up ∷ []) (65534 ∷ 65535 ∷ 65536 ∷ 65540 ∷ 65541 ∷ 65542 ∷ [])
+  pub window-less : OpenedBehind waitTicks (againWindow - 1) (up ∷ rogue ∷ up ∷ up ∷ up ∷ []) (65534 ∷ 65535 ∷ 65536 ∷ 65540 ∷ 65541 ∷ 65542 ∷ [])

@@ -12,7 +12,7 @@ use Rattle.demands.proofs.Stepping.{the-machine-meets}
 use Rattle.delays.specs.Line.{came, indices}
 use Rattle.delays.specs.OnceEach.{Sees}
 use Rattle.delays.specs.StartedAgain.{Among, EachWaits, OnceEachStartedAgain, OnceEachBothLives}
-use Rattle.delays.specs.ByNumber.{wait}
+use Rattle.delays.specs.ByNumber.{waitTicks}
 use Rattle.delays.proofs.Theorems.{theorems}
 use Rattle.delays_runs.specs.AgainRuns.{WrittenAgain, AgainPremisesAre, AgainNeeded, laterLives, ThreeLives}
 use Rattle.delays_runs.proofs.Computing.{running}
@@ -97,7 +97,7 @@ alone : Among (0 ∷ []) (indices (came 0 2 ∷ []))
 unfolding running
 alone x i = i
 
-waits : EachWaits wait (came 0 2 ∷ []) (laterLives wait (up ∷ []))
+waits : EachWaits waitTicks (came 0 2 ∷ []) (laterLives waitTicks (up ∷ []))
 unfolding running
 waits = (refl, lit≤ tt, refl, (refl, lit≤ tt, refl, tt))
 
@@ -110,7 +110,7 @@ three-lives = record {
   keeps = record { some = lit≤ tt; kept = refl };
   not-struck = refl;
   waits = waits;
-  once = theorems .none-twice-in-all-lives wait (came 0 2 ∷ []) (0 ∷ []) (laterLives wait (up ∷ [])) refl alone waits;
+  once = theorems .none-twice-in-all-lives waitTicks (came 0 2 ∷ []) (0 ∷ []) (laterLives waitTicks (up ∷ [])) refl alone waits;
   all = refl;
   shorter = record { fresh = record { vector = refl; lawful = refl; any = refl }; timed = record { order = refl; numbered = refl }; given = refl };
   twice = refl;

@@ -24,7 +24,7 @@ use Rattle.delays.specs.Forgetting.{forgetting}
 use Rattle.delays.specs.OnceEach.{Sees, Timed, upAtFirst, windowFor, fewerBetween}
 use Rattle.delays.specs.StartedAgain.{copiesIn, ticksIn, NextLife, handedInAll, EachWaits}
 use Rattle.delays.specs.Least.{even}
-use Rattle.delays.specs.ByNumber.{new, calls, timeOf, Gives, line, L, R, oldLife, newLife, upTo, behind, wait, againWindow}
+use Rattle.delays.specs.ByNumber.{new, calls, timeOf, Gives, line, L, R, oldLife, newLife, upTo, behind, waitTicks, againWindow}
 use Rattle.delays_runs.specs.DelaysRuns.{level}
 
 -- ---- written out
@@ -84,7 +84,7 @@ pub record AgainPremisesAre : Type 0 where
 unfoldable pub againSteps : List Step
 againSteps =
     batch (record { network = 1; count = 1; frames = flatMap preceded (frame 1 0 ∷ []); out = replicate 32 9 })
-    ∷ map single (drop 1 (calls line (behind wait newLife)))
+    ∷ map single (drop 1 (calls line (behind waitTicks newLife)))
 
 -- ---- the premises of the wait, one by one
 
@@ -120,9 +120,9 @@ pub record AgainNeeded : Type 0 where
   pub as-many : (fewerBetween R (came 0 2 ∷ beatsAt (2 ∷ 4 ∷ 6 ∷ 7 ∷ []) ++ (came 0 7 ∷ [])) ≡ false)
       × (fewerBetween (R + 1) (came 0 2 ∷ beatsAt (2 ∷ 4 ∷ 6 ∷ 7 ∷ []) ++ (came 0 7 ∷ ticked 9 ∷ [])) ≡ true)
   -- In the run of `AgainSharp`: an index that was handed up twice before, and one that was handed up and came in no life before.
-  pub handed-twice : distinct (65535 ∷ 65535 ∷ handedOf (upAtFirst (indices (behind wait newLife))) (indices (behind wait newLife))) ≡ false
+  pub handed-twice : distinct (65535 ∷ 65535 ∷ handedOf (upAtFirst (indices (behind waitTicks newLife))) (indices (behind waitTicks newLife))) ≡ false
   pub not-come : (elem 65536 (indices oldLife) ≡ false)
-      × (distinct (65536 ∷ handedOf (upAtFirst (indices (behind wait newLife))) (indices (behind wait newLife))) ≡ false)
+      × (distinct (65536 ∷ handedOf (upAtFirst (indices (behind waitTicks newLife))) (indices (behind waitTicks newLife))) ≡ false)
   -- A life that hands an index up twice.
   pub life-twice : distinct (handedOf (up ∷ up ∷ []) (0 ∷ 0 ∷ [])) ≡ false
 
@@ -142,13 +142,13 @@ laterLives n vs =
 pub record ThreeLives : Type 0 where
   pub first : Gives line (came 0 2 ∷ []) (new L R) (up ∷ [])
   pub second : Gives line (came 4 10 ∷ ticked 10 ∷ []) (new againWindow R) (up ∷ [])
-  pub third : Gives line (behind wait thirdLife) (new againWindow R) (up ∷ [])
+  pub third : Gives line (behind waitTicks thirdLife) (new againWindow R) (up ∷ [])
   pub keeps : Keeps line 0 (came 0 2 ∷ came 4 10 ∷ thirdLife)
   -- The old ticks are struck: with the one at 10 there would be as many as R between two copies of 4.
-  pub not-struck : fewerBetween wait (came 4 10 ∷ ticked 10 ∷ thirdLife) ≡ false
-  pub waits : EachWaits wait (came 0 2 ∷ []) (laterLives wait (up ∷ []))
-  pub once : distinct (handedInAll (0 ∷ []) (laterLives wait (up ∷ []))) ≡ true
-  pub all : handedInAll (0 ∷ []) (laterLives wait (up ∷ [])) ≡ 0 ∷ 4 ∷ 8 ∷ []
+  pub not-struck : fewerBetween waitTicks (came 4 10 ∷ ticked 10 ∷ thirdLife) ≡ false
+  pub waits : EachWaits waitTicks (came 0 2 ∷ []) (laterLives waitTicks (up ∷ []))
+  pub once : distinct (handedInAll (0 ∷ []) (laterLives waitTicks (up ∷ []))) ≡ true
+  pub all : handedInAll (0 ∷ []) (laterLives waitTicks (up ∷ [])) ≡ 0 ∷ 4 ∷ 8 ∷ []
   -- The last wait one tick shorter: 4 is handed up in two lives.
-  pub shorter : Gives line (behind (wait - 1) thirdLife) (new againWindow R) (up ∷ up ∷ [])
-  pub twice : handedInAll (0 ∷ []) (laterLives (wait - 1) (up ∷ up ∷ [])) ≡ 0 ∷ 4 ∷ 4 ∷ 8 ∷ []
+  pub shorter : Gives line (behind (waitTicks - 1) thirdLife) (new againWindow R) (up ∷ up ∷ [])
+  pub twice : handedInAll (0 ∷ []) (laterLives (waitTicks - 1) (up ∷ up ∷ [])) ≡ 0 ∷ 4 ∷ 4 ∷ 8 ∷ []
