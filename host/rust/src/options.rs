@@ -254,33 +254,36 @@ impl Words {
     }
 }
 
-/// The words of a file that the unit reads too: options first, interfaces last.
+/// The words of a file that the unit reads too.
 fn read_conf(file: &str) -> Result<Vec<String>, String> {
     let bytes = fs::read(file).map_err(|e| format!("{file}: {}", words(&e)))?;
     read_conf_text(file, &String::from_utf8_lossy(&bytes))
 }
 
 fn read_conf_text(file: &str, text: &str) -> Result<Vec<String>, String> {
-    let (mut options, mut interfaces) = (None, None);
+    let mut values = [None, None];
     for (line, i) in text.split('\n').zip(1..) {
         if is_blank(line) || line.starts_with(&['#', ';'][..]) {
             continue;
         }
-        let found = line.split_once('=').and_then(|(name, value)| {
-            let to = match name {
-                "OPTIONS" => &mut options,
-                "INTERFACES" => &mut interfaces,
-                _ => return None,
-            };
-            Some((name, to, conf_words(value)?))
-        });
-        let (name, to, words) =
-            found.ok_or_else(|| format!("{file}, line {i}: neither OPTIONS= nor INTERFACES="))?;
-        if to.replace(words).is_some() {
+        let (which, words) = conf_line(line)
+            .ok_or_else(|| format!("{file}, line {i}: neither OPTIONS= nor INTERFACES="))?;
+        if values[which].replace(words).is_some() {
+            let name = NAMES[which];
             return Err(format!("{file}, line {i}: {name} stands there already"));
         }
     }
-    Ok(options.into_iter().chain(interfaces).flatten().collect())
+    Ok(values.into_iter().flatten().flatten().collect())
+}
+
+/// Options first, interfaces last, whatever the order of lines.
+const NAMES: [&str; 2] = ["OPTIONS", "INTERFACES"];
+
+/// Which of the names a line has, and its words.
+fn conf_line(line: &str) -> Option<(usize, Vec<String>)> {
+    let (name, value) = line.split_once('=')?;
+    let which = NAMES.iter().position(|one| *one == name)?;
+    Some((which, conf_words(value)?))
 }
 
 const BLANKS: [char; 2] = [' ', '\t'];

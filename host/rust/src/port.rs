@@ -316,6 +316,11 @@ impl Port {
             return Ok(());
         }
         self.just_drained = false;
+        if let Some(ring) = self.source.ring.take() {
+            // The next ring is made of this memory. Beside it, a large one takes the machine ten times as long. Where that
+            // fails it takes as long.
+            let _ = self.source.socket.drop_ring(ring);
+        }
         // Whatever is missing now, it is tried again.
         let others = other.bound_to()?;
         let number =

@@ -247,26 +247,37 @@ mod tests {
 
     /// Plain memory.
     struct Plain {
-        start: NonNull<u8>,
-        length: usize,
+        words: NonNull<[u32]>,
     }
 
-    // SAFETY: it was made for this alone, of numbers of four bytes, and is never freed.
+    impl Plain {
+        fn new(bytes: usize) -> Plain {
+            let words = vec![0; bytes / 4].into_boxed_slice();
+            let words = NonNull::from(Box::leak(words));
+            Plain { words }
+        }
+    }
+
+    impl Drop for Plain {
+        fn drop(&mut self) {
+            // SAFETY: it is the box that was leaked, and whatever has lent of it is gone.
+            drop(unsafe { Box::from_raw(self.words.as_ptr()) });
+        }
+    }
+
+    // SAFETY: a box of numbers of four bytes that nobody else has, until it is dropped.
     unsafe impl Memory for Plain {
         fn start(&self) -> NonNull<u8> {
-            self.start
+            self.words.cast()
         }
 
         fn length(&self) -> usize {
-            self.length
+            self.words.len() * 4
         }
     }
 
     fn ring(blocks: usize) -> Ring<Plain> {
-        let length = blocks * BLOCK;
-        let words = Box::leak(vec![0_u32; length / 4].into_boxed_slice());
-        let start = NonNull::new(words.as_mut_ptr().cast()).unwrap();
-        Ring::new(Plain { start, length })
+        Ring::new(Plain::new(blocks * BLOCK))
     }
 
     struct Kernel {

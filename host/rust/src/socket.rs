@@ -410,6 +410,18 @@ impl Socket {
         Ok(Ring::new(mapping.map_err(named("mmap"))?))
     }
 
+    /// Gives the memory of the socket's ring back to the machine.
+    pub fn drop_ring(&self, ring: Ring<Mapping>) -> io::Result<()> {
+        drop(ring);
+        let none = RingSize {
+            block: 0,
+            blocks: 0,
+            slot: 0,
+            slots: 0,
+        };
+        self.set(SOL_PACKET, PACKET_RX_RING, &none)
+    }
+
     /// From here on the socket takes the frames of this interface.
     pub fn bind(&self, interface: i32) -> io::Result<()> {
         let address = Address {
