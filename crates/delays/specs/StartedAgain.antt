@@ -33,9 +33,10 @@ ticksIn [] = 0
 ticksIn (came x a ∷ es) = ticksIn es
 ticksIn (ticked c ∷ es) = suc (ticksIn es)
 
--- `old` came before the receiver was started again, `wait` comes from then to the open, and es behind it. If fewer than n ticks fall
--- between two copies of one index, and the wait has n, what came in the old life has no copy behind it. That is so whatever the times
--- are; with what is known of a line n is `leastWait`, by `FewerTicks`.
+-- What comes to the line, whether a receiver runs or not: `old` in the old life, `wait` from its end to the open, es behind it. (So what
+-- comes while the receiver is off stands in the wait, before its ticks.) If fewer than n ticks fall between two copies of one index, and
+-- the wait has n, what came in the old life has no copy behind it. That is so whatever the times are; with what is known of a line n is
+-- `leastWait`, by `FewerTicks`.
 abbrev pub NoneBehindWait : Type 0
 NoneBehindWait =
     (n : ℕ) (old wait es : List Event)
@@ -109,7 +110,8 @@ pub record Again (handed : List ℕ) (vs : List Verdict) (old es : List Event) :
   -- came before the open, and only then.
   pub each : (x : ℕ) → elem x (handedOf vs (indices es)) ≡ elem x (indices es)
 
--- It is opened in the middle of traffic.
+-- From an open in the middle of traffic on. (If more than m were lost in a row in the old life or in the wait: `OnceEachOpened` with what
+-- came since then, and `NoneTwiceOverLives`, which asks for no losses.)
 abbrev pub OnceEachStartedAgain : {A : Type 0} → Receiver → Sees A → Type 0
 OnceEachStartedAgain {A} receive sees =
     (k : Known) (b : ℕ) (still handed : List ℕ) (old wait es : List Event) (window time : ℕ) (u : Table) (i : ℕ) (run : A)
