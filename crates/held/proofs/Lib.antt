@@ -1,1 +1,4 @@
 pub mod Cases
+pub mod Written
+pub mod ByOne
+pub mod Coded
