@@ -52,7 +52,7 @@ module _ {receive : Receiver} (m : MeetsContract receive) where
     fresh = λ t i later xs a. d .fresh-decides t i later xs (a .1 .0) (a .1 .1 .0) (a .0) (record { lasts = a .1 .1 .1 .0; numbered = a .1 .1 .1 .1 .0; near = a .1 .1 .1 .1 .1 .0 });
     opened = λ t dest vlan w r i later xs e a. d .opened-decides t dest vlan w r i later xs e (record { lasts = a .0; numbered = a .1 .0; near = a .1 .1 .0 });
     opened-lost = λ t dest vlan w r i later x xs e a. d .opened-lost t dest vlan w r i later x xs e (record { lasts = a .0; numbered = a .1 .0; near = a .1 .1 .0 });
-    fresh-lost = λ t i later x xs a. lost-premises-are receive m t i later x xs a;
+    fresh-lost = d .fresh-lost;
     nothing-missed = λ t i cs xs a e. d .nothing-missed t i cs xs (record { fresh = a .0; lasts = a .1 .0; numbered = a .1 .1 .0; close = a .1 .1 .1 .0 }) e;
     nothing-seen-missed = λ t i cs xs a. d .nothing-seen-missed t i cs xs (record { fresh = a .0; lasts = a .1 .0; numbered = a .1 .1 .0; close = a .1 .1 .1 .0 });
     seen-or-refused = λ t i c. d .seen-or-refused t i c;
@@ -159,6 +159,7 @@ written-out = record {
   once = λ w xs. demands.theorems .unlimited-never-twice w xs;
   for-good = λ w before later x p q e. demands.theorems .lost-for-good w before later x p q e;
   calls = λ receive m. written-calls m;
+  lost = λ receive m t i later x xs a. lost-premises-are receive m t i later x xs a;
   tags = λ tagger m. written-tags m;
   steps = λ m k. written-steps k;
   sides = λ side m. written-side m;

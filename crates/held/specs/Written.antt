@@ -30,7 +30,7 @@ use Rattle.demands.specs.Unlimited.{elem, highest, unlimited, allNear}
 use Rattle.demands.specs.Demand1.{Refuses}
 use Rattle.demands.specs.Demand3.{numberOf, Premises}
 use Rattle.demands.specs.Corollaries.{handedOf, handed, distinct, sumOf, sumOnce}
-use Rattle.demands.specs.Lost.{missed, handedBy}
+use Rattle.demands.specs.Lost.{FreshLost, missed, handedBy}
 use Rattle.demands.specs.Missed.{FreshVector, NoneMissed, allClose, arrivalOf, turnedAway, arrivals, refusedArrivals}
 use Rattle.demands.specs.Steps.{Step, Machine, MeetsAll, theMachine, ranSteps, readAs, logSteps, Got, EnsuredSteps, givenAll}
 use Rattle.demands.specs.Needed.{All, premisesOf}
@@ -89,9 +89,8 @@ pub record WrittenCalls (receive : Receiver) : Type 0 where
       → receive t (opening dest vlan vectorRule window time) .said ≡ answers (placed i)
       → All (lastsFrom receive (openedIn receive t dest vlan window time) i window later indices)
       → verdicts (log receive i (openedIn receive t dest vlan window time) later) ≡ unlimited window [] indices
-  -- what lost is, here written out from an open on, and that nothing is missed;
-  pub fresh-lost : (t : Table) (i : ℕ) (later : List Call) (first : ℕ) (rest : List ℕ) → All (lost.premisesOf receive t i later (first ∷ rest))
-      → lost.lostAfter receive t i later ≡ lost.lostSaid receive t i later first rest
+  -- what lost is (the first of the two is written out below), and that nothing is missed;
+  pub fresh-lost : FreshLost receive
   pub opened-lost : (t : Table) (dest : List ℕ) (vlan window time i : ℕ) (later : List Call) (first : ℕ) (rest : List ℕ)
       → receive t (opening dest vlan vectorRule window time) .said ≡ answers (placed i)
       → All (lastsFrom receive (openedIn receive t dest vlan window time) i window later (first ∷ rest))
@@ -210,6 +209,8 @@ pub record WrittenOut : Type 0 where
       → elem x (handedBy window before) ≡ false → elem x (handedBy window (before ++ later)) ≡ false
   -- Of every one that meets its contract.
   pub calls : (receive : Receiver) → MeetsContract receive → WrittenCalls receive
+  pub lost : (receive : Receiver) → MeetsContract receive → (t : Table) (i : ℕ) (later : List Call) (first : ℕ) (rest : List ℕ)
+      → All (lost.premisesOf receive t i later (first ∷ rest)) → lost.lostAfter receive t i later ≡ lost.lostSaid receive t i later first rest
   pub tags : (tagger : Tagger) → MeetsTags tagger → WrittenTags tagger
   pub steps : (m : Machine) → MeetsAll m → WrittenSteps m
   pub sides : (side : Side) → MeetsSide side → WrittenSide side
