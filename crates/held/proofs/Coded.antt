@@ -56,7 +56,7 @@ use Rattle.sender.specs.declared.Sender.{Sender}
 use Rattle.sender.specs.Sender.{Sends, atFirst, resetOf, sendOf}
 use Rattle.sender.proofs.Laws.{send-refused-exactly, refused-keeps}
 use Rattle.both_sides.proofs.Theorems as both-sides
-use Rattle.held.specs.Code.{Refused, RefusedTag, RefusedBatch, RefusedSend, ofArrival, ofOpen, ofClose, ofReset, ofTick, ofBatch, ofTake, ofWrite, ofSend, CodeRefuses}
+use Rattle.held.specs.Code.{RefusedCall, RefusedTag, RefusedBatch, RefusedSend, ofArrival, ofOpen, ofClose, ofReset, ofTick, ofBatch, ofTake, ofWrite, ofSend, CodeRefuses}
 use Rattle.held.proofs.Written.{result, outcome, written-out}
 
 module _ {M : Type 1} (𝓤 : URA M) (H : Heap 𝓤) (𝓜 : Model 𝓤 H) (𝓖 : GhostRules 𝓤 H) (𝓡 : Running 𝓤 H 𝓜) where
@@ -70,7 +70,7 @@ module _ {M : Type 1} (𝓤 : URA M) (H : Heap 𝓤) (𝓜 : Model 𝓤 H) (𝓖
       (𝓡 .run code) (λ vs. fm→mono 𝓤 _ (run-framed 𝓤 H 𝓜 𝓡 code vs)) m
 
 -- A result that meets the contract of its call;
-refused-call : (t : Table) (c : Call) (r : Result) → Meets t c r → Refused t c r
+refused-call : (t : Table) (c : Call) (r : Result) → Meets t c r → RefusedCall t c r
 refused-call t c r m n h =
     let e : answer t (act t c) ≡ refused n = refused-exactly t c n .1 h in
     let k = refused-changes-nothing t c n e in
@@ -101,11 +101,11 @@ pub code-refuses : CodeRefuses
 code-refuses M 𝓤 H 𝓜 𝓖 𝓡 =
     let c = demands.theorems .code-meets M 𝓤 H 𝓜 𝓖 𝓡 in
     let s = both-sides.theorems .sender-meets M 𝓤 H 𝓜 𝓖 𝓡 in record {
-      arrival = implied 𝓤 H 𝓜 𝓖 𝓡 arrivalEnded arrivalCode (ofArrival Meets) (ofArrival Refused) (c .arrival) (λ κs a r e. refused-call _ _ _);
-      open-stream = implied 𝓤 H 𝓜 𝓖 𝓡 openEnded openCode (ofOpen Meets) (ofOpen Refused) (c .open-stream) (λ κs a r e. refused-call _ _ _);
-      close = implied 𝓤 H 𝓜 𝓖 𝓡 closeEnded closeCode (ofClose Meets) (ofClose Refused) (c .close) (λ κs a r e. refused-call _ _ _);
-      reset = implied 𝓤 H 𝓜 𝓖 𝓡 resetEnded resetCode (ofReset Meets) (ofReset Refused) (c .reset) (λ κs a r e. refused-call _ _ _);
-      tick = implied 𝓤 H 𝓜 𝓖 𝓡 tickEnded tickCode (ofTick Meets) (ofTick Refused) (c .tick) (λ κs a r e. refused-call _ _ _);
+      arrival = implied 𝓤 H 𝓜 𝓖 𝓡 arrivalEnded arrivalCode (ofArrival Meets) (ofArrival RefusedCall) (c .arrival) (λ κs a r e. refused-call _ _ _);
+      open-stream = implied 𝓤 H 𝓜 𝓖 𝓡 openEnded openCode (ofOpen Meets) (ofOpen RefusedCall) (c .open-stream) (λ κs a r e. refused-call _ _ _);
+      close = implied 𝓤 H 𝓜 𝓖 𝓡 closeEnded closeCode (ofClose Meets) (ofClose RefusedCall) (c .close) (λ κs a r e. refused-call _ _ _);
+      reset = implied 𝓤 H 𝓜 𝓖 𝓡 resetEnded resetCode (ofReset Meets) (ofReset RefusedCall) (c .reset) (λ κs a r e. refused-call _ _ _);
+      tick = implied 𝓤 H 𝓜 𝓖 𝓡 tickEnded tickCode (ofTick Meets) (ofTick RefusedCall) (c .tick) (λ κs a r e. refused-call _ _ _);
       batch = implied 𝓤 H 𝓜 𝓖 𝓡 batchEnded batchCode (ofBatch MeetsBatch) (ofBatch RefusedBatch) (c .batch) (λ κs a r e. refused-batch _ _ _ _ _);
       take = implied 𝓤 H 𝓜 𝓖 𝓡 takeEnded takeCode (ofTake (λ f out o. o ≡ takeTag f out)) (ofTake (λ f out. RefusedTag (takeChecks f out) out)) (c .take)
           (λ κs a r e. take-refused _ _ _);

@@ -48,8 +48,8 @@ use Rattle.sender.proofs.send.{ended as sendEnded}
 use Rattle.sender.proofs.send.Symbol.{routine as sendCode}
 
 -- Where a condition of its list holds, a call says the first such number, and table and output bytes are as they were.
-abbrev pub Refused : Table → Call → Result → Type 0
-Refused t c r = (n : ℕ) → First n (checksOf t c) → r ≡ record { said = refused n; table = t; output = outOf c }
+abbrev pub RefusedCall : Table → Call → Result → Type 0
+RefusedCall t c r = (n : ℕ) → First n (checksOf t c) → r ≡ record { said = refused n; table = t; output = outOf c }
 
 abbrev pub RefusedTag : {A : Type 0} → List Check → (out : List ℕ) → Outcome A → Type 0
 RefusedTag checks out o = (n : ℕ) → First n checks → o ≡ record { said = refused n; bytes = out }
@@ -96,11 +96,11 @@ ofSend P = λ κs (s, (frame, (out0, (out1, _)))) r (_, (_, (out0′, (out1′, 
 
 module _ {M : Type 1} (𝓤 : URA M) (H : Heap 𝓤) (𝓜 : Model 𝓤 H) (𝓖 : GhostRules 𝓤 H) (𝓡 : Running 𝓤 H 𝓜) where
   pub record RefusingCalls : Type 1 where
-    pub arrival : Ensures 𝓤 H 𝓜 𝓖 𝓡 arrivalEnded arrivalCode (ofArrival Refused)
-    pub open-stream : Ensures 𝓤 H 𝓜 𝓖 𝓡 openEnded openCode (ofOpen Refused)
-    pub close : Ensures 𝓤 H 𝓜 𝓖 𝓡 closeEnded closeCode (ofClose Refused)
-    pub reset : Ensures 𝓤 H 𝓜 𝓖 𝓡 resetEnded resetCode (ofReset Refused)
-    pub tick : Ensures 𝓤 H 𝓜 𝓖 𝓡 tickEnded tickCode (ofTick Refused)
+    pub arrival : Ensures 𝓤 H 𝓜 𝓖 𝓡 arrivalEnded arrivalCode (ofArrival RefusedCall)
+    pub open-stream : Ensures 𝓤 H 𝓜 𝓖 𝓡 openEnded openCode (ofOpen RefusedCall)
+    pub close : Ensures 𝓤 H 𝓜 𝓖 𝓡 closeEnded closeCode (ofClose RefusedCall)
+    pub reset : Ensures 𝓤 H 𝓜 𝓖 𝓡 resetEnded resetCode (ofReset RefusedCall)
+    pub tick : Ensures 𝓤 H 𝓜 𝓖 𝓡 tickEnded tickCode (ofTick RefusedCall)
     pub batch : Ensures 𝓤 H 𝓜 𝓖 𝓡 batchEnded batchCode (ofBatch RefusedBatch)
     pub take : Ensures 𝓤 H 𝓜 𝓖 𝓡 takeEnded takeCode (ofTake (λ f out. RefusedTag (takeChecks f out) out))
     pub write : Ensures 𝓤 H 𝓜 𝓖 𝓡 writeEnded writeCode (ofWrite (λ f number out. RefusedTag (writeChecks f out) out))
