@@ -25,6 +25,9 @@ enum { BLOCK = 10 };
 // Frames between two pauses, so that the receiver can keep up, and the pause in nanoseconds.
 enum { BETWEEN = 256, PAUSE = 100000 };
 
+// How long a full queue is waited for where copies go out by the clock, in nanoseconds.
+enum { PATIENCE = 2000000 };
+
 // The frame's bytes before the index: two addresses, a VLAN tag if there is one, the type 88B5 hex of local experiments.
 enum { INDEX_BYTES = 8, LONGEST_HEAD = TYPE_AT + VLAN_TAG + 2 };
 
@@ -189,12 +192,13 @@ static int is_full_queue(int why)
 }
 
 // Gives a frame to a network: 0, or the error with which it was not taken.
-static int give(int network, const uint8_t *frame, size_t length)
+static int give(const struct plan *p, int network, const uint8_t *frame, size_t length)
 {
     struct line *l = &lines[network];
     // A full queue is waited for, as losses are chosen, not met. But not for long, and not again while nothing goes out: a card that
-    // is stuck must not hold the other network up.
-    int64_t end = l->missed == 0 ? clock_now() + SECOND : 0;
+    // is stuck must not hold the other network up. By the clock hardly at all: a second copy that goes out late, when the receiver has
+    // reset the stream, is handed up once more. Some kernels speak of a full queue where the far end is down.
+    int64_t end = l->missed == 0 ? clock_now() + (p->every == 0 ? SECOND : PATIENCE) : 0;
     for (;;) {
         if (send(l->port, frame, length, MSG_DONTWAIT) >= 0) return 0;
         int why = errno;
@@ -217,7 +221,7 @@ static void send_copy(const struct plan *p, int network, const uint8_t *copy)
         length = a.length;
     }
     struct line *l = &lines[network];
-    int why = give(network, copy, length);
+    int why = give(p, network, copy, length);
     if (why == 0) {
         if (l->missed != 0) say_now("back: network %d (%s): copies go out again, %" PRIu64 " were dropped", network, l->interface, l->missed);
         l->missed = 0;
