@@ -29,9 +29,9 @@
 #include <stddef.h>
 #include <stdint.h>
 
-#define NIPPITSUN_VERSION "0.10.0"
+#define NIPPITSUN_VERSION "0.11.0"
 #define NIPPITSUN_VERSION_MAJOR 0
-#define NIPPITSUN_VERSION_MINOR 10
+#define NIPPITSUN_VERSION_MINOR 11
 #define NIPPITSUN_VERSION_PATCH 0
 
 #ifdef __cplusplus
