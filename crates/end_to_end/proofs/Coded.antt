@@ -33,9 +33,9 @@ use Rattle.end_to_end.specs.Batches as batches
 use Rattle.end_to_end.specs.Batches.{takes, gotFrom, gotSteps, BytesToBytesSteps}
 use Rattle.end_to_end.specs.Code.{CodeCalled, Receives, ReceiverRan, gotTold, gotAll, SenderDoes, SenderRan, RansCoincide, CodeToCode}
 use Rattle.end_to_end.specs.Code.Receives.{arrival, open-stream, close, reset, tick, in-batch}
-use Rattle.end_to_end.specs.Code.ReceiverRan.{none as no-steps, more as steps-more}
+use Rattle.end_to_end.specs.Code.ReceiverRan.{none-made as no-steps, made as steps-more}
 use Rattle.end_to_end.specs.Code.SenderDoes.{send, reset as reset-sender}
-use Rattle.end_to_end.specs.Code.SenderRan.{none as no-sends, more as sends-more}
+use Rattle.end_to_end.specs.Code.SenderRan.{none-made as no-sends, made as sends-more}
 
 -- a promise of the code, said of what was passed and left, holds of a call of it
 module _ (T : Ended) (code : Routine) {X Y : Type 0} (passed : (κs : Lfts (T .signature .lifetimes)) → Args (T .signature) κs → X) (left : (κs : Lfts (T .signature .lifetimes)) → Res (T .signature) κs → AtExit T κs → Y) (R : X → Y → Type 0)
@@ -65,14 +65,14 @@ all-received (steps-more r rs) = (received _ _ _ r, all-received rs)
 
 -- ---- the sender's end
 
-abbrev call : Sender × sends.Call → sends.Got → Type 0
+abbrev call : Sender × sends.Call → sends.SideGot → Type 0
 call x = EnsuredCall (x .0) (x .1)
 
-did : (s : Sender) (c : sends.Call) (g : sends.Got) → SenderDoes s c g → EnsuredCall s c g
+did : (s : Sender) (c : sends.Call) (g : sends.SideGot) → SenderDoes s c g → EnsuredCall s c g
 did s c g (send d) = called _ _ _ _ call (λ M 𝓤 H 𝓜 𝓖 𝓡. both.theorems .sender-meets M 𝓤 H 𝓜 𝓖 𝓡 .send) (s, c) g d
 did s c g (reset-sender d) = called _ _ _ _ call (λ M 𝓤 H 𝓜 𝓖 𝓡. both.theorems .sender-meets M 𝓤 H 𝓜 𝓖 𝓡 .reset) (s, c) g d
 
-all-did : {s : Sender} {cs : List sends.Call} {gs : List sends.Got} → SenderRan s cs gs → EnsuredCalls s cs gs
+all-did : {s : Sender} {cs : List sends.Call} {gs : List sends.SideGot} → SenderRan s cs gs → EnsuredCalls s cs gs
 unfolding EnsuredCalls
 all-did no-sends = tt
 all-did (sends-more d ds) = (did _ _ _ d, all-did ds)

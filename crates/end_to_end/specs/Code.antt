@@ -91,8 +91,8 @@ pub data Receives (t : Table) (s : Step) (g : Got) : Type 2 where
 
 -- Each step on the table that the one before it left.
 pub data ReceiverRan : Table → List Step → List Got → Type 2 where
-  none : {t : Table} → ReceiverRan t [] []
-  more : {t : Table} {s : Step} {ss : List Step} {g : Got} {gs : List Got} → Receives t s g → ReceiverRan (leftBy g) ss gs → ReceiverRan t (s ∷ ss) (g ∷ gs)
+  none-made : {t : Table} → ReceiverRan t [] []
+  made : {t : Table} {s : Step} {ss : List Step} {g : Got} {gs : List Got} → Receives t s g → ReceiverRan (leftBy g) ss gs → ReceiverRan t (s ∷ ss) (g ∷ gs)
 
 -- What the application gets from the stream in slot i, read from what the program got: of a batch by the fields of its answers (verdict 1
 -- is handed up, with its length), and along the output by the lengths.
@@ -112,29 +112,29 @@ gotAll i (g ∷ gs) = gotBy i g ++ gotAll i gs
 
 -- ---- the sender's end
 
-pub data SenderDoes (s : Sender) (c : sends.Call) (g : sends.Got) : Type 2 where
+pub data SenderDoes (s : Sender) (c : sends.Call) (g : sends.SideGot) : Type 2 where
   send : CodeCalled sendEnded sendCode {X = Sender × sends.Call}
       (λ κs (s, (frame, (out0, (out1, _)))). (s, sends.sending (now frame) (now out0) (now out1)))
-      (λ κs r (_, (_, (out0′, (out1′, _)))). sends.sends (comesTo r (now out0′) (now out1′))) (s, c) g → SenderDoes s c g
-  reset : CodeCalled resetSenderEnded resetSenderCode {X = Sender × sends.Call} (λ κs (s, _). (s, sends.resetting)) (λ κs r e. sends.resets r) (s, c) g → SenderDoes s c g
+      (λ κs r (_, (_, (out0′, (out1′, _)))). sends.sentSo (comesTo r (now out0′) (now out1′))) (s, c) g → SenderDoes s c g
+  reset : CodeCalled resetSenderEnded resetSenderCode {X = Sender × sends.Call} (λ κs (s, _). (s, sends.resetting)) (λ κs r e. sends.resetSo r) (s, c) g → SenderDoes s c g
 
-pub data SenderRan : Sender → List sends.Call → List sends.Got → Type 2 where
-  none : {s : Sender} → SenderRan s [] []
-  more : {s : Sender} {c : sends.Call} {cs : List sends.Call} {g : sends.Got} {gs : List sends.Got}
-      → SenderDoes s c g → SenderRan (sends.leftBy g) cs gs → SenderRan s (c ∷ cs) (g ∷ gs)
+pub data SenderRan : Sender → List sends.Call → List sends.SideGot → Type 2 where
+  none-made : {s : Sender} → SenderRan s [] []
+  made : {s : Sender} {c : sends.Call} {cs : List sends.Call} {g : sends.SideGot} {gs : List sends.SideGot}
+      → SenderDoes s c g → SenderRan (sends.senderLeft g) cs gs → SenderRan s (c ∷ cs) (g ∷ gs)
 
 -- ---- both
 
 -- What a program gets from the code of either end is what the definitions give: so what `Between` says of these it says of what was got.
 pub record RansCoincide : Type 2 where
-  pub sender : (s : Sender) (calls : List sends.Call) (gs : List sends.Got) → SenderRan s calls gs → gs ≡ sends.givenAll theSide s calls
+  pub sender : (s : Sender) (calls : List sends.Call) (gs : List sends.SideGot) → SenderRan s calls gs → gs ≡ sends.sideGivesAll theSide s calls
   pub receiver : (t : Table) (steps : List Step) (rs : List Got) → ReceiverRan t steps rs → rs ≡ givenAll theMachine t steps
 
 -- `BytesToBytes`, with batches, of what the two programs got: what the application gets is each frame that was given to the code of the
 -- sender, and of which a copy arrived, byte for byte, exactly once.
 abbrev pub CodeToCode : Type 2
 CodeToCode =
-    (k : Known) (b : ℕ) (still : List ℕ) (before es : List Event) (s : Sender) (sending : List sends.Call) (gs : List sends.Got) (t : Table) (i : ℕ) (steps : List Step) (rs : List Got) (places : List ℕ)
+    (k : Known) (b : ℕ) (still : List ℕ) (before es : List Event) (s : Sender) (sending : List sends.Call) (gs : List sends.SideGot) (t : Table) (i : ℕ) (steps : List Step) (rs : List Got) (places : List ℕ)
     → SenderRan s sending gs
     → ReceiverRan t steps rs
     → FreshVector (at t i)

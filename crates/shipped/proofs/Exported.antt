@@ -65,7 +65,7 @@ use Rattle.port_prp.proofs.nippitsun_from_prp.Symbol.{routine as fromCode}
 use Rattle.port_prp.proofs.nippitsun_to_prp.{ended as toEnded}
 use Rattle.port_prp.proofs.nippitsun_to_prp.Met as to
 use Rattle.port_prp.proofs.nippitsun_to_prp.Symbol.{routine as toCode}
-use Rattle.shipped.specs.Exports.{Told, ExportsMeet}
+use Rattle.shipped.specs.Exports.{PlainFields, ExportsMeet}
 use Rattle.shipped.proofs.Determined as determined
 
 module _ {M : Type 1} (𝓤 : URA M) (H : Heap 𝓤) (𝓜 : Model 𝓤 H) (𝓖 : GhostRules 𝓤 H) (𝓡 : Running 𝓤 H 𝓜) (T : Ended) (code : Routine) where
@@ -74,25 +74,25 @@ module _ {M : Type 1} (𝓤 : URA M) (H : Heap 𝓤) (𝓜 : Model 𝓤 H) (𝓖
       (t : (κs : Lfts (T .signature .lifetimes)) → Args (T .signature) κs → Table) (c : (κs : Lfts (T .signature .lifetimes)) → Args (T .signature) κs → Call)
       (rows : (κs : Lfts (T .signature .lifetimes)) → AtExit T κs → Table) (bytes : (κs : Lfts (T .signature .lifetimes)) → AtExit T κs → List ℕ)
       → Ensures 𝓤 H 𝓜 𝓖 𝓡 T code (λ κs a r e. MeetsInC (tell κs) (t κs a) (c κs a) r (rows κs e) (bytes κs e))
-      → Ensures 𝓤 H 𝓜 𝓖 𝓡 T code (λ κs a r e. Told (tell κs) r (λ s. Meets (t κs a) (c κs a) (record { said = s; table = rows κs e; output = bytes κs e })))
+      → Ensures 𝓤 H 𝓜 𝓖 𝓡 T code (λ κs a r e. PlainFields (tell κs) r (λ s. Meets (t κs a) (c κs a) (record { said = s; table = rows κs e; output = bytes κs e })))
   on-table tell t c rows bytes =
       follows 𝓤 H 𝓜 𝓖 𝓡 T code (λ κs a r e. MeetsInC (tell κs) (t κs a) (c κs a) r (rows κs e) (bytes κs e))
-      (λ κs a r e. Told (tell κs) r (λ s. Meets (t κs a) (c κs a) (record { said = s; table = rows κs e; output = bytes κs e })))
+      (λ κs a r e. PlainFields (tell κs) r (λ s. Meets (t κs a) (c κs a) (record { said = s; table = rows κs e; output = bytes κs e })))
       (λ κs a r e m. record { said = answer (t κs a) (act (t κs a) (c κs a)); fields = m .said; given = record { said = refl; table = m .table; output = m .output } })
 
   -- a call that has none: how it is told, the bytes then, and the outcome
   no-table : {A : Type 0} (tell : (κs : Lfts (T .signature .lifetimes)) → Args (T .signature) κs → Said A → Res (T .signature) κs)
       (bytes : (κs : Lfts (T .signature .lifetimes)) → AtExit T κs → List ℕ) (o : (κs : Lfts (T .signature .lifetimes)) → Args (T .signature) κs → Outcome A)
       → EnsuresBoth 𝓤 H 𝓜 𝓖 𝓡 T code (λ κs a r e. r ≡ tell κs a (o κs a .said)) (λ κs a r e. bytes κs e ≡ o κs a .bytes)
-      → Ensures 𝓤 H 𝓜 𝓖 𝓡 T code (λ κs a r e. Told (tell κs a) r (λ s. record { said = s; bytes = bytes κs e } ≡ o κs a))
+      → Ensures 𝓤 H 𝓜 𝓖 𝓡 T code (λ κs a r e. PlainFields (tell κs a) r (λ s. record { said = s; bytes = bytes κs e } ≡ o κs a))
   no-table tell bytes o =
       both-follow 𝓤 H 𝓜 𝓖 𝓡 T code (λ κs a r e. r ≡ tell κs a (o κs a .said)) (λ κs a r e. bytes κs e ≡ o κs a .bytes)
-      (λ κs a r e. Told (tell κs a) r (λ s. record { said = s; bytes = bytes κs e } ≡ o κs a))
+      (λ κs a r e. PlainFields (tell κs a) r (λ s. record { said = s; bytes = bytes κs e } ≡ o κs a))
       (λ κs a r e p q. record { said = o κs a .said; fields = p; given = λ i. record { said = o κs a .said; bytes = q i } })
 
 -- a send
 send-told : {m : ℕ} {f out0 out1 : List ℕ} {told : TagAnswer} {n : ℕ} {bytes0 bytes1 : List ℕ} → SendsInC m f out0 out1 told n bytes0 bytes1
-    → Told tellSent told (λ s. record { said = s; sender = senderAt n; out0 = bytes0; out1 = bytes1 } ≡ sendOf (senderAt m) f out0 out1)
+    → PlainFields tellSent told (λ s. record { said = s; sender = senderAt n; out0 = bytes0; out1 = bytes1 } ≡ sendOf (senderAt m) f out0 out1)
 send-told {m} {f} {out0} {out1} p = record {
   said = sendOf (senderAt m) f out0 out1 .said;
   fields = p .said;
@@ -125,7 +125,7 @@ exports-meet M 𝓤 H 𝓜 𝓖 𝓡 = record {
     ensures = follows 𝓤 H 𝓜 𝓖 𝓡 batchEnded batchCode
         (λ κs (t, (network, (count, (frames, (out, _))))) r (t′, (_, (_, (_, (out′, _))))). MeetsBatch (now t) (record { network = network; count = count; frames = now frames; out = now out }) r (now t′) (now out′))
         (λ κs (t, (network, (count, (frames, (out, _))))) r (t′, (_, (_, (_, (out′, _))))).
-        Told tellBatch r (λ b. (b ≡ batchOf (now t) (record { network = network; count = count; frames = now frames; out = now out })) × (now t′ ≡ b .table) × (now out′ ≡ b .output)))
+        PlainFields tellBatch r (λ b. (b ≡ batchOf (now t) (record { network = network; count = count; frames = now frames; out = now out })) × (now t′ ≡ b .table) × (now out′ ≡ b .output)))
         (λ κs a r e m. record { said = _; fields = m .said; given = (refl, m .table, m .output) }) (batch.met 𝓤 H 𝓜 𝓖 𝓡);
     determines = λ κs a r s e f p q. let d = determined.batches p q in (d .0, λ i. (d .1 i, d .2 i));
   };
@@ -141,7 +141,7 @@ exports-meet M 𝓤 H 𝓜 𝓖 𝓡 = record {
     ensures = follows 𝓤 H 𝓜 𝓖 𝓡 sendEnded sendCode
         (λ κs (sender, (frame, (out0, (out1, _)))) r (sender′, (_, (out0′, (out1′, _)))). SendsInC (now sender) (now frame) (now out0) (now out1) r (now sender′) (now out0′) (now out1′))
         (λ κs (sender, (frame, (out0, (out1, _)))) r (sender′, (_, (out0′, (out1′, _)))).
-        Told tellSent r (λ s. record { said = s; sender = senderAt (now sender′); out0 = now out0′; out1 = now out1′ } ≡ sendOf (senderAt (now sender)) (now frame) (now out0) (now out1)))
+        PlainFields tellSent r (λ s. record { said = s; sender = senderAt (now sender′); out0 = now out0′; out1 = now out1′ } ≡ sendOf (senderAt (now sender)) (now frame) (now out0) (now out1)))
         (λ κs a r e m. send-told m) (send.met 𝓤 H 𝓜 𝓖 𝓡);
     determines = λ κs a r s e f p q. let d = determined.sends p q in (d .0, λ i. (d .1 i, d .2 i, d .3 i));
   };

@@ -53,7 +53,7 @@ use Rattle.port_prp.proofs.nippitsun_to_prp.{ended as toEnded}
 use Rattle.port_prp.proofs.nippitsun_to_prp.Symbol.{routine as toCode}
 
 -- What is told in plain fields stands for what the call said; and that, with what it left, is what the documents give.
-pub record Told {S A : Type 0} (tell : S → A) (told : A) (Given : S → Type 0) : Type 0 where
+pub record PlainFields {S A : Type 0} (tell : S → A) (told : A) (Given : S → Type 0) : Type 0 where
   pub said : S
   pub fields : told ≡ tell said
   pub given : Given said
@@ -73,40 +73,40 @@ module _ {M : Type 1} (𝓤 : URA M) (H : Heap 𝓤) (𝓜 : Model 𝓤 H) (𝓖
   -- A line: what the code ensures, and what it was lent to change. A primed name is what stands there afterwards.
   pub record Exports : Type 1 where
     pub arrival : Ships arrivalEnded arrivalCode (λ κs (t, (network, (frame, (out, _)))) r (t′, (_, (_, (out′, _)))).
-        Told tellArrival r (λ s. Meets (now t) (arriving network (now frame) (now out)) (record { said = s; table = now t′; output = now out′ })))
+        PlainFields tellArrival r (λ s. Meets (now t) (arriving network (now frame) (now out)) (record { said = s; table = now t′; output = now out′ })))
         {X = Table × List ℕ} (λ κs (t′, (_, (_, (out′, _)))). (now t′, now out′))
     pub open-stream : Ships openEnded openCode (λ κs (t, (dest, (vlan, (rule, (window, (time, _)))))) r (t′, _).
-        Told tellOpened r (λ s. Meets (now t) (opening (now dest) vlan rule window time) (record { said = s; table = now t′; output = [] })))
+        PlainFields tellOpened r (λ s. Meets (now t) (opening (now dest) vlan rule window time) (record { said = s; table = now t′; output = [] })))
         {X = Table} (λ κs (t′, _). now t′)
     pub close : Ships closeEnded closeCode (λ κs (t, (slot, _)) r (t′, _).
-        Told tellDone r (λ s. Meets (now t) (closing slot) (record { said = s; table = now t′; output = [] })))
+        PlainFields tellDone r (λ s. Meets (now t) (closing slot) (record { said = s; table = now t′; output = [] })))
         {X = Table} (λ κs (t′, _). now t′)
     pub reset : Ships resetEnded resetCode (λ κs (t, (slot, _)) r (t′, _).
-        Told tellDone r (λ s. Meets (now t) (resetting slot) (record { said = s; table = now t′; output = [] })))
+        PlainFields tellDone r (λ s. Meets (now t) (resetting slot) (record { said = s; table = now t′; output = [] })))
         {X = Table} (λ κs (t′, _). now t′)
     pub tick : Ships tickEnded tickCode (λ κs (t, _) r (t′, _).
-        Told tellSwept r (λ s. Meets (now t) ticking (record { said = s; table = now t′; output = [] })))
+        PlainFields tellSwept r (λ s. Meets (now t) ticking (record { said = s; table = now t′; output = [] })))
         {X = Table} (λ κs (t′, _). now t′)
     pub batch : Ships batchEnded batchCode (λ κs (t, (network, (count, (frames, (out, _))))) r (t′, (_, (_, (_, (out′, _))))).
-        Told tellBatch r (λ b. (b ≡ batchOf (now t) (record { network = network; count = count; frames = now frames; out = now out })) × (now t′ ≡ b .table) × (now out′ ≡ b .output)))
+        PlainFields tellBatch r (λ b. (b ≡ batchOf (now t) (record { network = network; count = count; frames = now frames; out = now out })) × (now t′ ≡ b .table) × (now out′ ≡ b .output)))
         {X = Table × List ℕ} (λ κs (t′, (_, (_, (_, (out′, _))))). (now t′, now out′))
     pub take : Ships takeEnded takeCode (λ κs (frame, (out, _)) r (_, (out′, _)).
-        Told tellTaken r (λ s. record { said = s; bytes = now out′ } ≡ takeTag (now frame) (now out)))
+        PlainFields tellTaken r (λ s. record { said = s; bytes = now out′ } ≡ takeTag (now frame) (now out)))
         {X = List ℕ} (λ κs (_, (out′, _)). now out′)
     pub write : Ships writeEnded writeCode (λ κs (frame, (number, (out, _))) r (_, (_, (out′, _))).
-        Told (tellWritten number) r (λ s. record { said = s; bytes = now out′ } ≡ writeTag (now frame) number (now out)))
+        PlainFields (tellWritten number) r (λ s. record { said = s; bytes = now out′ } ≡ writeTag (now frame) number (now out)))
         {X = List ℕ} (λ κs (_, (_, (out′, _))). now out′)
     pub send : Ships sendEnded sendCode (λ κs (sender, (frame, (out0, (out1, _)))) r (sender′, (_, (out0′, (out1′, _)))).
-        Told tellSent r (λ s. record { said = s; sender = senderAt (now sender′); out0 = now out0′; out1 = now out1′ } ≡ sendOf (senderAt (now sender)) (now frame) (now out0) (now out1)))
+        PlainFields tellSent r (λ s. record { said = s; sender = senderAt (now sender′); out0 = now out0′; out1 = now out1′ } ≡ sendOf (senderAt (now sender)) (now frame) (now out0) (now out1)))
         {X = ℕ × List ℕ × List ℕ} (λ κs (sender′, (_, (out0′, (out1′, _)))). (now sender′, now out0′, now out1′))
     pub reset-sender : Ships resetSenderEnded resetSenderCode (λ κs (sender, _) r (sender′, _).
         senderAt (now sender′) ≡ resetOf (senderAt (now sender)))
         {X = ℕ} (λ κs (sender′, _). now sender′)
     pub from-prp : Ships fromEnded fromCode (λ κs (frame, (kind, (out, _))) r (_, (_, (out′, _))).
-        Told tellTurned r (λ s. record { said = s; bytes = now out′ } ≡ fromPrp (lineOf kind) (now frame) (now out)))
+        PlainFields tellTurned r (λ s. record { said = s; bytes = now out′ } ≡ fromPrp (lineOf kind) (now frame) (now out)))
         {X = List ℕ} (λ κs (_, (_, (out′, _))). now out′)
     pub to-prp : Ships toEnded toCode (λ κs (frame, (network, (kind, (out, _)))) r (_, (_, (_, (out′, _)))).
-        Told tellTurned r (λ s. record { said = s; bytes = now out′ } ≡ toPrp (lineOf kind) network (now frame) (now out)))
+        PlainFields tellTurned r (λ s. record { said = s; bytes = now out′ } ≡ toPrp (lineOf kind) network (now frame) (now out)))
         {X = List ℕ} (λ κs (_, (_, (_, (out′, _)))). now out′)
 
 -- In every model of the kit's logic.
