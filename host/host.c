@@ -85,8 +85,13 @@ _Noreturn void refuse(const char *format, ...)
     exit(2);
 }
 
+void (*before_failing)(void);
+
 _Noreturn void fail(const char *what)
 {
+    int why = errno;
+    if (before_failing != NULL) before_failing();
+    errno = why;
     say("failed: %s: %s", what, strerror(errno));
     exit(1);
 }

@@ -38,6 +38,9 @@ void say_now(const char *format, ...) __attribute__((format(printf, 1, 2)));
 // Ends the program with status 2: what was asked for can't be done.
 _Noreturn void refuse(const char *format, ...) __attribute__((format(printf, 1, 2)));
 
+// What fail does first, if it is set.
+extern void (*before_failing)(void);
+
 // Ends the program with status 1: the machine did not do what it was asked to.
 _Noreturn void fail(const char *what);
 

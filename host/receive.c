@@ -163,8 +163,19 @@ static void look_after(int network, int each_second)
     say_now("again: network %d (%s): the interface is there and open", network, p->interface);
 }
 
-// What the kernel had dropped when standard output was found to take nothing.
+// What the kernel had dropped when standard output was found to take nothing; whether that was said, and when it was last. A small backlog
+// may fill and empty many times a second.
 static uint64_t dropped_before[NETWORKS];
+static int stall_said;
+static int64_t stall_last_said = INT64_MIN / 2;
+
+static void say_stall(int64_t now)
+{
+    stall_said = now - stall_last_said >= SECOND;
+    if (!stall_said) return;
+    stall_last_said = now;
+    say_now("stalled: standard output takes nothing, and the backlog of %" PRIu64 " KB is full: nothing more is read, and ticks stop", wishes.backlog);
+}
 
 static void stand_still(int64_t now)
 {
@@ -174,13 +185,14 @@ static void stand_still(int64_t now)
         port_count_drops(&ports[i]);
         dropped_before[i] = ports[i].dropped;
     }
-    say_now("stalled: standard output takes nothing, and the backlog of %" PRIu64 " KB is full: nothing more is read, and ticks stop", wishes.backlog);
+    say_stall(now);
 }
 
 static void go_on(int64_t now)
 {
     int64_t stood = now - up.stalled;
     up.stalled = 0;
+    if (!stall_said) return;
     for (int i = 0; i < NETWORKS; i++) port_count_drops(&ports[i]);
     say_now("again: standard output takes frames after %" PRId64 " ms; dropped by the kernel meanwhile on network 0 (%s): %" PRIu64 ", on network 1 (%s): %" PRIu64,
             stood / MILLISECOND, ports[0].interface, ports[0].dropped - dropped_before[0], ports[1].interface, ports[1].dropped - dropped_before[1]);
@@ -194,6 +206,7 @@ static void give(int64_t now)
     if (up.error != 0) return;
     if (up.stalled == 0 && up_full(&up)) stand_still(now);
     else if (up.stalled != 0 && up.used <= up.size / 2) go_on(now);
+    else if (up.stalled != 0 && !stall_said) say_stall(now);
 }
 
 // Waits until then at the latest: for frames, if they are read, and for standard output, if something waits for it.
@@ -319,13 +332,26 @@ static void name_ports(void)
     if (if_nametoindex(ports[0].interface) == if_nametoindex(ports[1].interface)) refuse("both networks are on interface '%s'", ports[0].interface);
 }
 
+// Was something handed up that could not be given? It is said.
+static int say_not_given(void)
+{
+    if (up.frames == 0) return 0;
+    say("failed: standard output: %s; %zu frames that were handed up were not given", up.error != 0 ? strerror(up.error) : "its reader takes nothing", up.frames);
+    return 1;
+}
+
 static _Noreturn void end(void)
 {
     each_second_say();
     report_say(&report);
-    if (up.frames == 0) exit(0);
-    say("failed: standard output: %s; %zu frames that were handed up were not given", up.error != 0 ? strerror(up.error) : "its reader takes nothing", up.frames);
-    exit(1);
+    exit(say_not_given());
+}
+
+// The machine has failed. What was handed up before that is given as far as it is taken, and the rest is said.
+static void give_up(void)
+{
+    up_write(&up);
+    say_not_given();
 }
 
 int main(int count, char **words)
@@ -352,6 +378,7 @@ int main(int count, char **words)
     else
         say("waiting for %u ticks of %" PRId64 " ms, %" PRId64 " ms in all: copies of what was handed up before may still come", ticks_to_wait,
             wishes.period / MILLISECOND, ticks_to_wait * (wishes.period / MILLISECOND));
+    before_failing = give_up;
     run(&held, &outside);
     end();
 }

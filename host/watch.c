@@ -5,8 +5,13 @@
 #include <stdarg.h>
 #include <stdio.h>
 
-// Hand-ups of a block, and the second copies that it must have.
-enum { BLOCK = 16, ENOUGH = BLOCK / 2 };
+// Hand-ups of a block. By the formulas the window is twice as wide as networks that are in order lie apart: so at least half of as many
+// frames have their second copies within them, however the networks change places.
+static unsigned block_of(const nippitsun_stream *s)
+{
+    enum { LEAST = 16 };
+    return s->window > LEAST ? s->window : LEAST;
+}
 
 __attribute__((format(printf, 4, 5)))
 static void say_slot(const struct watches *w, size_t slot, const char *word, const char *format, ...)
@@ -41,8 +46,8 @@ static void count_share(struct share *s, const nippitsun_stream *stream, int ver
         return;
     }
     if (verdict == NIPPITSUN_VERDICT_DUPLICATE) s->copies++;
-    if (verdict != NIPPITSUN_VERDICT_HANDED_UP || ++s->ups < BLOCK) return;
-    if (s->copies >= ENOUGH) s->good = 1;
+    if (verdict != NIPPITSUN_VERDICT_HANDED_UP || ++s->ups < block_of(stream)) return;
+    if (2 * s->copies >= block_of(stream)) s->good = 1;
     else {
         if (!s->poor || s->copies < s->fewest) s->fewest = s->copies;
         s->poor = 1;
@@ -140,7 +145,7 @@ static void watch_share(struct watches *w, size_t slot)
     struct share *of = &w->of[slot].share;
     if (s->silent[0] || s->silent[1]) of->poor = 0;
     else if (of->poor && s->last[0] > of->last && s->last[1] > of->last) {
-        if (!of->said) say_slot(w, slot, "alarm", "of %d handed up in a row %u had a second copy", BLOCK, of->fewest);
+        if (!of->said) say_slot(w, slot, "alarm", "of %u handed up in a row %u had a second copy", block_of(&w->table[slot]), of->fewest);
         of->said = 1;
         of->poor = 0;
     } else if (!of->poor && of->good && of->said) {

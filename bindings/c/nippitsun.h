@@ -29,9 +29,9 @@
 #include <stddef.h>
 #include <stdint.h>
 
-#define NIPPITSUN_VERSION "0.10.0"
+#define NIPPITSUN_VERSION "0.11.0"
 #define NIPPITSUN_VERSION_MAJOR 0
-#define NIPPITSUN_VERSION_MINOR 10
+#define NIPPITSUN_VERSION_MINOR 11
 #define NIPPITSUN_VERSION_PATCH 0
 
 #ifdef __cplusplus
@@ -239,7 +239,8 @@ uint8_t nippitsun_close(nippitsun_stream *table, size_t slots, size_t slot);
 uint8_t nippitsun_reset(nippitsun_stream *table, size_t slots, size_t slot);
 
 /* One tick: takes 1 from remaining in every lawful record that has some left, and resets a stream where that gives 0.
- * Damaged and free records stay as they are. Refusal 1. */
+ * Damaged and free records keep what they hold, but they are written back: a table that is mapped read-only faults, and nobody
+ * reads one while a tick runs. Refusal 1. */
 nippitsun_tick_answer nippitsun_tick(nippitsun_stream *table, size_t slots);
 
 /* ---- the tag, with no table */

@@ -7,6 +7,7 @@ use Rattle.demands.proofs.Theorems as demands
 use Rattle.sender.specs.Runs.{Side, MeetsSide}
 use Rattle.sender.proofs.Laws.{send-refused-exactly, refused-keeps}
 use Rattle.sender.proofs.Numbers.{the-side-meets, sides-number}
+use Rattle.sender.proofs.Programs.{send-runs-coincide, sent-is-read}
 use Rattle.sender.proofs.Computed.{ruled-out}
 use Rattle.both_sides.specs.Demand1Sent.{Demand1Sent}
 use Rattle.both_sides.specs.Demand3Sent.{PremisesMet, Demand3Sent, NeverTwiceSent, Demand3StepsSent}
@@ -56,6 +57,8 @@ theorems = record {
   steps = λ m k side n. demand-3-steps-sent k n;
   met = the-side-meets;
   sender-meets = sender-meets;
+  send-runs-coincide = send-runs-coincide;
+  sent-is-read = sent-is-read;
   wrap-sent = wrap-sent;
   premises-sent-needed = premises-sent-needed;
 }

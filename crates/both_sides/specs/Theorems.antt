@@ -2,7 +2,7 @@
 -- `sender`.) Assumes nothing.
 use Rattle.demands.specs.Receiver.{Receiver, MeetsContract}
 use Rattle.demands.specs.Steps.{Machine, MeetsAll}
-use Rattle.sender.specs.Runs.{Side, MeetsSide, theSide, SidesNumber}
+use Rattle.sender.specs.Runs.{Side, MeetsSide, theSide, SendRunsCoincide, SentIsRead, SidesNumber}
 use Rattle.sender.specs.Wrong.{RuledOut}
 use Rattle.both_sides.specs.Code.{SenderMeets}
 use Rattle.both_sides.specs.Demand1Sent.{Demand1Sent}
@@ -29,9 +29,11 @@ pub record Theorems : Type 2 where
   pub both : (receive : Receiver) → MeetsContract receive → (side : Side) → MeetsSide side → Both receive side
   -- The same of a receiver with the batch beside it.
   pub steps : (m : Machine) → MeetsAll m → (side : Side) → MeetsSide side → Demand3StepsSent m side
-  -- There is a sending side that meets the order, and the code of the sender meets it.
+  -- There is a sending side that meets the order, the code of the sender meets it, and what its calls ensure in a run is that one's.
   pub met : MeetsSide theSide
   pub sender-meets : SenderMeets
+  pub send-runs-coincide : SendRunsCoincide
+  pub sent-is-read : (side : Side) → SentIsRead side
   -- The premises can be met, by a run over the wrap, and each that is new is needed.
   pub wrap-sent : WrapSent
   pub premises-sent-needed : PremisesSentNeeded

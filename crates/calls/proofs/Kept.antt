@@ -10,12 +10,14 @@ use lib.ListN.{length, set, length-set, length-map}
 use lib.Seq.{getD-set-other}
 use borrow.Author.Tests.{eqb-false}
 use Rattle.refusal.specs.Checks.Said.{refused}
+use Rattle.refusal.proofs.Checks.{same-value}
 use Rattle.record.specs.declared.Stream.{Stream}
 use Rattle.stream.specs.Decisions.{ticked}
 use Rattle.calls.specs.Table.{Table, blank, at}
 use Rattle.calls.specs.Calls.{Act, refuse, arrive, opens, closes, resets, ticks, act, after, answer, output, outOf}
 use Rattle.calls.specs.Said.{saidArrival, saidOpened, saidDone, saidSwept}
-use Rattle.calls.specs.Laws.{Coincide, AnswersTell, RefusedChangesNothing, forSlot, OthersStay, LengthKept}
+use Rattle.calls.specs.Laws.{Coincide, AnswersTell, AskedTells, RefusedChangesNothing, forSlot, OthersStay, LengthKept}
+use Rattle.calls.specs.declared.Asked.the-variants as asks
 use Rattle.calls.specs.declared.Verdict.the-variants as verdict
 use Rattle.calls.specs.declared.Answer.{Answer as Arrived}
 use Rattle.calls.specs.declared.Answer.the-variants as arrived
@@ -110,3 +112,9 @@ swept-tell (swept.Counted a b) (swept.Counted c d) e = cc
 
 pub answers-tell : AnswersTell
 answers-tell = (arrived-tell, opened-tell, done-tell, swept-tell)
+
+pub asked-tells : AskedTells
+asked-tells (asks.Refused m) (asks.Refused n) e = cc
+asked-tells (asks.Refused m) (asks.For h b) e = cc
+asked-tells (asks.For g a) (asks.Refused n) e = cc
+asked-tells (asks.For g a) (asks.For h b) e = let t = same-value e in λ i. asks.For (t i .header) (t i .number)

@@ -20,6 +20,8 @@ use Rattle.stream.specs.Decisions.{up}
 use Rattle.calls.specs.Table.{Table, at, search, someSlot, hasKey, isFree}
 use Rattle.calls.specs.Calls.{Call, arriving, Act, refuse, arrive, opens, closes, resets, ticks, act, after, answer, output, outOf, writtenFor, handedUp, arrived, Result, Meets}
 use Rattle.calls.specs.Said.{saidArrival, saidOpened, saidDone, saidSwept}
+use Rattle.calls.specs.Steps.{saidAsked}
+use Rattle.calls.specs.declared.Asked.{Asked}
 use Rattle.calls.specs.declared.Answer.{Answer}
 use Rattle.calls.specs.declared.Opened.{Opened}
 use Rattle.calls.specs.declared.Done.{Done}
@@ -36,6 +38,10 @@ AnswersTell =
     × ((r s : Opened) → saidOpened r ≡ saidOpened s → r ≡ s)
     × ((r s : Done) → saidDone r ≡ saidDone s → r ≡ s)
     × ((r s : Swept) → saidSwept r ≡ saidSwept s → r ≡ s)
+
+-- So it is of what an arrival asks of the table.
+abbrev pub AskedTells : Type 0
+AskedTells = (r s : Asked) → saidAsked r ≡ saidAsked s → r ≡ s
 
 -- "A refusal returns its number and changes nothing: no record, counter or output byte."
 abbrev pub RefusedChangesNothing : Type 0

@@ -4,7 +4,8 @@ use mathlib.Core.Path.{refl}
 use mathlib.Core.List.{[], _++_}
 use native.Mathlib.Omega.{arith}
 use lib.Dec.{lit≤}
-use Rattle.delays.specs.ByNumber.{line, traffic, busy, missed, caught, Sharp, TrafficSharp}
+use Rattle.delays.specs.StartedAgain.{copiesIn}
+use Rattle.delays.specs.ByNumber.{line, traffic, busy, missed, caught, oldLife, newLife, Sharp, TrafficSharp, AgainSharp}
 use Rattle.delays.proofs.Losing.{loses-by}
 use Rattle.delays.proofs.Computing.{timing}
 
@@ -34,4 +35,34 @@ traffic-sharp = record {
     keeps = record { some = lit≤ tt; kept = refl };
     loses = loses-by busy [] (missed ++ caught) refl refl;
   };
+}
+
+pub again-sharp : AgainSharp
+unfolding timing
+again-sharp = record {
+  right = record {
+    gives = record { fresh = record { vector = refl; lawful = refl; any = refl }; timed = record { order = refl; numbered = refl }; given = refl };
+    both = refl;
+  };
+  wait-less = record {
+    gives = record { fresh = record { vector = refl; lawful = refl; any = refl }; timed = record { order = refl; numbered = refl }; given = refl };
+    both = refl;
+  };
+  at-once = record {
+    gives = record { fresh = record { vector = refl; lawful = refl; any = refl }; timed = record { order = refl; numbered = refl }; given = refl };
+    both = refl;
+  };
+  window-less = record {
+    gives = record { fresh = record { vector = refl; lawful = refl; any = refl }; timed = record { order = refl; numbered = refl }; given = refl };
+    both = refl;
+  };
+  old = record { fresh = record { vector = refl; lawful = refl; any = refl }; timed = record { order = refl; numbered = refl }; given = refl };
+  lawful = record {
+    sends = record { rises = λ x. omega arith; within = λ x n p. omega (arith, p) };
+    keeps = record { some = lit≤ tt; kept = refl };
+    loses = loses-by line [] (copiesIn oldLife ++ newLife) refl refl;
+  };
+  not-struck = refl;
+  whole = refl;
+  as-long = refl;
 }

@@ -63,7 +63,7 @@ fewer-ticks k start es q = fewer k es start 0 (q .some) (q .kept)
 -- ---- so none is handed up twice
 
 -- What does not come behind so many ticks does not behind one copy less, nor behind more ticks.
-dropped : (n y x a : ℕ) (es : List Event) → noneBehind n y (came x a ∷ es) ≡ true → noneBehind n y es ≡ true
+pub dropped : (n y x a : ℕ) (es : List Event) → noneBehind n y (came x a ∷ es) ≡ true → noneBehind n y es ≡ true
 unfolding noneBehind indices elem
 dropped zero y x a es e = go (eqb y x) e
   where
@@ -94,7 +94,7 @@ more-ticks n m (came x a ∷ es) h q =
     rw (rw z at (later-by (m - n) n x es (p .0))) (more-ticks n m es h (p .1))
 more-ticks n m (ticked c ∷ es) h q = more-ticks n m es h q
 
-no-more : (y : ℕ) (es : List Event) → noneBehind 0 y es ≡ true → elem y (indices es) ≡ false
+pub no-more : (y : ℕ) (es : List Event) → noneBehind 0 y es ≡ true → elem y (indices es) ≡ false
 unfolding noneBehind
 no-more y es e = go (elem y (indices es)) refl
   where

@@ -4,6 +4,8 @@ pub mod Across
 pub mod Delays
 pub mod Opened
 pub mod Restart
+pub mod StartedAgain
+pub mod TwoLives
 pub mod Outage
 pub mod Promise
 pub mod Least

@@ -1,7 +1,8 @@
 -- The formulas by number: runs of the receiver that the definitions give, which go right with L and R by the formulas, and wrong
 -- with one less. More runs are in the crate `delays_runs`. Assumes nothing.
-use Prim.Native.Nat.{ℕ, _+_, _-_, _*_}
+use Prim.Native.Nat.{ℕ, zero, suc, _+_, _-_, _*_}
 use mathlib.Core.Path.{_≡_}
+use mathlib.Core.Bool.{false}
 use mathlib.Core.List.{List, [], _∷_, _++_}
 use lib.Dec.{leb}
 use Rattle.record.specs.Words.{if_then_else_}
@@ -14,11 +15,13 @@ use Rattle.calls.specs.Calls.{Call, ticking}
 use Rattle.demands.specs.Receiver.{theReceiver}
 use Rattle.demands.specs.Seen.{log, verdicts}
 use Rattle.demands.specs.Demand3.{numberOf}
+use Rattle.demands.specs.Corollaries.{handedOf}
 use Rattle.demands.specs.Missed.{FreshVector}
 use Rattle.demands.specs.Examples.{address, from}
-use Rattle.delays.specs.Formulas.{apartIn, leastWindow, trafficWindow, leastTime}
-use Rattle.delays.specs.Line.{Known, J, Sends, Spaced, Event, came, ticked, indices, Keeps, Loses}
+use Rattle.delays.specs.Formulas.{apartIn, leastWindow, trafficWindow, leastTime, leastWait}
+use Rattle.delays.specs.Line.{Known, J, Sends, Spaced, Event, came, ticked, indices, kept, Keeps, Loses}
 use Rattle.delays.specs.OnceEach.{Timed, upAtFirst}
+use Rattle.delays.specs.StartedAgain.{copiesIn, ticksIn}
 
 -- ---- runs
 
@@ -116,3 +119,72 @@ pub record TrafficSharp : Type 0 where
   pub right : Gives busy caught (new inTraffic (timeOf busy)) (upAtFirst (indices caught))
   -- One less: 13 is a rogue at its first arrival.
   pub window-less : Gives busy caught (new (inTraffic - 1) (timeOf busy)) (up ∷ rogue ∷ up ∷ up ∷ [])
+
+-- ---- a receiver that is started again
+
+-- What comes up to the n-th tick, and behind it.
+unfoldable pub upTo : (n : ℕ) → List Event → List Event
+upTo zero es = []
+upTo (suc n) [] = []
+upTo (suc n) (came x a ∷ es) = came x a ∷ upTo (suc n) es
+upTo (suc n) (ticked c ∷ es) = ticked c ∷ upTo n es
+
+unfoldable pub behind : (n : ℕ) → List Event → List Event
+behind zero es = es
+behind (suc n) [] = []
+behind (suc n) (came x a ∷ es) = behind (suc n) es
+behind (suc n) (ticked c ∷ es) = behind n es
+
+-- On the line of `Sharp`: 65534 and 65535 are handed up in the old life, the second of them as soon as it may come, just before the end.
+unfoldable pub oldLife : List Event
+oldLife = came 65534 131070 ∷ ticked 131071 ∷ came 65535 131072 ∷ []
+
+unfoldable pub newLife : List Event
+newLife =
+    ticked 131072  -- in the same instant, and only 1 behind the last old tick
+    ∷ ticked 131074
+    ∷ came 65534 131075
+    ∷ ticked 131076
+    ∷ came 65537 131076
+    ∷ came 65535 131077  -- the latest that it may come
+    ∷ came 65537 131078
+    ∷ came 65538 131078
+    ∷ ticked 131078  -- the fourth. 65537 and 65538 have come, and come no more: they are lost
+    ∷ came 65536 131079
+    ∷ ticked 131080
+    ∷ ticked 131082
+    ∷ ticked 131084
+    ∷ came 65542 131086  -- 65539 is lost on the line, and 65540 and 65541 are overtaken: 6 ahead
+    ∷ ticked 131086
+    ∷ came 65540 131087
+    ∷ came 65541 131089
+    ∷ came 65542 131091
+    ∷ []
+
+abbrev pub waitTicks : ℕ
+waitTicks = leastWait (J line) (line .tau)
+
+abbrev pub againWindow : ℕ
+againWindow = trafficWindow b (line .m)
+
+-- Opened behind so many ticks: the verdicts, and what is handed up in both lives.
+pub record OpenedBehind (n window : ℕ) (vs : List Verdict) (handed : List ℕ) : Type 0 where
+  pub gives : Gives line (behind n newLife) (new window R) vs
+  pub both : handedOf (upAtFirst (indices oldLife)) (indices oldLife) ++ handedOf vs (indices (behind n newLife)) ≡ handed
+
+pub record AgainSharp : Type 0 where
+  pub old : Gives line oldLife (new L R) (upAtFirst (indices oldLife))
+  -- The old ticks are struck: with them two ticks would be less than tau apart.
+  pub lawful : Lawful line b (copiesIn oldLife) newLife
+  pub not-struck : kept line 0 0 (oldLife ++ newLife) ≡ false
+  pub whole : upTo waitTicks newLife ++ behind waitTicks newLife ≡ newLife
+  pub as-long : ticksIn (upTo waitTicks newLife) ≡ waitTicks
+  pub right : OpenedBehind waitTicks againWindow (upAtFirst (indices (behind waitTicks newLife))) (65534 ∷ 65535 ∷ 65536 ∷ 65542 ∷ 65540 ∷ 65541 ∷ [])
+  -- A tick less: 65535 is handed up in both lives.
+  pub wait-less : OpenedBehind (waitTicks - 1) againWindow (up ∷ up ∷ duplicate ∷ up ∷ up ∷ up ∷ up ∷ up ∷ duplicate ∷ [])
+      (65534 ∷ 65535 ∷ 65537 ∷ 65535 ∷ 65538 ∷ 65536 ∷ 65542 ∷ 65540 ∷ 65541 ∷ [])
+  -- No wait: 65534 is, too.
+  pub at-once : OpenedBehind 0 againWindow (up ∷ up ∷ up ∷ duplicate ∷ up ∷ up ∷ up ∷ up ∷ up ∷ duplicate ∷ [])
+      (65534 ∷ 65535 ∷ 65534 ∷ 65537 ∷ 65535 ∷ 65538 ∷ 65536 ∷ 65542 ∷ 65540 ∷ 65541 ∷ [])
+  -- L one less: 65542 is a rogue at its first arrival.
+  pub window-less : OpenedBehind waitTicks (againWindow - 1) (up ∷ rogue ∷ up ∷ up ∷ up ∷ []) (65534 ∷ 65535 ∷ 65536 ∷ 65540 ∷ 65541 ∷ 65542 ∷ [])

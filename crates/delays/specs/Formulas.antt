@@ -18,6 +18,10 @@ trafficWindow b m = b + b + m + 2
 abbrev pub leastTime : (J tau : ℕ) → ℕ
 leastTime J tau = J / tau + 2
 
+-- The least wait of a receiver that is started again, in ticks: as long as R.
+abbrev pub leastWait : (J tau : ℕ) → ℕ
+leastWait J tau = leastTime J tau
+
 -- Where ticks are at most tauMost apart: for so long a number may be compared with later ones. The numbers do not come round if
 -- what is sent within it lies at most 65536 - L apart; and a sender that restarts is silent for longer than it.
 abbrev pub span : (R tauMost J : ℕ) → ℕ

@@ -2,12 +2,15 @@
 -- in time, and the runs for L have none. Where a row of losses lasts R ticks the stream is reset, and a smaller L would do.) Assumes nothing.
 use Prim.Native.Nat.{ℕ, _+_, _*_, _≤_, _<_}
 use mathlib.Core.Path.{_≡_}
+use mathlib.Core.Bool.{false}
 use mathlib.Core.List.{List, [], _++_, map}
 use Rattle.stream.specs.Decisions.{isUp}
+use Rattle.demands.specs.Corollaries.{handedOf, distinct}
 use Rattle.demands.specs.Missed.{firsts}
-use Rattle.delays.specs.Formulas.{apartIn, leastWindow, trafficWindow, leastTime}
+use Rattle.delays.specs.Formulas.{apartIn, leastWindow, trafficWindow, leastTime, leastWait}
 use Rattle.delays.specs.Line.{Known, Spaced, Event, indices, Keeps, Loses}
 use Rattle.delays.specs.Forgetting.{forgetting}
+use Rattle.delays.specs.StartedAgain.{copiesIn, ticksIn}
 
 -- A sender that sends each T, a quick network and one that is slower by up to j.
 abbrev pub even : (T least j tau m : ℕ) → Known
@@ -41,3 +44,19 @@ pub record LeastConstants : Type 0 where
       → (before : List Event) × Wrong (even T least j tau m) T window time before
   pub time : (T least j tau m window time : ℕ) → 1 ≤ T → 1 ≤ tau → 1 ≤ time → time < leastTime j tau
       → Wrong (even T least j tau m) T window time []
+
+-- Nor will a shorter wait of a receiver that is started again: with so many ticks in it some index is handed up in both lives, whatever
+-- L and R are.
+pub record TooShort (k : Known) (T ticks : ℕ) : Type 0 where
+  pub old : List Event
+  pub wait : List Event
+  pub es : List Event
+  pub sends : Spaced k T
+  pub keeps : Keeps k 0 (copiesIn old ++ wait ++ es)
+  pub loses : Loses k [] (copiesIn old ++ wait ++ es)
+  pub waited : ticksIn wait ≡ ticks
+  pub twice : (window time : ℕ)
+      → distinct (handedOf (forgetting window time 0 [] old) (indices old) ++ handedOf (forgetting window time 0 [] es) (indices es)) ≡ false
+
+abbrev pub LeastWait : Type 0
+LeastWait = (T least j tau m ticks : ℕ) → 1 ≤ T → 1 ≤ tau → ticks < leastWait j tau → TooShort (even T least j tau m) T ticks

@@ -11,16 +11,24 @@ use Rattle.demands.proofs.Alike.{carried, the-receiver-meets}
 use Rattle.demands.proofs.Stepping.{the-machine-meets}
 use Rattle.demands.proofs.Stepping as steps-proofs
 use Rattle.delays.specs.Formulas.{leastWindow}
-use Rattle.delays.specs.Line.{came, ticked}
-use Rattle.delays.specs.ByNumber.{new, calls, timeOf, line, traffic, b, L, R, busy, missed, caught, inTraffic}
-use Rattle.delays.proofs.ByNumber.{sharp, traffic-sharp}
+use Rattle.delays.specs.Line.{came, ticked, indices}
+use Rattle.delays.specs.StartedAgain.{Among}
+use Rattle.delays.specs.ByNumber.{new, calls, timeOf, line, traffic, b, L, R, busy, missed, caught, inTraffic, upTo, behind, oldLife, newLife, waitTicks, againWindow}
+use Rattle.delays.proofs.ByNumber.{sharp, traffic-sharp, again-sharp}
+use Rattle.delays.proofs.Losing.{loses-by}
 use Rattle.delays.proofs.Theorems as delays
 use Rattle.delays_runs.specs.DelaysRuns.{slow, outage, around, slowWindow, bursts, burst, volleys, hush, volleyWindow, old, again, pause, wide, far, wideWindow, steps}
+use Rattle.delays_runs.specs.AgainRuns.{againSteps}
 use Rattle.delays_runs.specs.DelaysNeeded.{twice}
 use Rattle.delays_runs.specs.Applied.{fromZero, Applied, AppliedSteps}
 use Rattle.delays_runs.proofs.DelaysRuns.{round-sharp, bursts-shown, bursts-round, restart, wide-shown, in-batches}
 use Rattle.delays_runs.proofs.DelaysNeeded.{fewer-needed}
 use Rattle.delays_runs.proofs.Computing.{running, stepping}
+
+-- What the old life of `AgainSharp` handed up came in it.
+came-in-old : Among (65534 ∷ 65535 ∷ []) (indices oldLife)
+unfolding running
+came-in-old x i = i
 
 of-the-receiver : Applied theReceiver
 unfolding running
@@ -51,6 +59,16 @@ of-the-receiver =
           (calls line (old ++ (ticked 19 ∷ []))) (calls (again (pause + 1)) (came 0 20 ∷ ticked 21 ∷ came 1 22 ∷ came 0 25 ∷ []))
           (restart .right .silence) (restart .longer) (restart .right .timed) (restart .right .lawful .sends) (restart .right .lawful .keeps)
           (restart .right .lawful .loses) (lit≤ tt) (lit≤ tt);
+      again = d .once-each-started-again line b [] (65534 ∷ 65535 ∷ []) oldLife (upTo waitTicks newLife) (behind waitTicks newLife) againWindow R (new againWindow R) 0
+          (calls line (behind waitTicks newLife))
+          (record { dest = address 1; vlan = 0; table = blank ∷ []; answered = refl; left = refl; timed = again-sharp .right .gives .timed })
+          refl came-in-old (again-sharp .lawful .sends) (again-sharp .lawful .keeps) (again-sharp .lawful .loses) (lit≤ tt) (lit≤ tt) (lit≤ tt);
+      both-lives = d .once-each-both-lives line b [] [] oldLife (upTo waitTicks newLife) (behind waitTicks newLife) L R (new L R) 0 (calls line oldLife)
+          againWindow R (new againWindow R) 0 (calls line (behind waitTicks newLife))
+          (record { dest = address 1; vlan = 0; table = blank ∷ []; answered = refl; left = refl; timed = again-sharp .old .timed })
+          (record { dest = address 1; vlan = 0; table = blank ∷ []; answered = refl; left = refl; timed = again-sharp .right .gives .timed })
+          (again-sharp .lawful .sends) (record { some = lit≤ tt; kept = refl }) (record { some = lit≤ tt; kept = refl })
+          (loses-by line [] (oldLife ++ upTo waitTicks newLife ++ behind waitTicks newLife) refl refl) (lit≤ tt) (lit≤ tt) (lit≤ tt) (lit≤ tt) (lit≤ tt);
     }
 
 pub applied : {receive : Receiver} → MeetsContract receive → Applied receive
@@ -70,6 +88,16 @@ of-the-machine =
           (record { vector = refl; lawful = refl; order = refl; begun = lit≤ tt; over = refl; ticks = refl }) (restart .longer)
           (record { order = refl; numbered = refl }) (restart .right .lawful .sends) (restart .right .lawful .keeps) (restart .right .lawful .loses)
           (lit≤ tt) (lit≤ tt);
+      again = d .once-each-started-again line b [] (65534 ∷ 65535 ∷ []) oldLife (upTo waitTicks newLife) (behind waitTicks newLife) againWindow R (new againWindow R) 0
+          againSteps
+          (record { dest = address 1; vlan = 0; table = blank ∷ []; answered = refl; left = refl; timed = record { order = refl; numbered = refl } })
+          refl came-in-old (again-sharp .lawful .sends) (again-sharp .lawful .keeps) (again-sharp .lawful .loses) (lit≤ tt) (lit≤ tt) (lit≤ tt);
+      both-lives = d .once-each-both-lives line b [] [] oldLife (upTo waitTicks newLife) (behind waitTicks newLife) L R (new L R) 0 (map single (calls line oldLife))
+          againWindow R (new againWindow R) 0 againSteps
+          (record { dest = address 1; vlan = 0; table = blank ∷ []; answered = refl; left = refl; timed = record { order = refl; numbered = refl } })
+          (record { dest = address 1; vlan = 0; table = blank ∷ []; answered = refl; left = refl; timed = record { order = refl; numbered = refl } })
+          (again-sharp .lawful .sends) (record { some = lit≤ tt; kept = refl }) (record { some = lit≤ tt; kept = refl })
+          (loses-by line [] (oldLife ++ upTo waitTicks newLife ++ behind waitTicks newLife) refl refl) (lit≤ tt) (lit≤ tt) (lit≤ tt) (lit≤ tt) (lit≤ tt);
     }
 
 pub applied-steps : {m : Machine} → MeetsAll m → AppliedSteps m

@@ -1,6 +1,7 @@
 pub mod DelaysRuns
 pub mod DelaysNeeded
 pub mod DelaysPremises
+pub mod AgainRuns
 pub mod Choices
 mod Hole
 mod Computing

@@ -13,7 +13,9 @@ use Rattle.demands.specs.Examples.{address}
 use Rattle.delays.specs.Formulas.{leastWindow}
 use Rattle.delays.specs.Line.{Event, came, ticked, indices}
 use Rattle.delays.specs.OnceEach.{upAtFirst, Judged}
-use Rattle.delays.specs.ByNumber.{new, calls, timeOf, line, traffic, L, R, busy, caught, inTraffic}
+use Rattle.delays.specs.StartedAgain.{Again, BothLives}
+use Rattle.delays.specs.ByNumber.{new, calls, timeOf, line, traffic, L, R, busy, caught, inTraffic, behind, oldLife, newLife, waitTicks, againWindow}
+use Rattle.delays_runs.specs.AgainRuns.{againSteps}
 use Rattle.delays_runs.specs.DelaysNeeded.{twice}
 use Rattle.delays_runs.specs.DelaysRuns.{slow, outage, slowWindow, bursts, burst, volleys, hush, volleyWindow, old, again, pause, wide, far, wideWindow, steps}
 
@@ -42,6 +44,11 @@ pub record Applied (receive : Receiver) : Type 0 where
   pub restart :
       verdicts (log receive 0 (run receive (new L R) (calls line (old ++ (ticked 19 ∷ [])))) (calls (again (pause + 1)) fromZero))
       ≡ upAtFirst (indices fromZero)
+  -- started again, with a wait of R ticks
+  pub again : Again (65534 ∷ 65535 ∷ []) (verdicts (log receive 0 (receive (blank ∷ []) (opens againWindow R) .table) (calls line (behind waitTicks newLife))))
+      oldLife (behind waitTicks newLife)
+  pub both-lives : BothLives (verdicts (log receive 0 (receive (blank ∷ []) (opens L R) .table) (calls line oldLife)))
+      (verdicts (log receive 0 (receive (blank ∷ []) (opens againWindow R) .table) (calls line (behind waitTicks newLife)))) oldLife (behind waitTicks newLife)
 
 -- The same with the batch beside it.
 pub record AppliedSteps (m : Machine) : Type 0 where
@@ -50,3 +57,7 @@ pub record AppliedSteps (m : Machine) : Type 0 where
   pub restart :
       verdicts (logSteps m 0 (ranSteps m (new L R) (map single (calls line (old ++ (ticked 19 ∷ []))))) (map single (calls (again (pause + 1)) fromZero)))
       ≡ upAtFirst (indices fromZero)
+  pub again : Again (65534 ∷ 65535 ∷ []) (verdicts (logSteps m 0 (m .receive (blank ∷ []) (opens againWindow R) .table) againSteps))
+      oldLife (behind waitTicks newLife)
+  pub both-lives : BothLives (verdicts (logSteps m 0 (m .receive (blank ∷ []) (opens L R) .table) (map single (calls line oldLife))))
+      (verdicts (logSteps m 0 (m .receive (blank ∷ []) (opens againWindow R) .table) againSteps)) oldLife (behind waitTicks newLife)

@@ -1,4 +1,5 @@
 pub mod DelaysRuns
 pub mod DelaysNeeded
+pub mod AgainRuns
 pub mod Choices
 pub mod Applied

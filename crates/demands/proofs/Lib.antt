@@ -2,6 +2,7 @@
 pub mod Theorems
 pub mod Alike
 pub mod Coded
+pub mod Follows
 pub mod One
 pub mod Told
 pub mod Three

@@ -25,7 +25,7 @@ wrap-meets = record {
 }
 
 pub premises-are : PremisesAre
-premises-are t gap later indices = (
+premises-are receive t i gap later indices = (
   λ a. record {
     vector = a .0;
     silent = record { lawful = a .1 .0; long = a .1 .1 .0; calm = a .1 .1 .1 .0 };

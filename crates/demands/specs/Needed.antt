@@ -10,11 +10,11 @@ use Rattle.stream.specs.Record.{lawful, closed}
 use Rattle.stream.specs.Decisions.{Verdict, up, duplicate, rogue}
 use Rattle.calls.specs.Table.{Table, at}
 use Rattle.calls.specs.Calls.{Call, opening, closing, resetting, ticking}
-use Rattle.demands.specs.Receiver.{theReceiver}
+use Rattle.demands.specs.Receiver.{Receiver, theReceiver, run}
 use Rattle.demands.specs.Seen.{log, numbers, ticks, calm, lasting, every}
 use Rattle.demands.specs.Unlimited.{apart, allNear}
 use Rattle.demands.specs.Demand3.{numberOf, Premises}
-use Rattle.demands.specs.Examples.{address, from, stream, since, seenAfter, ours, theirs, alone, silence, two}
+use Rattle.demands.specs.Examples.{address, from, stream, since, ours, theirs, alone, silence, two}
 
 -- ---- the bound
 
@@ -34,16 +34,16 @@ BoundReached =
 
 -- ---- the premises one by one
 
--- What the premises ask of the stream in slot 0: 0 vector, 1 lawful, 2 long, 3 calm, 4 lasts, 5 numbered, 6 near.
-abbrev pub premisesOf : Table → (gap later : List Call) → (indices : List ℕ) → List (Type 0)
-premisesOf t gap later indices =
-    (at t 0 .rule ≡ vectorRule)
-    ∷ (lawful (at t 0) ≡ true)
-    ∷ (at t 0 .time ≤ ticks (log theReceiver 0 t gap))
-    ∷ (every calm (log theReceiver 0 t gap) ≡ true)
-    ∷ (every lasting (seenAfter t gap later) ≡ true)
-    ∷ (numbers (seenAfter t gap later) ≡ map numberOf indices)
-    ∷ (allNear (at t 0 .window) [] indices ≡ true)
+-- What the premises ask of a receiver and the stream in slot i: 0 vector, 1 lawful, 2 long, 3 calm, 4 lasts, 5 numbered, 6 near.
+abbrev pub premisesOf : Receiver → Table → (slot : ℕ) → (gap later : List Call) → (indices : List ℕ) → List (Type 0)
+premisesOf receive t i gap later indices =
+    (at t i .rule ≡ vectorRule)
+    ∷ (lawful (at t i) ≡ true)
+    ∷ (at t i .time ≤ ticks (log receive i t gap))
+    ∷ (every calm (log receive i t gap) ≡ true)
+    ∷ (every lasting (log receive i (run receive t gap) later) ≡ true)
+    ∷ (numbers (log receive i (run receive t gap) later) ≡ map numberOf indices)
+    ∷ (allNear (at t i .window) [] indices ≡ true)
     ∷ []
 
 abbrev pub All : List (Type 0) → Type 0
@@ -59,12 +59,12 @@ AllBut (suc place) (P ∷ Ps) = P × AllBut place Ps
 -- They are `Premises`, and there are no others.
 abbrev pub PremisesAre : Type 0
 PremisesAre =
-    (t : Table) (gap later : List Call) (indices : List ℕ)
-    → All (premisesOf t gap later indices) ↔ Premises theReceiver t 0 gap later indices
+    (receive : Receiver) (t : Table) (i : ℕ) (gap later : List Call) (indices : List ℕ)
+    → All (premisesOf receive t i gap later indices) ↔ Premises receive t i gap later indices
 
--- A run that breaks one premise alone, the verdicts on it, and those of the receiver with unlimited memory.
+-- A run that breaks one premise alone in slot 0, the verdicts on it, and those of the receiver with unlimited memory.
 pub record Broken (place : ℕ) (t : Table) (gap later : List Call) (indices : List ℕ) (ourVerdicts theirVerdicts : List Verdict) : Type 0 where
-  pub broken : AllBut place (premisesOf t gap later indices)
+  pub broken : AllBut place (premisesOf theReceiver t 0 gap later indices)
   pub given : ours t gap later ≡ ourVerdicts
   pub wanted : theirs t indices ≡ theirVerdicts
 

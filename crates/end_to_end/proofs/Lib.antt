@@ -4,6 +4,7 @@ pub mod BatchRuns
 -- What they rest on.
 mod Bytes
 mod Batches
+mod Coded
 mod Lengths
 mod Cases
 mod Got

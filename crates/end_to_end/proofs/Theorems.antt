@@ -1,15 +1,19 @@
 -- The list of theorems. Assumes nothing.
 use Rattle.demands.specs.Receiver.{Receiver, MeetsContract}
-use Rattle.demands.specs.Steps.{Machine, MeetsAll}
-use Rattle.sender.specs.Runs.{Side, MeetsSide}
+use Rattle.demands.specs.Steps.{Machine, MeetsAll, theMachine}
+use Rattle.demands.proofs.Stepping.{the-machine-meets}
+use Rattle.sender.specs.Runs.{Side, MeetsSide, theSide}
+use Rattle.sender.proofs.Numbers.{the-side-meets}
 use Rattle.delays.proofs.Theorems as delays
 use Rattle.end_to_end.specs.Bytes.{BytesToBytes}
 use Rattle.end_to_end.specs.Batches.{BytesToBytesSteps, BytesToBytesRestartedSteps}
+use Rattle.end_to_end.specs.Code.{CodeToCode}
 use Rattle.end_to_end.specs.Theorems.{EndToEnd, Theorems}
 -- (The runs first: modules are checked in the order in which they are named, and so a wrong definition is refused at what a run computes.)
 use Rattle.end_to_end.proofs.Runs.{both-meet, restart-meets, traffic-meets, between-needed, heard-needed}
 use Rattle.end_to_end.proofs.Bytes.{bytes-to-bytes, bytes-to-bytes-restarted}
 use Rattle.end_to_end.proofs.Batches.{got-as-calls, bytes-to-bytes-steps, bytes-to-bytes-restarted-steps}
+use Rattle.end_to_end.proofs.Coded.{rans-coincide, from-steps}
 use Rattle.end_to_end.proofs.Lengths.{lengths-stand}
 use Rattle.end_to_end.proofs.BatchRuns.{batch-got, steps-meet}
 use Rattle.end_to_end.proofs.Heard.{copies-are-heard}
@@ -32,8 +36,13 @@ of-steps m k side s = bytes-to-bytes-steps m k side (of-calls (k .receive) s)
 of-restarted-steps : (m : Machine) → MeetsAll m → (side : Side) → MeetsSide side → BytesToBytesRestartedSteps m side
 of-restarted-steps m k side s = bytes-to-bytes-restarted-steps m k side (of-calls (k .receive) s)
 
+code-to-code : CodeToCode
+code-to-code = from-steps (of-steps theMachine the-machine-meets theSide the-side-meets)
+
 pub theorems : Theorems
 theorems = record {
+  rans-coincide = rans-coincide;
+  code-to-code = code-to-code;
   both = of-both;
   both-meet = both-meet;
   restart-meets = restart-meets;

@@ -3,4 +3,5 @@ pub mod Runs
 pub mod Batches
 pub mod BatchRuns
 pub mod PrpLines
+pub mod Code
 pub mod Theorems

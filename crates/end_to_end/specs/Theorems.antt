@@ -6,6 +6,7 @@ use Rattle.end_to_end.specs.Bytes.{BytesToBytes, BytesToBytesRestarted, 
 use Rattle.end_to_end.specs.Runs.{BothMeet, RestartMeets, TrafficMeets, EndApplied, BetweenNeeded, HeardNeeded}
 use Rattle.end_to_end.specs.Batches.{GotAsCalls, LengthsStand, BytesToBytesSteps, BytesToBytesRestartedSteps}
 use Rattle.end_to_end.specs.BatchRuns.{BatchGot, StepsMeet, StepsApplied}
+use Rattle.end_to_end.specs.Code.{RansCoincide, CodeToCode}
 use Rattle.end_to_end.specs.PrpLines.{SentOverPrp, SentOverPrpCalls, PrpRun}
 
 -- Of every receiver that meets the contract and every sending side that meets order 6.
@@ -14,7 +15,10 @@ pub record EndToEnd (receive : Receiver) (side : Side) : Type 0 where
   pub bytes-to-bytes-restarted : BytesToBytesRestarted receive side
   pub copies-are-heard : CopiesAreHeard receive side
 
-pub record Theorems : Type 0 where
+pub record Theorems : Type 2 where
+  -- Of the code of both ends, by the names of its calls: what two programs get from it is what the definitions give, and it is bytes to bytes.
+  pub rans-coincide : RansCoincide
+  pub code-to-code : CodeToCode
   pub both : (receive : Receiver) → MeetsContract receive → (side : Side) → MeetsSide side → EndToEnd receive side
   -- The premises can be met, by a run over the wrap, by a sender that restarts and in the middle of traffic, and they are needed.
   pub both-meet : BothMeet

@@ -6,3 +6,4 @@ pub mod Files
 pub mod Example
 pub mod Pieces
 pub mod Laws
+pub mod EveryKind

@@ -110,7 +110,8 @@ fn in_digits(n: u8) -> Numeral
         refusal::TAGGED => Numeral::Two(b'1', b'3'),
         refusal::GROUP => Numeral::Two(b'1', b'4'),
         refusal::BATCH => Numeral::Two(b'1', b'5'),
-        0 | 16..=255 => Numeral::Other(n),
+        refusal::TRAILER => Numeral::Two(b'1', b'6'),
+        0 | 17..=255 => Numeral::Other(n),
     }
 }
 

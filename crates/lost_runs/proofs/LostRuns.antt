@@ -4,21 +4,21 @@ use mathlib.Core.Path.{_≡_, refl}
 use mathlib.Core.Bool.{false≢true}
 use mathlib.Core.List.{List, [], _∷_, head-eq-of-cons-eq, tail-eq-of-cons-eq}
 use native.Mathlib.Omega.{arith}
+use Rattle.demands.specs.Receiver.{theReceiver}
 use Rattle.demands.specs.Corollaries.{handedOf}
 use Rattle.demands.specs.Lost.{absent}
 use Rattle.demands.specs.Examples.{later}
 use Rattle.lost_runs.specs.LostRuns.{LostPremisesAre, lostAfter, begin, sent, afterGap, LostShown, LostPremisesNeeded}
-use Rattle.demands.proofs.Alike.{the-receiver-meets}
 use Rattle.demands.proofs.Lost.{fresh-lost}
 use Rattle.demands.proofs.Computing.{computing}
 
 pub lost-premises-are : LostPremisesAre
-lost-premises-are t later first rest a =
-    fresh-lost the-receiver-meets t 0 later first rest (a .1 .0) (a .1 .1 .0) (a .0)
+lost-premises-are receive m t i later first rest a =
+    fresh-lost m t i later first rest (a .1 .0) (a .1 .1 .0) (a .0)
     (record { lasts = a .1 .1 .1 .0; numbered = a .1 .1 .1 .1 .0; near = a .1 .1 .1 .1 .1 .0 })
 
 -- With the number written out: to compare with `2 ^ 64 - 1` takes more steps than there are.
-wrap-lost : lostAfter afterGap later ≡ 18446744073709551615
+wrap-lost : lostAfter theReceiver afterGap 0 later ≡ 18446744073709551615
 unfolding computing
 wrap-lost = refl
 

@@ -10,7 +10,7 @@ use Rattle.stream.specs.Record.{fresh, lawful, closed}
 use Rattle.stream.specs.Decisions.{Verdict, up, duplicate, rogue, rise}
 use Rattle.calls.specs.Table.{Table, at}
 use Rattle.calls.specs.Calls.{Call, opening, closing, resetting, ticking}
-use Rattle.demands.specs.Receiver.{theReceiver, run}
+use Rattle.demands.specs.Receiver.{Receiver, MeetsContract, theReceiver, run}
 use Rattle.demands.specs.Seen.{log, numbers, verdicts, lasting, every}
 use Rattle.demands.specs.Unlimited.{apart, allNear}
 use Rattle.demands.specs.Demand3.{numberOf}
@@ -19,34 +19,36 @@ use Rattle.demands.specs.Lost.{missed}
 use Rattle.demands.specs.Examples.{address, from, stream, start, gap, later, alone}
 use Rattle.demands.specs.Needed.{All, AllBut}
 
--- ---- runs of the stream in slot 0
+-- ---- runs of the stream in slot i
 
 -- What `FreshLost` asks of it: 0 vector, 1 lawful, 2 take-any, 3 lasts, 4 numbered, 5 near.
-abbrev pub premisesOf : Table → (later : List Call) → (indices : List ℕ) → List (Type 0)
-premisesOf t later indices =
-    (at t 0 .rule ≡ vectorRule)
-    ∷ (lawful (at t 0) ≡ true)
-    ∷ (yes (at t 0 .state .any) ≡ true)
-    ∷ (every lasting (log theReceiver 0 t later) ≡ true)
-    ∷ (numbers (log theReceiver 0 t later) ≡ map numberOf indices)
-    ∷ (allNear (at t 0 .window) [] indices ≡ true)
+abbrev pub premisesOf : Receiver → Table → (slot : ℕ) → (later : List Call) → (indices : List ℕ) → List (Type 0)
+premisesOf receive t i later indices =
+    (at t i .rule ≡ vectorRule)
+    ∷ (lawful (at t i) ≡ true)
+    ∷ (yes (at t i .state .any) ≡ true)
+    ∷ (every lasting (log receive i t later) ≡ true)
+    ∷ (numbers (log receive i t later) ≡ map numberOf indices)
+    ∷ (allNear (at t i .window) [] indices ≡ true)
     ∷ []
 
 -- how many are missed of what it handed up, lost afterwards, and what `FreshLost` says of it
-abbrev pub missedIn : Table → (later : List Call) (first : ℕ) (rest : List ℕ) → ℕ
-missedIn t later first rest = missed (at t 0 .window) first (handedOf (verdicts (log theReceiver 0 t later)) (first ∷ rest))
+abbrev pub missedIn : Receiver → Table → (slot : ℕ) → (later : List Call) (first : ℕ) (rest : List ℕ) → ℕ
+missedIn receive t i later first rest = missed (at t i .window) first (handedOf (verdicts (log receive i t later)) (first ∷ rest))
 
-abbrev pub lostAfter : Table → (later : List Call) → ℕ
-lostAfter t later = at (run theReceiver t later) 0 .counts .lost
+abbrev pub lostAfter : Receiver → Table → (slot : ℕ) → (later : List Call) → ℕ
+lostAfter receive t i later = at (run receive t later) i .counts .lost
 
-abbrev pub lostSaid : Table → (later : List Call) (first : ℕ) (rest : List ℕ) → ℕ
-lostSaid t later first rest = rise (at t 0 .counts .lost) (missedIn t later first rest)
+abbrev pub lostSaid : Receiver → Table → (slot : ℕ) → (later : List Call) (first : ℕ) (rest : List ℕ) → ℕ
+lostSaid receive t i later first rest = rise (at t i .counts .lost) (missedIn receive t i later first rest)
 
--- Where these hold it is so: it asks for no more.
+-- Where these hold it is so, in any slot and of every receiver that meets the contract: it asks for no more.
 abbrev pub LostPremisesAre : Type 0
 LostPremisesAre =
-    (t : Table) (later : List Call) (first : ℕ) (rest : List ℕ)
-    → All (premisesOf t later (first ∷ rest)) → lostAfter t later ≡ lostSaid t later first rest
+    (receive : Receiver) → MeetsContract receive → (t : Table) (i : ℕ) (later : List Call) (first : ℕ) (rest : List ℕ)
+    → All (premisesOf receive t i later (first ∷ rest)) → lostAfter receive t i later ≡ lostSaid receive t i later first rest
+
+-- The runs below are of the stream in slot 0.
 
 -- A table with one fresh stream, and arrivals of these indices.
 unfoldable pub begin : Table
@@ -60,10 +62,10 @@ sent (x ∷ xs) = from 0 1 (numberOf x) ∷ sent xs
 
 -- The verdicts, how many indices are missed, and lost afterwards.
 pub record Follows (t : Table) (later : List Call) (first : ℕ) (rest : List ℕ) (itsVerdicts : List Verdict) (n count : ℕ) : Type 0 where
-  pub premises : All (premisesOf t later (first ∷ rest))
+  pub premises : All (premisesOf theReceiver t 0 later (first ∷ rest))
   pub given : verdicts (log theReceiver 0 t later) ≡ itsVerdicts
-  pub missed : missedIn t later first rest ≡ n
-  pub lost : lostAfter t later ≡ count
+  pub missed : missedIn theReceiver t 0 later first rest ≡ n
+  pub lost : lostAfter theReceiver t 0 later ≡ count
 
 abbrev pub Shows : (first : ℕ) (rest : List ℕ) (itsVerdicts : List Verdict) (n count : ℕ) → Type 0
 Shows first rest vs n count = Follows begin (sent (first ∷ rest)) first rest vs n count
@@ -100,9 +102,9 @@ pub record LostShown : Type 0 where
 
 -- A run that breaks one premise alone, lost after it, and what `FreshLost` would say.
 pub record Breaks (place : ℕ) (t : Table) (later : List Call) (first : ℕ) (rest : List ℕ) (count wanted : ℕ) : Type 0 where
-  pub broken : AllBut place (premisesOf t later (first ∷ rest))
-  pub lost : lostAfter t later ≡ count
-  pub said : lostSaid t later first rest ≡ wanted
+  pub broken : AllBut place (premisesOf theReceiver t 0 later (first ∷ rest))
+  pub lost : lostAfter theReceiver t 0 later ≡ count
+  pub said : lostSaid theReceiver t 0 later first rest ≡ wanted
 
 pub record LostPremisesNeeded : Type 0 where
   -- a match stream counts nothing

@@ -30,6 +30,12 @@ pub record MeetsInC {A : Type 0} (tell : Said Answer → A) (t : Table) (c : Cal
   pub table : rows ≡ after t (act t c)
   pub output : bytes ≡ output t (outOf c) (act t c)
 
+-- Two outcomes that meet it coincide, however the call is told: a tick too. (Of all exports: `Determines` of `shipped`.)
+abbrev pub CallsCoincide : Type 1
+CallsCoincide =
+    (A : Type 0) (tell : Said Answer → A) (t : Table) (c : Call) (a b : A) (u v : Table) (x y : List ℕ)
+    → MeetsInC tell t c a u x → MeetsInC tell t c b v y → (a ≡ b) × (u ≡ v) × (x ≡ y)
+
 -- Nothing is lost: calls that are told alike said the same.
 abbrev pub ArrivalTold : Type 0
 ArrivalTold =

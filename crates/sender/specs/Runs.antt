@@ -65,6 +65,55 @@ nth [] k = none
 nth (x ∷ xs) zero = some x
 nth (x ∷ xs) (suc k) = nth xs k
 
+-- ---- what a program gets
+
+-- From a send what it comes to, from a reset the sender.
+pub data SideGot : Type 0 where
+  sentSo : Sends → SideGot
+  resetSo : Sender → SideGot
+
+abbrev pub senderLeft : SideGot → Sender
+senderLeft (sentSo r) = r .sender
+senderLeft (resetSo s) = s
+
+-- What the public calls ensure to a program that makes these calls, each with the sender that the call before it left.
+abbrev pub EnsuredCall : Sender → Call → SideGot → Type 0
+EnsuredCall s (sending f out0 out1) (sentSo r) = r ≡ sendOf s f out0 out1
+EnsuredCall s (sending f out0 out1) (resetSo u) = ⊥
+EnsuredCall s resetting (sentSo r) = ⊥
+EnsuredCall s resetting (resetSo u) = u ≡ resetOf s
+
+unfoldable pub EnsuredCalls : Sender → List Call → List SideGot → Type 0
+EnsuredCalls s [] [] = Unit {0}
+EnsuredCalls s [] (g ∷ gs) = ⊥
+EnsuredCalls s (c ∷ cs) [] = ⊥
+EnsuredCalls s (c ∷ cs) (g ∷ gs) = EnsuredCall s c g × EnsuredCalls (senderLeft g) cs gs
+
+-- What a sending side gives to it.
+abbrev pub sideGives : Side → Sender → Call → SideGot
+sideGives side s (sending f out0 out1) = sentSo (side .send s f out0 out1)
+sideGives side s resetting = resetSo (side .reset s)
+
+unfoldable pub sideGivesAll : Side → Sender → List Call → List SideGot
+sideGivesAll side s [] = []
+sideGivesAll side s (c ∷ cs) = sideGives side s c ∷ sideGivesAll side (senderLeft (sideGives side s c)) cs
+
+-- There is nothing else to get than what the definitions' side gives. So what is shown of it, and of every side that meets the order,
+-- holds of the runs of every such program.
+abbrev pub SendRunsCoincide : Type 0
+SendRunsCoincide = (s : Sender) (calls : List Call) (gs : List SideGot) → EnsuredCalls s calls gs → gs ≡ sideGivesAll theSide s calls
+
+-- What was sent, read from what the program got: it is what the side sends.
+unfoldable pub sentIn : List Call → List SideGot → List Pair
+sentIn [] gs = []
+sentIn (c ∷ cs) [] = []
+sentIn (sending f out0 out1 ∷ cs) (sentSo r ∷ gs) = pairOf f r (r .said) ++ sentIn cs gs
+sentIn (sending f out0 out1 ∷ cs) (resetSo u ∷ gs) = sentIn cs gs
+sentIn (resetting ∷ cs) (g ∷ gs) = sentIn cs gs
+
+abbrev pub SentIsRead : Side → Type 0
+SentIsRead side = (s : Sender) (calls : List Call) → sentIn calls (sideGivesAll side s calls) ≡ sent side s calls
+
 -- ---- their numbers
 
 -- no call is a reset

@@ -9,17 +9,17 @@ use lib.Dec.{eqb, ltb}
 use lib.ListN.{length, getD, set, length-set}
 use lib.Seq.{getD-set-same, getD-set-other}
 use Rattle.stream.specs.History.{value, wordsOf}
-use Rattle.stream.proofs.Words.{Small, wordAt, words-at, words-length, tab, tab-of, tab-same, ors, above-none}
+use Rattle.stream.proofs.Words.{Small, words-length, tab, tab-of, tab-same, ors, above-none}
 
 eight : (f : ℕ → ℕ) → f 0 ∷ f 1 ∷ f 2 ∷ f 3 ∷ f 4 ∷ f 5 ∷ f 6 ∷ f 7 ∷ [] ≡ tab 8 f
 unfolding tab
 eight f = refl
 
 -- eight words, each as a number has it
-pub eight-words : (x : ℕ) (f : ℕ → ℕ) → ((i : ℕ) → f i ≡ wordAt x i)
+pub eight-words : (x : ℕ) (f : ℕ → ℕ) → ((i : ℕ) → i < 8 → getD (wordsOf 8 x) i 0 ≡ f i)
     → f 0 ∷ f 1 ∷ f 2 ∷ f 3 ∷ f 4 ∷ f 5 ∷ f 6 ∷ f 7 ∷ [] ≡ wordsOf 8 x
 eight-words x f e =
-    eight f ∙ tab-same 8 f (λ i. getD (wordsOf 8 x) i 0) (λ i p. e i ∙ sym (words-at 8 x i p)) ∙ tab-of 8 (wordsOf 8 x) (words-length 8 x)
+    eight f ∙ tab-same 8 f (λ i. getD (wordsOf 8 x) i 0) (λ i p. sym (e i p)) ∙ tab-of 8 (wordsOf 8 x) (words-length 8 x)
 
 -- one of them changed
 pub eight-set : (h : List ℕ) (j v : ℕ) (f : ℕ → ℕ) → length h ≡ 8 → j < 8 → f j ≡ v → ((i : ℕ) → (i ≡ j → ⊥) → f i ≡ getD h i 0)

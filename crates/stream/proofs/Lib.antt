@@ -15,6 +15,7 @@ mod Digits
 mod Words
 mod Eight
 mod Shifts
+mod AnyWords
 mod Moves
 mod Early
 mod Flags

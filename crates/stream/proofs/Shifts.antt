@@ -1,18 +1,17 @@
 -- A number's words moved up, cut and counted, over any number of words. Assumes nothing.
 use mathlib.Core.Path.{_≡_, refl, ap, ap₂, _∙_, sym, subst}
-use mathlib.Core.List.{List, [], _∷_}
+use mathlib.Core.List.{List}
 use Prim.Native.Nat.{ℕ, zero, suc, _+_, _-_, _*_, _/_, _%_, _^_, _<_, _≤_}
-use native.Mathlib.Nat.{zero-div, add-zero, zero-add, add-comm, mul-assoc, mod-lt, mod-one, mod-eq-of-lt, div-eq-of-lt, lt-of-lt-of-le, lt-of-le-of-lt, mul-mod-left, add-mul-div-right, div-one}
+use native.Mathlib.Nat.{add-zero, add-comm, mul-assoc, mod-lt, mod-one, mod-eq-of-lt, div-eq-of-lt, lt-of-lt-of-le, lt-of-le-of-lt, mul-mod-left, add-mul-div-right, div-one}
 use native.Mathlib.Omega.{arith}
 use native.Mathlib.Decide.{ℕ-discrete, decLt, decLe}
-use lib.Dec.{lit<}
-use lib.ListN.{length, getD, set, length-set, replicate, getD-replicate}
+use lib.ListN.{length, getD, set, length-set, replicate}
 use lib.Seq.{ext-getD, getD-set-same, getD-set-other}
 use lib.Count.{ones, ones-cat, ones-le}
 use lib.Bits.{bitOr, or-shifted}
 use lib.Pow.{pow-pos, pow-mono, pow-add, shr-shr, shl-shr, field, mod-mod-pow, mod-pow-add, shr-lt, shr-le}
 use Rattle.stream.specs.History.{value, wordsOf}
-use Rattle.stream.proofs.Moves.{mod-times, setIn}
+use Rattle.stream.proofs.Moves.{mod-times}
 use Rattle.stream.proofs.Words.{Small, wordAt, word-of, words-at, words-length}
 
 -- what is moved up by b leaves the word's b highest places
@@ -200,42 +199,6 @@ ones-none h low = ap ones (sym (div-eq-of-lt (mod-lt h (pow-pos low))))
 
 -- the same of a list of words
 module _ (h : List ℕ) (s : Small h) where
-  -- the count goes over the rest of the word that holds place `at`
-  pub count-word : (at low : ℕ) → low ≤ at
-      → ones (value h % 2 ^ at / 2 ^ low) + ones (getD h (at / 64) 0 / 2 ^ (at % 64)) ≡ ones (value h % 2 ^ (at - at % 64 + 64) / 2 ^ low)
-  count-word at low p =
-      let r : ℕ = at % 64 in
-      let i : ℕ = at / 64 in
-      let small : r ≤ 64 = omega arith in
-      let here : 64 * i + r ≡ at = omega arith in
-      let next : at - r + 64 ≡ at + (64 - r) = omega arith in
-      let word : getD h i 0 / 2 ^ r ≡ value h / 2 ^ at % 2 ^ (64 - r) =
-      ap (λ (x : ℕ). x / 2 ^ r) (sym (mod-eq-of-lt (s i)) ∙ ap (λ (x : ℕ). x % 2 ^ 64) (sym (word-of h s i)))
-      ∙ part (value h) i 64 r small (omega arith) ∙ ap (λ (n : ℕ). value h / 2 ^ n % 2 ^ (64 - r)) here in
-      sym (ap (λ (n : ℕ). ones (value h % 2 ^ n / 2 ^ low)) next ∙ ones-more (value h) at (64 - r) low p
-      ∙ ap (λ (x : ℕ). ones (value h % 2 ^ at / 2 ^ low) + ones x) (sym word))
-
-  -- and ends in the word that holds place w - 1
-  pub count-last : (at w d : ℕ) → d ≤ w → w - d ≤ at → at < w → at / 64 ≡ (w - 1) / 64
-      → ones (value h % 2 ^ at / 2 ^ (w - d)) + ones (getD h ((w - 1) / 64) 0 % 2 ^ (64 - (63 - (w - 1) % 64)) / 2 ^ (at % 64)) ≡ setIn w d (value h)
-  count-last at w d o p q e =
-      let r : ℕ = at % 64 in
-      let i : ℕ = (w - 1) / 64 in
-      let m : ℕ = 64 - (63 - (w - 1) % 64) in
-      let low : ℕ = w - d in
-      let inside : r ≤ m = omega arith in
-      let small : m ≤ 64 = omega arith in
-      let here : 64 * i + r ≡ at = omega arith in
-      let left : m - r ≡ w - at = omega arith in
-      let all : at + (w - at) ≡ d + low = omega arith in
-      let word : getD h i 0 % 2 ^ m / 2 ^ r ≡ value h / 2 ^ at % 2 ^ (w - at) =
-      ap (λ (x : ℕ). x % 2 ^ m / 2 ^ r) (sym (word-of h s i))
-      ∙ part (value h) i m r inside small ∙ ap₂ (λ (a b : ℕ). value h / 2 ^ a % 2 ^ b) here left in
-      ap (λ (x : ℕ). ones (value h % 2 ^ at / 2 ^ low) + ones x) word
-      ∙ sym (ones-more (value h) at (w - at) low p)
-      ∙ ap (λ (n : ℕ). ones (value h % 2 ^ n / 2 ^ low)) all
-      ∙ ap ones (field (value h) d low)
-
   pub first-up : (d : ℕ) → (getD h 0 0 * 2 ^ (d % 64)) % 2 ^ 64 ≡ wordAt (value h * 2 ^ d) (d / 64)
   first-up d = ap (λ (x : ℕ). (x * 2 ^ (d % 64)) % 2 ^ 64) (sym (word-of h s 0)) ∙ sym (up-first (value h) d)
 
@@ -279,48 +242,3 @@ module _ (out : List ℕ) (x w n : ℕ) (long : length out ≡ n) (one : 1 ≤ w
           getD-set-other out ((w - 1) / 64) k new 0 e ∙ below k (omega arith) ∙ sym (cut-below x w k (omega arith))
       each k q (no e) (no l) =
           getD-set-other out ((w - 1) / 64) k new 0 e ∙ above k (omega arith) ∙ sym (cut-above x w k (omega arith))
-
--- b places up, for b below 64, word by word
-pub bit-up : (h : List ℕ) → Small h → (b : ℕ) → b < 64 → (i : ℕ)
-    → (getD h i 0 * 2 ^ b) % 2 ^ 64 + getD (0 ∷ h) i 0 / 2 ^ (64 - b) ≡ wordAt (value h * 2 ^ b) i
-bit-up h s b p zero =
-    let q : b / 64 ≡ 0 = omega arith in
-    let r : b % 64 ≡ b = omega arith in
-    let x : ℕ = (getD h 0 0 * 2 ^ b) % 2 ^ 64 in
-    ap (λ (y : ℕ). x + y) (zero-div (2 ^ (64 - b))) ∙ add-zero x
-    ∙ ap (λ (n : ℕ). (getD h 0 0 * 2 ^ n) % 2 ^ 64) (sym r) ∙ first-up h s b ∙ ap (wordAt (value h * 2 ^ b)) q
-bit-up h s b p (suc j) =
-    let q : b / 64 ≡ 0 = omega arith in
-    let r : b % 64 ≡ b = omega arith in
-    let less : b / 64 < suc j = omega arith in
-    let m : suc j ≡ suc j - b / 64 = omega arith in
-    let n : j ≡ suc j - b / 64 - 1 = omega arith in
-    ap₂ (λ (u v : ℕ). (getD h u 0 * 2 ^ b) % 2 ^ 64 + getD h v 0 / 2 ^ (64 - b)) m n
-    ∙ ap (λ (c : ℕ). (getD h (suc j - b / 64) 0 * 2 ^ c) % 2 ^ 64 + getD h (suc j - b / 64 - 1) 0 / 2 ^ (64 - c)) (sym r)
-    ∙ next-up h s b (suc j) less
-
--- the places below w, word by word
-pub word-cut : (h : List ℕ) → Small h → (w i : ℕ) → getD h i 0 % 2 ^ (w - 64 * i) ≡ wordAt (value h % 2 ^ w) i
-word-cut h s w i = ap (λ (x : ℕ). x % 2 ^ (w - 64 * i)) (sym (word-of h s i)) ∙ sym (cut-word (value h) w i)
-
--- the first word alone tells what is cut at most at its end, moved up or not
-pub first-cut : (h : List ℕ) → Small h → (w c : ℕ) → w ≤ 64 → (getD h 0 0 * c) % 2 ^ w ≡ (value h * c) % 2 ^ w
-unfolding wordAt
-first-cut h s w c p =
-    let whole : 64 ≡ 64 - w + w = omega arith in
-    let cut : (x : ℕ) → x % 2 ^ 64 % 2 ^ w ≡ x % 2 ^ w = λ x. ap (λ (n : ℕ). x % 2 ^ n % 2 ^ w) whole ∙ mod-mod-pow x (64 - w) w in
-    sym (cut (getD h 0 0 * c))
-    ∙ ap (λ (x : ℕ). (x * c) % 2 ^ 64 % 2 ^ w) (sym (word-of h s 0) ∙ ap (λ (x : ℕ). x % 2 ^ 64) (div-one (value h)))
-    ∙ ap (λ (x : ℕ). x % 2 ^ w) (mod-times (value h) c (2 ^ 64))
-    ∙ cut (value h * c)
-
-pub first-part : (h : List ℕ) → Small h → (w d : ℕ) → d ≤ w → w ≤ 64 → getD h 0 0 / 2 ^ (w - d) % 2 ^ d ≡ value h / 2 ^ (w - d) % 2 ^ d
-first-part h s w d p q =
-    let whole : d + (w - d) ≡ w = omega arith in
-    let left : w - (w - d) ≡ d = omega arith in
-    let place : 64 * 0 + (w - d) ≡ w - d = omega arith in
-    sym (field (getD h 0 0) d (w - d))
-    ∙ ap (λ (n : ℕ). getD h 0 0 % 2 ^ n / 2 ^ (w - d)) whole
-    ∙ ap (λ (x : ℕ). x % 2 ^ w / 2 ^ (w - d)) (sym (word-of h s 0))
-    ∙ part (value h) 0 w (w - d) (omega arith) q
-    ∙ ap₂ (λ (n m : ℕ). value h / 2 ^ n % 2 ^ m) place left

@@ -1,4 +1,5 @@
 pub mod History
+pub mod AnyWords
 pub mod Record
 pub mod Decisions
 pub mod Steps

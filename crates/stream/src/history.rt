@@ -1,6 +1,7 @@
 // The history of a vector record: bit k stands for the number anchor - k. This file alone knows how a history is held:
 // eight words of 64 bits, the lowest first. Words are named by constant places wherever the common cases go, since a place
 // that is computed would keep the whole record in memory; and a window of at most a word has a short way.
+use record::Stream;
 ghost use mathlib.Core.Path.{_≡_};
 ghost use Prim.Native.Nat.{_+_, _-_, _*_, _/_, _%_, _^_, _<_, _≤_};
 ghost use lib.Dec.{eqb};
@@ -174,7 +175,7 @@ fn kept(x: u64, w: u16, i: u16) -> u64
 fn cut_at(h: [u64; 8], w: u16) -> [u64; 8]
     ensures { λ r. ⌜ r ≡ wordsOf 8 (value h % 2 ^ w) ⌝ }
 {
-    if w == 512 {
+    if w == Stream::WINDOW_MOST {
         return h;
     }
     [

@@ -47,6 +47,7 @@ struct Stall {
     since: Time,
     /// What the kernel had dropped by then.
     dropped: [u64; NETWORKS],
+    said: bool,
 }
 
 struct Host {
@@ -69,6 +70,7 @@ struct Host {
     output: Option<Output>,
     stalled: Option<Stall>,
     stalls: u64,
+    stall_last_said: Time,
     /// The last turn with a frame, and when the next second is over.
     last: Time,
     second: Time,
@@ -310,20 +312,21 @@ impl Host {
         match &self.stalled {
             None if self.up.is_full() => {
                 let dropped = self.count_dropped()?;
+                let said = self.say_stall(now);
                 self.stalled = Some(Stall {
                     since: now,
                     dropped,
+                    said,
                 });
                 self.stalls += 1;
-                let kb = self.options.backlog_kb;
-                say_now(&format!(
-                    "stalled: standard output takes nothing, and the backlog of {kb} KB is full: nothing more is read, and \
-                     ticks stop"
-                ));
             }
             Some(stall) if !self.up.is_half_full() => {
                 let (ms, before) = ((now - stall.since) / MILLISECOND, stall.dropped);
+                let said = stall.said;
                 self.stalled = None;
+                if !said {
+                    return Ok(Ok(()));
+                }
                 let dropped = self.count_dropped()?;
                 let [first, second] = &self.options.interfaces;
                 say_now(&format!(
@@ -333,9 +336,31 @@ impl Host {
                     dropped[1] - before[1]
                 ));
             }
+            Some(stall) if !stall.said => {
+                let (since, dropped) = (stall.since, stall.dropped);
+                let said = self.say_stall(now);
+                self.stalled = Some(Stall {
+                    since,
+                    dropped,
+                    said,
+                });
+            }
             _ => {}
         }
         Ok(Ok(()))
+    }
+
+    /// At most once a second: a small backlog may fill and empty many times. Answers whether it was said.
+    fn say_stall(&mut self, now: Time) -> bool {
+        if now - self.stall_last_said < SECOND {
+            return false;
+        }
+        self.stall_last_said = now;
+        let kb = self.options.backlog_kb;
+        say_now(&format!(
+            "stalled: standard output takes nothing, and the backlog of {kb} KB is full: nothing more is read, and ticks stop"
+        ));
+        true
     }
 
     fn look_after_ports(&mut self, each_second: bool) -> Result<(), Trouble> {
@@ -476,8 +501,7 @@ fn receive(options: Options) -> Result<(), Trouble> {
     };
     let mut signals = Signals::hold().map_err(failed("signals"))?;
     let clock = Clock::new();
-    let opened = clock.now();
-    let ports = port::open_all(&options.interfaces, numbers, &setup)?;
+    let rooms = port::rooms();
     let tagged = Box::new([0; Stream::FRAME_MOST]);
     let out = Box::new([0; Stream::FRAME_MOST]);
     let up = Up::new(options.give, options.backlog_kb << 10).map_err(failed("the backlog"))?;
@@ -487,10 +511,13 @@ fn receive(options: Options) -> Result<(), Trouble> {
     };
     // The first time asks for the time zone, which is read from a file.
     socket::local_time();
-    // A page that has to be fetched back from the disk is a stall. Without the right to lock so much the program goes on.
+    // A page that has to be fetched back from the disk is a stall. Without the right to lock so much the program goes on. Rings
+    // are the kernel's memory and are not swapped, but would count against the limit: so they come later.
     if let Err(e) = socket::lock_memory() {
         say(&format!("warning: memory is not locked: {}", words(&e)));
     }
+    let opened = clock.now();
+    let ports = port::open_all(&options.interfaces, numbers, &setup, rooms)?;
     let now = clock.now();
     let period = options.tick_ms * MILLISECOND;
     let mut host = Host {
@@ -511,6 +538,7 @@ fn receive(options: Options) -> Result<(), Trouble> {
         output,
         stalled: None,
         stalls: 0,
+        stall_last_said: -NEVER,
         last: now,
         second: now + SECOND,
         end: None,

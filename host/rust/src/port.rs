@@ -111,11 +111,17 @@ pub fn both_on(interface: &str) -> Trouble {
     Trouble::Refused(format!("both networks are on interface '{interface}'"))
 }
 
+/// Where frames are read into without a ring, for each network.
+pub fn rooms() -> [Vec<Room>; NETWORKS] {
+    [(); NETWORKS].map(|()| vec![[0; std::mem::size_of::<Room>()]; BATCH])
+}
+
 /// Opens the ports of all networks.
 pub fn open_all(
     interfaces: &[String; NETWORKS],
     numbers: Vec<i32>,
     setup: &Setup,
+    rooms: [Vec<Room>; NETWORKS],
 ) -> Result<Vec<Port>, Trouble> {
     if setup.ring && ring::blocks(setup.room as usize).1 {
         let (kb, most) = (setup.room >> 10, ring::SLOTS_MOST);
@@ -124,7 +130,7 @@ pub fn open_all(
         ));
     }
     let mut ports = Vec::new();
-    for (network, interface) in interfaces.iter().enumerate() {
+    for (network, (interface, rooms)) in interfaces.iter().zip(rooms).enumerate() {
         let mut warned = false;
         let source = setup
             .source(|what| {
@@ -140,7 +146,7 @@ pub fn open_all(
             drained: false,
             just_drained: false,
             warned,
-            rooms: vec![[0; std::mem::size_of::<Room>()]; BATCH],
+            rooms,
             seen: Vec::with_capacity(BATCH),
             freed: 0,
             counts: Counts::default(),

@@ -3,7 +3,7 @@
 use crate::order::NETWORKS;
 use crate::port;
 use crate::socket::State;
-use crate::watch::{News, Rose, Side, Watches, What};
+use crate::watch::{self, News, Rose, Side, Watches, What};
 use nippitsun::{Counts, Refusal, Stream};
 use std::ffi::OsString;
 use std::fmt::{Display, Write as _};
@@ -419,7 +419,10 @@ pub fn news_line(news: News, stream: &Stream, about: &About) -> String {
         What::First => ("back", "the first frame has come".to_string()),
         What::Single { doubled } => (
             "alarm",
-            format!("of 16 handed up in a row {doubled} had a second copy"),
+            format!(
+                "of {} handed up in a row {doubled} had a second copy",
+                watch::block_of(stream)
+            ),
         ),
         What::Double => ("back", "second copies come again".to_string()),
         What::Rogues { count, since_ms } => (

@@ -6,9 +6,12 @@
 use crate::order::{Time, NETWORKS};
 use nippitsun::{Counts, Stream, Verdict};
 
-/// Hand-ups of which it is counted how many had a second copy, and from how many on that is enough.
-const BLOCK: u64 = 16;
-const ENOUGH: u64 = 8;
+/// Hand-ups of a block, of which it is counted how many had a second copy. By the formulas the window is twice as wide as
+/// networks that are in order lie apart: so at least half of as many frames have their second copies within them, however the
+/// networks change places.
+pub fn block_of(stream: &Stream) -> u64 {
+    u64::from(stream.window).max(16)
+}
 
 const MILLISECOND: Time = 1_000_000;
 
@@ -120,10 +123,11 @@ impl Share {
             Verdict::Duplicate if self.skip == 0 => self.doubled += 1,
             Verdict::Duplicate | Verdict::Rogue => {}
         }
-        if self.handed_up < BLOCK {
+        let block = block_of(stream);
+        if self.handed_up < block {
             return;
         }
-        if self.doubled < ENOUGH {
+        if 2 * self.doubled < block {
             let least = self.poor.map_or(self.doubled, |(n, _)| n.min(self.doubled));
             self.poor = Some((least, time));
         } else {

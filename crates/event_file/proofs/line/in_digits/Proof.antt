@@ -65,10 +65,14 @@ unfolding decimalOf digitsOf
 returns-15 c = let k = c .match .keys15 in rw k
 
 returns-16 : tie.Need-returns-16
-returns-16 c = search needs
+unfolding decimalOf digitsOf
+returns-16 c = let k = c .match .keys16 in rw k
 
 returns-17 : tie.Need-returns-17
 returns-17 c = search needs
+
+returns-18 : tie.Need-returns-18
+returns-18 c = search needs
 
 pub in-digits-spec : {M : Type 1} → statement M
 in-digits-spec =
@@ -90,4 +94,5 @@ in-digits-spec =
     returns-14
     returns-15
     returns-16
-    returns-17)
+    returns-17
+    returns-18)

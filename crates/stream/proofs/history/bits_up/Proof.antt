@@ -1,13 +1,13 @@
 -- `stream::history::bits_up` meets its contract. Assumes nothing.
-use mathlib.Core.Path.{_≡_, sym, ap, _∙_}
+use mathlib.Core.Path.{_∙_}
 use mathlib.Core.List.{[], _∷_}
-use Prim.Native.Nat.{ℕ, _+_, _-_, _*_, _/_, _%_, _^_}
+use Prim.Native.Nat.{_+_, _-_, _*_, _/_, _%_, _^_}
 use lib.ListN.{getD}
 use mir.Syntax.{w64}
 use mir.Val.{Fits}
 use Rattle.stream.specs.History.{value}
 use Rattle.stream.proofs.Eight.{eight-words}
-use Rattle.stream.proofs.Shifts.{bit-up}
+use Rattle.stream.proofs.AnyWords.{any-words, bits-up}
 use borrow.Author.Needs.{needs}
 use Rattle.stream.proofs.history.bits_up.Statement.{statement}
 use Rattle.stream.proofs.history.bits_up.Tie as tie
@@ -85,7 +85,7 @@ returns : tie.Need-returns
 returns c =
     let a = c .before .before .before .before .before .before .before .before .args in
     (λ t. c .before .before .before .before .before .before .before .joined .ensures t ∷ c .before .before .before .before .before .before .joined2 .ensures t ∷ c .before .before .before .before .before .joined3 .ensures t ∷ c .before .before .before .before .joined4 .ensures t ∷ c .before .before .before .joined5 .ensures t ∷ c .before .before .joined6 .ensures t ∷ c .before .joined7 .ensures t ∷ c .joined8 .ensures t ∷ [])
-    ∙ eight-words (value (a .t1) * 2 ^ a .b) (λ i. (getD (a .t1) i 0 * 2 ^ a .b) % 2 ^ 64 + getD (0 ∷ a .t1) i 0 / 2 ^ (64 - a .b)) (bit-up (a .t1) (λ i. let f : Fits w64 (getD (a .t1) i 0) = search needs in f .fits) (a .b) (c .before .before .before .before .before .before .before .before .pre))
+    ∙ eight-words (value (a .t1) * 2 ^ a .b) (λ i. (getD (a .t1) i 0 * 2 ^ a .b) % 2 ^ 64 + getD (0 ∷ a .t1) i 0 / 2 ^ (64 - a .b)) (bits-up (a .t1) (any-words 8 (a .t1) (record { many = search needs; each = λ i. let f : Fits w64 (getD (a .t1) i 0) = search needs in f .fits })) (a .b) (c .before .before .before .before .before .before .before .before .pre))
 
 pub bits-up-spec : {M : Type 1} → statement M
 bits-up-spec =

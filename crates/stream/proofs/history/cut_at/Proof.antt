@@ -1,14 +1,14 @@
 -- `stream::history::cut_at` meets its contract. Assumes nothing.
 use mathlib.Core.Path.{_≡_, sym, ap, _∙_}
 use mathlib.Core.List.{[], _∷_}
-use Prim.Native.Nat.{ℕ, _+_, _-_, _*_, _/_, _%_, _^_}
+use Prim.Native.Nat.{ℕ, _-_, _*_, _%_, _^_}
 use lib.ListN.{getD}
 use mir.Syntax.{w64}
 use mir.Val.{Fits}
 use Rattle.stream.specs.History.{value, wordsOf}
 use Rattle.stream.proofs.Words.{as-held}
 use Rattle.stream.proofs.Eight.{eight-words}
-use Rattle.stream.proofs.Shifts.{word-cut}
+use Rattle.stream.proofs.AnyWords.{any-words}
 use borrow.Author.Needs.{needs}
 use Rattle.stream.proofs.history.cut_at.Statement.{statement}
 use Rattle.stream.proofs.history.cut_at.Tie as tie
@@ -71,7 +71,7 @@ returns-2 : tie.Need-returns-2
 returns-2 c =
     let a = c .before .before .before .before .before .before .before .before .before .args in
     (λ t. c .before .before .before .before .before .before .before .kept .ensures t ∷ c .before .before .before .before .before .before .kept2 .ensures t ∷ c .before .before .before .before .before .kept3 .ensures t ∷ c .before .before .before .before .kept4 .ensures t ∷ c .before .before .before .kept5 .ensures t ∷ c .before .before .kept6 .ensures t ∷ c .before .kept7 .ensures t ∷ c .kept8 .ensures t ∷ [])
-    ∙ eight-words (value (a .t1) % 2 ^ a .w) (λ i. getD (a .t1) i 0 % 2 ^ (a .w - 64 * i)) (word-cut (a .t1) (λ i. let f : Fits w64 (getD (a .t1) i 0) = search needs in f .fits) (a .w))
+    ∙ eight-words (value (a .t1) % 2 ^ a .w) (λ i. getD (a .t1) i 0 % 2 ^ (a .w - 64 * i)) (any-words 8 (a .t1) (record { many = search needs; each = λ i. let f : Fits w64 (getD (a .t1) i 0) = search needs in f .fits }) .cut (a .w))
 
 pub cut-at-spec : {M : Type 1} → statement M
 cut-at-spec =

@@ -1,12 +1,12 @@
 -- `stream::history::gone` meets its contract. Assumes nothing.
-use mathlib.Core.Path.{_≡_, ap, _∙_}
+use mathlib.Core.Path.{ap, _∙_}
 use native.Mathlib.Omega.{arith}
 use lib.Count.{ones}
 use lib.ListN.{getD}
 use mir.Syntax.{w64}
 use mir.Val.{Fits}
 use Rattle.stream.proofs.Moves.{top-field}
-use Rattle.stream.proofs.Shifts.{first-part}
+use Rattle.stream.proofs.AnyWords.{any-words, count-first}
 use borrow.Author.Needs.{needs}
 use Rattle.stream.proofs.history.gone.Statement.{statement}
 use Rattle.stream.proofs.history.gone.Tie as tie
@@ -32,7 +32,8 @@ shr-result c = search needs
 returns : tie.Need-returns
 returns c =
     let a = c .before .args in
-    ap ones (top-field (getD (a .t1) 0 0) (a .w) (a .d) (omega arith) (omega arith) ∙ first-part (a .t1) (λ i. let f : Fits w64 (getD (a .t1) i 0) = search needs in f .fits) (a .w) (a .d) (omega arith) (omega arith))
+    ap ones (top-field (getD (a .t1) 0 0) (a .w) (a .d) (omega arith) (omega arith))
+    ∙ count-first (a .t1) (any-words 8 (a .t1) (record { many = search needs; each = λ i. let f : Fits w64 (getD (a .t1) i 0) = search needs in f .fits })) (a .w) (a .d) (omega arith) (omega arith)
 
 gone-words-requires : tie.Need-gone-words-requires
 gone-words-requires c κs = search needs

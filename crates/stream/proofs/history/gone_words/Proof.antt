@@ -1,14 +1,16 @@
 -- `stream::history::gone_words` meets its contract. Assumes nothing.
 use mir.Syntax.{w64}
 use mir.Val.{Fits}
-use mathlib.Core.Path.{_≡_, refl, _∙_, sym, ap, ap₂}
-use Prim.Native.Nat.{ℕ, _≤_, _<_, _+_, _-_, _*_, _/_, _%_, _^_}
+use mathlib.Core.Path.{_≡_, _∙_, ap, ap₂}
+use Prim.Native.Nat.{ℕ, _≤_, _<_, _+_, _-_, _/_, _%_, _^_}
 use native.Mathlib.Omega.{arith}
-use lib.ListN.{length, getD}
+use lib.ListN.{getD}
 use lib.Count.{ones}
-use Rattle.stream.specs.History.{value, wordsOf}
+use Rattle.stream.specs.History.{value}
+use Rattle.stream.specs.AnyWords.{OverWords}
 use Rattle.stream.proofs.Words.{Small}
-use Rattle.stream.proofs.Shifts.{ones-none, ones-span-le, ones-word-le, count-word, count-last}
+use Rattle.stream.proofs.Shifts.{ones-none, ones-span-le, ones-word-le}
+use Rattle.stream.proofs.AnyWords.{any-words, count-word, count-last}
 use borrow.Author.Needs.{needs}
 use Rattle.stream.proofs.history.gone_words.Statement.{statement}
 use Rattle.stream.proofs.history.gone_words.Tie as tie
@@ -21,6 +23,9 @@ abbrev μ-loop : tie.MeasureT-loop
 
 small : (c : tie.Start Inv-loop μ-loop) → Small (c .args .t1)
 small c i = let f : Fits w64 (getD (c .args .t1) i 0) = search needs in f .fits
+
+law : (c : tie.Start Inv-loop μ-loop) → OverWords 8 (c .args .t1)
+law c = any-words 8 (c .args .t1) (record { many = search needs; each = small c })
 
 sub-top : tie.Need-sub-top Inv-loop μ-loop
 sub-top c = search needs
@@ -76,7 +81,7 @@ loop-again c =
       (
         search needs,
         ap₂ (λ (n m : ℕ). n + m) (l .inv .1 .1) (c .count .ensures)
-            ∙ count-word (a .t1) (small (c .before .before .before)) (l .at) (a .w - a .d) (l .inv .0),
+            ∙ count-word (a .t1) (law (c .before .before .before)) (small (c .before .before .before)) (l .at) (a .w - a .d) (l .inv .0),
       ),
     )
 
@@ -123,7 +128,7 @@ returns c =
     let a = c .before .before .before .before .args in
     let l = c .before .before .before .loop in
     ap₂ (λ (n m : ℕ). n + m) (l .inv .1 .1) (c .count2 .ensures ∙ ap (λ (x : ℕ). ones (x / 2 ^ (l .at % 64))) (c .before .cut .ensures))
-    ∙ count-last (a .t1) (small (c .before .before .before .before)) (l .at) (a .w) (a .d) (omega arith) (l .inv .0) (l .inv .1 .0) (omega arith)
+    ∙ count-last (a .t1) (law (c .before .before .before .before)) (l .at) (a .w) (a .d) (omega arith) (l .inv .0) (l .inv .1 .0) (omega arith)
 
 pub gone-words-spec : {M : Type 1} → statement M
 gone-words-spec =

@@ -1,12 +1,10 @@
 -- `stream::history::has_above` meets its contract. Assumes nothing.
-use mathlib.Core.Path.{ap}
-use Prim.Native.Nat.{ℕ}
 use lib.ListN.{getD}
 use mir.Syntax.{w64}
 use mir.Val.{Fits}
 use Rattle.stream.specs.History.{bit}
-use Rattle.stream.proofs.Words.{bit-same}
 use Rattle.stream.specs.History.{bitOf}
+use Rattle.stream.proofs.AnyWords.{any-words}
 use borrow.Author.Needs.{needs}
 use Rattle.stream.proofs.history.has_above.Statement.{statement}
 use Rattle.stream.proofs.history.has_above.Tie as tie
@@ -28,7 +26,7 @@ shr-result c = search needs
 
 returns : tie.Need-returns
 unfolding bit bitOf
-returns c = bit-same (c .args .t1) (λ i. let f : Fits w64 (getD (c .args .t1) i 0) = search needs in f .fits) (c .args .k)
+returns c = let a = c .args in any-words 8 (a .t1) (record { many = search needs; each = λ i. let f : Fits w64 (getD (a .t1) i 0) = search needs in f .fits }) .test (a .k)
 
 pub has-above-spec : {M : Type 1} → statement M
 has-above-spec =

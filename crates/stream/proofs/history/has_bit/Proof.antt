@@ -7,7 +7,7 @@ use lib.ListN.{getD}
 use mir.Syntax.{w64}
 use mir.Val.{Fits}
 use Rattle.stream.specs.History.{bitOf, bit}
-use Rattle.stream.proofs.Words.{bit-same}
+use Rattle.stream.proofs.AnyWords.{any-words}
 use borrow.Author.Needs.{needs}
 use Rattle.stream.proofs.history.has_bit.Statement.{statement}
 use Rattle.stream.proofs.history.has_bit.Tie as tie
@@ -24,7 +24,7 @@ returns c =
     let a = c .before .args in
     let i : 0 ≡ a .k / 64 = omega arith in
     let r : a .k ≡ a .k % 64 = omega arith in
-    ap₂ (λ (j n : ℕ). eqb (getD (a .t1) j 0 / 2 ^ n % 2) 1) i r ∙ bit-same (a .t1) (λ i. let f : Fits w64 (getD (a .t1) i 0) = search needs in f .fits) (a .k)
+    ap₂ (λ (j n : ℕ). eqb (getD (a .t1) j 0 / 2 ^ n % 2) 1) i r ∙ any-words 8 (a .t1) (record { many = search needs; each = λ i. let f : Fits w64 (getD (a .t1) i 0) = search needs in f .fits }) .test (a .k)
 
 has-above-requires : tie.Need-has-above-requires
 has-above-requires c κs = search needs

@@ -1,11 +1,11 @@
 -- `stream::history::marked_first` meets its contract. Assumes nothing.
-use mathlib.Core.Path.{_≡_, refl, sym, ap, ap₂, _∙_}
+use mathlib.Core.Path.{ap₂, _∙_}
 use Prim.Native.Nat.{ℕ, _<_, _≤_, _-_, _*_, _/_, _%_, _^_}
 use native.Mathlib.Nat.{mod-lt, lt-of-lt-of-le}
 use native.Mathlib.Omega.{arith}
 use lib.Bits.{bitOr, or-lt}
 use lib.Dec.{eqb}
-use lib.ListN.{getD, set}
+use lib.ListN.{getD}
 use lib.Pow.{pow-pos, pow-mono, pow-lt}
 use mir.Syntax.{w64}
 use mir.Val.{Fits}
@@ -16,7 +16,7 @@ use Rattle.stream.proofs.Digits.{one-shl}
 use Rattle.stream.proofs.Words.{Small, set-first}
 use Rattle.stream.proofs.Eight.{eight-set}
 use Rattle.stream.proofs.Moves.{top-shift}
-use Rattle.stream.proofs.Shifts.{first-cut}
+use Rattle.stream.proofs.AnyWords.{any-words, first-alone}
 use borrow.Author.Needs.{needs}
 use Rattle.stream.proofs.history.marked_first.Statement.{statement}
 use Rattle.stream.proofs.history.marked_first.Tie as tie
@@ -76,7 +76,7 @@ returns c =
     let s : Small h = λ i. let f : Fits w64 (getD h i 0) = search needs in f .fits in
     let m : ℕ = value h * 2 ^ a .d % 2 ^ a .w in
     let v : ℕ = bitOr m (2 ^ a .k) in
-    let moved = top-shift (getD h 0 0) (a .w) (a .d) less ∙ first-cut h s (a .w) (2 ^ a .d) less in
+    let moved = top-shift (getD h 0 0) (a .w) (a .d) less ∙ first-alone h (any-words 8 h (record { many = search needs; each = s })) (omega arith) (a .w) (a .d) less (omega arith) in
     let small : m < 2 ^ 64 = lt-of-lt-of-le (mod-lt (value h * 2 ^ a .d) (pow-pos (a .w))) (pow-mono less) in
     let one : 2 ^ a .k < 2 ^ 64 = pow-lt bit in
     eight-set h 0 v (λ i. if eqb i 0 then bitOr ((getD h 0 0 * 2 ^ a .d) % 2 ^ 64 * 2 ^ (64 - a .w) % 2 ^ 64 / 2 ^ (64 - a .w)) ((1 * 2 ^ a .k) % 2 ^ 64) else getD h i 0) (search needs) (omega arith)

@@ -1,6 +1,6 @@
 -- `stream::history::moved` meets its contract. Assumes nothing.
-use mathlib.Core.Path.{_≡_, refl, sym, ap, ap₂, _∙_}
-use mathlib.Core.List.{List, [], _∷_}
+use mathlib.Core.Path.{sym, ap, _∙_}
+use mathlib.Core.List.{List, _∷_}
 use Prim.Native.Nat.{ℕ, _<_, _≤_, _-_, _*_, _%_, _^_}
 use native.Mathlib.Nat.{mod-lt, lt-of-lt-of-le}
 use native.Mathlib.Omega.{arith}
@@ -11,7 +11,7 @@ use mir.Val.{Fits}
 use Rattle.stream.specs.History.{value, wordsOf}
 use Rattle.stream.proofs.Words.{one-word, cut-up}
 use Rattle.stream.proofs.Moves.{top-shift}
-use Rattle.stream.proofs.Shifts.{first-cut}
+use Rattle.stream.proofs.AnyWords.{any-words, first-alone}
 use borrow.Author.Needs.{needs}
 use Rattle.stream.proofs.history.moved.Statement.{statement}
 use Rattle.stream.proofs.history.moved.Tie as tie
@@ -40,7 +40,7 @@ returns c =
     let v : ℕ = (value (a .t1) * 2 ^ a .d) % 2 ^ a .w in
     let less : a .w ≤ 64 = omega arith in
     let small : v < 2 ^ 64 = lt-of-lt-of-le (mod-lt (value (a .t1) * 2 ^ a .d) (pow-pos (a .w))) (pow-mono less) in
-    ap (λ (x : ℕ). x ∷ replicate 7 0) (top-shift (getD (a .t1) 0 0) (a .w) (a .d) less ∙ first-cut (a .t1) (λ i. let f : Fits w64 (getD (a .t1) i 0) = search needs in f .fits) (a .w) (2 ^ a .d) less)
+    ap (λ (x : ℕ). x ∷ replicate 7 0) (top-shift (getD (a .t1) 0 0) (a .w) (a .d) less ∙ first-alone (a .t1) (any-words 8 (a .t1) (record { many = search needs; each = λ i. let f : Fits w64 (getD (a .t1) i 0) = search needs in f .fits })) (omega arith) (a .w) (a .d) less (omega arith))
     ∙ sym (one-word 7 v small)
 
 bits-up-requires : tie.Need-bits-up-requires

@@ -2,22 +2,24 @@
 use borrow.Author.Needs.{needs}
 use mir.Syntax.{w64}
 use mir.Val.{Fits}
-use mathlib.Core.Path.{_≡_, refl, _∙_, sym, ap}
-use Prim.Native.Nat.{ℕ, _≤_, _<_, _+_, _-_, _*_, _/_, _%_, _^_}
+use mathlib.Core.Path.{_≡_, _∙_, sym, ap}
+use Prim.Native.Nat.{ℕ, _≤_, _<_, _+_, _-_, _*_, _/_, _^_}
 use native.Mathlib.Omega.{arith}
 use lib.ListN.{length, getD, set, length-set, replicate}
-use lib.Seq.{ext-getD, getD-set-same, getD-set-other}
+use lib.Seq.{getD-set-same, getD-set-other}
 use borrow.Author.Count.{below-more}
-use Rattle.stream.specs.History.{value, wordsOf}
-use Rattle.stream.proofs.Words.{Small, wordAt}
-use Rattle.stream.proofs.Shifts.{first-up, next-up, up-below, zeros-at, cut-words}
+use Rattle.stream.specs.History.{value}
+use Rattle.stream.specs.AnyWords.{movedWord}
+use Rattle.stream.proofs.Words.{Small, words-at}
+use Rattle.stream.proofs.Shifts.{zeros-at, cut-words}
+use Rattle.stream.proofs.AnyWords.{any-words, moved-below, moved-first, moved-next}
 use Rattle.stream.proofs.history.places_up.Statement.{statement}
 use Rattle.stream.proofs.history.places_up.Tie as tie
 
 abbrev Inv-loop : tie.InvT-loop
 Inv-loop w d h q b top out₀ i₀ out i =
     (d / 64 < i) × ((i ≤ (w - 1) / 64 + 1) × ((length out ≡ 8)
-    × (((k : ℕ) → k < i → getD out k 0 ≡ wordAt (value h * 2 ^ d) k) × ((k : ℕ) → i ≤ k → getD out k 0 ≡ 0))))
+    × (((k : ℕ) → k < i → getD out k 0 ≡ movedWord h d k) × ((k : ℕ) → i ≤ k → getD out k 0 ≡ 0))))
 
 abbrev μ-loop : tie.MeasureT-loop
 μ-loop w d h q b top out₀ i₀ out i = 8 - i
@@ -63,8 +65,8 @@ loop-holds c =
           length-set (replicate 8 0) (a .d / 64) _,
           (
             below-more _ _
-                (λ k p. getD-set-other (replicate 8 0) (a .d / 64) k _ 0 (λ e. omega arith) ∙ zeros-at 8 k ∙ sym (up-below (value (a .t1)) (a .d) k p))
-                (getD-set-same (replicate 8 0) (a .d / 64) _ 0 (omega arith) ∙ first-up (a .t1) (small c) (a .d)),
+                (λ k p. getD-set-other (replicate 8 0) (a .d / 64) k _ 0 (λ e. omega arith) ∙ zeros-at 8 k ∙ sym (moved-below (a .t1) (a .d) k p))
+                (getD-set-same (replicate 8 0) (a .d / 64) _ 0 (omega arith) ∙ sym (moved-first (a .t1) (a .d))),
             λ k p. getD-set-other (replicate 8 0) (a .d / 64) k _ 0 (λ e. omega arith) ∙ zeros-at 8 k,
           ),
         ),
@@ -120,7 +122,7 @@ loop-again c =
           (
             below-more _ _
                 (λ k p. getD-set-other (l .out) (l .i) k _ 0 (λ e. omega arith) ∙ l .inv .1 .1 .1 .0 k p)
-                (getD-set-same (l .out) (l .i) _ 0 here ∙ c .joined .ensures ∙ next-up (a .t1) (small (c .before .before .before)) (a .d) (l .i) (l .inv .0)),
+                (getD-set-same (l .out) (l .i) _ 0 here ∙ c .joined .ensures ∙ sym (moved-next (a .t1) (a .d) (l .i) (l .inv .0))),
             λ k p. getD-set-other (l .out) (l .i) k _ 0 (λ e. omega arith) ∙ l .inv .1 .1 .1 .1 k (omega arith),
           ),
         ),
@@ -153,9 +155,10 @@ returns c =
     let a = c .before .before .before .args in
     let l = c .before .before .loop in
     let end : l .i ≡ (a .w - 1) / 64 + 1 = omega arith in
+    let o = any-words 8 (a .t1) (record { many = search needs; each = small (c .before .before .before) }) in
     ap (set (l .out) ((a .w - 1) / 64)) (c .cut .ensures)
     ∙ cut-words (l .out) (value (a .t1) * 2 ^ a .d) (a .w) 8 (l .inv .1 .1 .0) (omega arith) (omega arith)
-    (λ k p. l .inv .1 .1 .1 .0 k (omega arith)) (λ k p. l .inv .1 .1 .1 .1 k (omega arith))
+    (λ k p. l .inv .1 .1 .1 .0 k (omega arith) ∙ sym (o .shift (a .d) k (omega arith)) ∙ words-at 8 (value (a .t1) * 2 ^ a .d) k (omega arith)) (λ k p. l .inv .1 .1 .1 .1 k (omega arith))
 
 pub places-up-spec : {M : Type 1} → statement M
 places-up-spec =

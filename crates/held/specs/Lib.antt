@@ -1,0 +1,5 @@
+pub mod Cases
+pub mod Edges
+pub mod Written
+pub mod ByOne
+pub mod Code

@@ -1,0 +1,44 @@
+-- What the lines of the exports leave open: nothing. Assumes nothing.
+use Prim.Native.Nat.{ℕ}
+use mathlib.Core.Path.{_≡_, sym, ap, _∙_}
+use mathlib.Core.List.{List}
+use Rattle.refusal.specs.Checks.{Said}
+use Rattle.frame.specs.TagCalls.{Outcome}
+use Rattle.calls.specs.Table.{Table}
+use Rattle.calls.specs.Calls.{Call, Answer, Result, Meets}
+use Rattle.calls.proofs.Kept.{coincide}
+use Rattle.batch.specs.Batch.{Bundle}
+use Rattle.sender.specs.Sender.{Numbered, Sends}
+use Rattle.port.specs.Sending.{senderAt}
+use Rattle.shipped.specs.Exports.{PlainFields}
+
+-- told alike, where what was said is the same
+same-told : {S A : Type 0} (tell : S → A) {P Q : S → Type 0} (a b : A) (p : PlainFields tell a P) (q : PlainFields tell b Q) → p .said ≡ q .said → a ≡ b
+same-told tell a b p q e = p .fields ∙ ap tell e ∙ sym (q .fields)
+
+pub on-table : {A : Type 0} {tell : Said Answer → A} {t : Table} {c : Call} {a b : A} {u v : Table} {x y : List ℕ}
+    → PlainFields tell a (λ s. Meets t c (record { said = s; table = u; output = x })) → PlainFields tell b (λ s. Meets t c (record { said = s; table = v; output = y }))
+    → (a ≡ b) × (u ≡ v) × (x ≡ y)
+on-table {t = t} {c = c} p q =
+    let e = coincide t c _ _ (p .given) (q .given) in
+    (same-told _ _ _ p q (ap (λ (r : Result). r .said) e), ap (λ (r : Result). r .table) e, ap (λ (r : Result). r .output) e)
+
+pub no-table : {S A : Type 0} {tell : Said S → A} {o : Outcome S} {a b : A} {x y : List ℕ}
+    → PlainFields tell a (λ s. record { said = s; bytes = x } ≡ o) → PlainFields tell b (λ s. record { said = s; bytes = y } ≡ o) → (a ≡ b) × (x ≡ y)
+no-table {S} p q =
+    let e = p .given ∙ sym (q .given) in
+    (same-told _ _ _ p q (ap (λ (r : Outcome S). r .said) e), ap (λ (r : Outcome S). r .bytes) e)
+
+pub batches : {A : Type 0} {tell : Bundle → A} {o : Bundle} {a b : A} {u v : Table} {x y : List ℕ}
+    → PlainFields tell a (λ s. (s ≡ o) × (u ≡ s .table) × (x ≡ s .output)) → PlainFields tell b (λ s. (s ≡ o) × (v ≡ s .table) × (y ≡ s .output))
+    → (a ≡ b) × (u ≡ v) × (x ≡ y)
+batches p q =
+    let e = p .given .0 ∙ sym (q .given .0) in
+    (same-told _ _ _ p q e, p .given .1 ∙ ap (λ (r : Bundle). r .table) e ∙ sym (q .given .1), p .given .2 ∙ ap (λ (r : Bundle). r .output) e ∙ sym (q .given .2))
+
+pub sends : {A : Type 0} {tell : Said Numbered → A} {o : Sends} {a b : A} {m n : ℕ} {x0 x1 y0 y1 : List ℕ}
+    → PlainFields tell a (λ s. record { said = s; sender = senderAt m; out0 = x0; out1 = x1 } ≡ o) → PlainFields tell b (λ s. record { said = s; sender = senderAt n; out0 = y0; out1 = y1 } ≡ o)
+    → (a ≡ b) × (m ≡ n) × (x0 ≡ y0) × (x1 ≡ y1)
+sends p q =
+    let e = p .given ∙ sym (q .given) in
+    (same-told _ _ _ p q (ap (λ (r : Sends). r .said) e), ap (λ (r : Sends). r .sender .next) e, ap (λ (r : Sends). r .out0) e, ap (λ (r : Sends). r .out1) e)

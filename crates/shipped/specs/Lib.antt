@@ -1,0 +1,3 @@
+pub mod Exports
+pub mod Turns
+pub mod Theorems
