@@ -13,6 +13,7 @@
 #include <stdlib.h>
 #include <string.h>
 #include <sys/socket.h>
+#include <sys/stat.h>
 #include <unistd.h>
 
 static int closed_output;
@@ -32,11 +33,27 @@ int output_is_closed(void)
     return closed_output;
 }
 
-// A line goes out whole, in one write, or not at all. A pipe that has room takes so much without a wait.
+int without_waiting(int descriptor)
+{
+    struct stat what;
+    if (fstat(descriptor, &what) != 0 || !(S_ISFIFO(what.st_mode) || S_ISCHR(what.st_mode))) return -1;
+    char name[32];
+    snprintf(name, sizeof name, "/proc/self/fd/%d", descriptor);
+    return open(name, O_WRONLY | O_NONBLOCK | O_CLOEXEC | O_NOCTTY);
+}
+
+// A line goes out in one write, or is not said. A terminal that has some room may not have enough: only a description that does
+// not block makes sure of it. Where there is none, a pipe that has room takes a line without a wait.
 static int put_line(const char *line, size_t length)
 {
-    struct pollfd where = {.fd = STDERR_FILENO, .events = POLLOUT};
-    return poll(&where, 1, 0) == 1 && where.revents & POLLOUT && write(STDERR_FILENO, line, length) == (ssize_t)length;
+    static int where = -1;
+    if (where < 0) where = without_waiting(STDERR_FILENO);
+    if (where >= 0) return write(where, line, length) == (ssize_t)length;
+    struct pollfd room = {.fd = STDERR_FILENO, .events = POLLOUT};
+    if (poll(&room, 1, 0) != 1 || !(room.revents & POLLOUT)) return 0;
+    ssize_t got = send(STDERR_FILENO, line, length, MSG_DONTWAIT | MSG_NOSIGNAL);
+    if (got < 0 && errno == ENOTSOCK) got = write(STDERR_FILENO, line, length);
+    return got == (ssize_t)length;
 }
 
 // The line `before`, which may be empty, and this text.
@@ -96,11 +113,10 @@ _Noreturn void fail(const char *what)
     exit(1);
 }
 
-_Noreturn void fail_packet_socket(void)
+_Noreturn void fail_packet_socket(const char *remedy)
 {
     if (errno != EPERM) fail("packet socket");
-    say("failed: packet socket: %s; it needs the right CAP_NET_RAW: run it as root, give it the right by "
-        "'setcap cap_net_raw,cap_net_admin+ep PROGRAM', or use the unit nippitsun-receive.service", strerror(errno));
+    say("failed: packet socket: %s; it needs the right CAP_NET_RAW: run it as root, %s", strerror(errno), remedy);
     exit(1);
 }
 
@@ -157,6 +173,14 @@ static uint8_t read_rule(const char *text)
     return (uint8_t)n;
 }
 
+// A field of a record, which may hold more than the library takes: what does not fit into it is refused here, with the sizes that it has.
+static uint16_t read_field(const char *what, const char *text, uint64_t least, uint64_t most)
+{
+    uint64_t n;
+    if (!find_number(text, 0, UINT16_MAX, &n)) refuse("%s '%s' is no number from %" PRIu64 " to %" PRIu64, what, text, least, most);
+    return (uint16_t)n;
+}
+
 struct settings read_settings(const char *text)
 {
     enum { DEST, VLAN, RULE, WINDOW, TIME, PARTS };
@@ -170,10 +194,10 @@ struct settings read_settings(const char *text)
     }
     if (found != PARTS) refuse("'%s' is not DEST,VLAN,RULE,L,R", text);
     read_address(parts[DEST], s.dest);
-    s.vlan = (uint16_t)read_number("VLAN id", parts[VLAN], 0, UINT16_MAX);
+    s.vlan = read_field("VLAN id", parts[VLAN], 0, NIPPITSUN_VLAN_MOST);
     s.rule = read_rule(parts[RULE]);
-    s.window = (uint16_t)read_number("window L", parts[WINDOW], 0, UINT16_MAX);
-    s.time = (uint16_t)read_number("reset time R", parts[TIME], 0, UINT16_MAX);
+    s.window = read_field("window L", parts[WINDOW], NIPPITSUN_WINDOW_LEAST, NIPPITSUN_WINDOW_MOST);
+    s.time = read_field("reset time R", parts[TIME], NIPPITSUN_TIME_LEAST, NIPPITSUN_TIME_MOST);
     free(copy);
     return s;
 }
@@ -218,7 +242,7 @@ const char *refusal_words(unsigned number)
 int open_sender(const char *interface)
 {
     int s = socket(AF_PACKET, SOCK_RAW, 0);
-    if (s < 0) fail_packet_socket();
+    if (s < 0) fail_packet_socket("or give it the right by 'setcap cap_net_raw+ep PROGRAM'");
     // Type 0: the kernel gives it no frame.
     struct sockaddr_ll where = {.sll_family = AF_PACKET, .sll_ifindex = (int)if_nametoindex(interface)};
     if (where.sll_ifindex == 0) refuse("there is no interface '%s'", interface);

@@ -44,8 +44,12 @@ extern void (*before_failing)(void);
 // Ends the program with status 1: the machine did not do what it was asked to.
 _Noreturn void fail(const char *what);
 
-// The same where no packet socket is to be had: names the right that is missing.
-_Noreturn void fail_packet_socket(void);
+// The same where no packet socket is to be had: names the right that is missing, and how to get it.
+_Noreturn void fail_packet_socket(const char *remedy);
+
+// A pipe or terminal opened once more so that no write to it waits; a description of our own, so others who share it go on waiting
+// there. Below 0: it is something else, or that is not allowed.
+int without_waiting(int descriptor);
 
 // A decimal number from least to most, or refuse.
 uint64_t read_number(const char *what, const char *text, uint64_t least, uint64_t most);

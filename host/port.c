@@ -30,7 +30,7 @@ void stamps_on(void)
     // The kernel stamps as long as any socket asks for it, and begins a moment later. This one is bound to nothing and stays
     // open, so that a port that is opened while the program runs need not wait.
     int s = packet_socket();
-    if (s < 0) fail_packet_socket();
+    if (s < 0) fail_packet_socket("give it the right by 'setcap cap_net_raw,cap_net_admin+ep PROGRAM', or use the unit nippitsun-receive.service");
     if (ask_for_stamps(s) != 0) fail("SO_TIMESTAMPING");
     nanosleep(&(struct timespec){0, 20 * MILLISECOND}, NULL);
 }
@@ -42,7 +42,7 @@ static int make_socket(struct port *p, unsigned slots)
     if (s < 0 || slots == 0) return s;
     const char *step = ring_open(&p->ring, s, slots);
     if (step == NULL) return s;
-    if (!p->ringless) say("warning: %s: no ring: %s: %s; frames are read one by one", p->interface, step, strerror(errno));
+    if (!p->ringless) say("warning: %s: no ring: %s: %s; frames are read by system calls", p->interface, step, strerror(errno));
     p->ringless = 1;
     // Some steps may be done, and are not undone.
     close(s);

@@ -157,8 +157,8 @@ static void look_after(int network, int each_second)
     int gone = look && port_close_dead(p);
     if (gone) say_now("gone: network %d (%s): the interface is not there; trying each second", network, p->interface);
     if ((!gone && !each_second) || p->socket >= 0) return;
-    // The other network's interface may have this name by now.
-    if (port_has(other, p->interface) || port_open(p, &settings) != NULL || port_close_twin(p, other)) return;
+    // The other network's interface may have this name by now. One that is not there is not tried: a ring takes its time.
+    if (if_nametoindex(p->interface) == 0 || port_has(other, p->interface) || port_open(p, &settings) != NULL || port_close_twin(p, other)) return;
     p->reopened++;
     say_now("again: network %d (%s): the interface is there and open", network, p->interface);
 }

@@ -178,9 +178,10 @@ void report_lock(const struct report *r)
 {
     char name[PATH_MAX];
     if (r->file == NULL || !name_beside(name, r, ".lock")) return;
-    // Held for as long as the program runs. Where it can't be made the file itself can't either, which is said later.
+    // Held for as long as the program runs.
     int lock = open(name, O_RDWR | O_CREAT | O_CLOEXEC, 0644);
-    if (lock >= 0 && flock(lock, LOCK_EX | LOCK_NB) != 0 && errno == EWOULDBLOCK) refuse("--stats %s: another receiver writes it", r->file);
+    if (lock < 0) say("warning: %s: %s", name, strerror(errno));
+    else if (flock(lock, LOCK_EX | LOCK_NB) != 0 && errno == EWOULDBLOCK) refuse("--stats %s: another receiver writes it", r->file);
 }
 
 static int write_file(const struct report *r)

@@ -6,7 +6,7 @@
 #include "frame.h"
 
 // Slots at most.
-enum { RING_MOST = 65536 };
+enum { RING_MOST = 65520 };
 
 struct ring {
     uint8_t *at; // NULL: there is none

@@ -24,10 +24,9 @@ static void put_flags_back(void)
     fcntl(STDOUT_FILENO, F_SETFL, flags_before);
 }
 
-static int without_waiting(void)
+static int open_output(void)
 {
-    // A description of our own: others who write to the same pipe or terminal go on waiting there.
-    int own = open("/proc/self/fd/1", O_WRONLY | O_NONBLOCK | O_CLOEXEC | O_NOCTTY);
+    int own = without_waiting(STDOUT_FILENO);
     if (own >= 0) return own;
     flags_before = fcntl(STDOUT_FILENO, F_GETFL);
     if (flags_before < 0 || fcntl(STDOUT_FILENO, F_SETFL, flags_before | O_NONBLOCK) != 0) fail("standard output");
@@ -55,7 +54,7 @@ void up_open(struct up *u, enum give give, size_t size)
     struct stat what;
     if (fstat(STDOUT_FILENO, &what) != 0) fail("standard output");
     u->by_send = S_ISSOCK(what.st_mode);
-    if (S_ISFIFO(what.st_mode) || S_ISCHR(what.st_mode)) u->descriptor = without_waiting();
+    if (S_ISFIFO(what.st_mode) || S_ISCHR(what.st_mode)) u->descriptor = open_output();
 }
 
 // ---- what waits
@@ -116,7 +115,8 @@ void up_write(struct up *u)
         const uint8_t *at = u->bytes + u->from;
         size_t part = u->size - u->from < u->used ? u->size - u->from : u->used;
         ssize_t got = u->by_send ? send(u->descriptor, at, part, MSG_DONTWAIT | MSG_NOSIGNAL) : write(u->descriptor, at, part);
-        if (got >= 0) given(u, (size_t)got);
+        if (got > 0) given(u, (size_t)got);
+        else if (got == 0) u->error = EIO;
         else if (errno == EAGAIN || errno == EWOULDBLOCK) return;
         else if (errno != EINTR) u->error = errno;
     }

@@ -1,5 +1,5 @@
 // What is handed up, on its way to standard output. It waits in a room of its own, so that a reader who stands still for a while
-// does not hold up the receiver; no write here waits.
+// does not hold up the receiver; no write to a pipe, terminal or socket waits.
 #ifndef UP_H
 #define UP_H
 

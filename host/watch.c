@@ -99,16 +99,21 @@ void watch_arrival(struct watches *w, nippitsun_arrival_answer a, int network, i
 
 // ---- time passes
 
-static void watch_networks(struct watches *w, size_t slot, int64_t time)
+static const char *state_of(const struct port *p)
 {
     static const char *const states[] = {[NOT_THERE] = "not there", [DOWN] = "down", [NO_CARRIER] = "no carrier", [UP] = "up"};
+    return states[port_state(p)];
+}
+
+static void watch_networks(struct watches *w, size_t slot, int64_t time)
+{
     struct watch *s = &w->of[slot];
     for (int b = 0; b < NETWORKS; b++) {
         if (s->silent[b] || s->since[b] == 0 || time - s->since[b] < w->alarm / 2) continue;
         s->silent[b] = 1;
         s->silences[b]++;
         say_slot(w, slot, "alarm", "no arrival on network %d (%s, %s) for %" PRId64 " ms, while network %d (%s) has arrivals", b, w->ports[b].interface,
-                 states[port_state(&w->ports[b])], w->alarm / MILLISECOND, 1 - b, w->ports[1 - b].interface);
+                 state_of(&w->ports[b]), w->alarm / MILLISECOND, 1 - b, w->ports[1 - b].interface);
     }
 }
 
@@ -119,10 +124,12 @@ static void watch_stream(struct watches *w, size_t slot, int64_t time)
     if (s->idle || s->awaited || time - last < w->alarm) return;
     if (s->came) {
         s->idle = 1;
-        say_slot(w, slot, "alarm", "no arrival on either network for %" PRId64 " ms", w->alarm / MILLISECOND);
+        say_slot(w, slot, "alarm", "no arrival on network 0 (%s, %s) or network 1 (%s, %s) for %" PRId64 " ms", w->ports[0].interface,
+                 state_of(&w->ports[0]), w->ports[1].interface, state_of(&w->ports[1]), w->alarm / MILLISECOND);
     } else {
         s->awaited = 1;
-        say_slot(w, slot, "alarm", "nothing has come yet");
+        say_slot(w, slot, "alarm", "nothing has come yet on network 0 (%s, %s) or network 1 (%s, %s)", w->ports[0].interface,
+                 state_of(&w->ports[0]), w->ports[1].interface, state_of(&w->ports[1]));
     }
 }
 

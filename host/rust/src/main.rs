@@ -462,8 +462,7 @@ fn keys(receiver: &Receiver) -> Vec<Key> {
     used.map(|stream| (stream.dest, stream.vlan)).collect()
 }
 
-/// The lock beside the file of counters, held for as long as it is open. Where it can't be made, the file itself can't either,
-/// which is said later.
+/// The lock beside the file of counters, held for as long as it is open.
 fn lock_stats(options: &Options) -> Result<Option<File>, Trouble> {
     let file = match &options.stats {
         Some(file) => file,
@@ -476,7 +475,12 @@ fn lock_stats(options: &Options) -> Result<Option<File>, Trouble> {
             let what = format!("--stats {}: another receiver writes it", file.display());
             Err(Trouble::Refused(what))
         }
-        lock => Ok(lock.ok()),
+        Ok(lock) => Ok(Some(lock)),
+        Err(e) => {
+            let name = report::beside(file, ".lock");
+            say(&format!("warning: {}: {}", name.display(), words(&e)));
+            Ok(None)
+        }
     }
 }
 

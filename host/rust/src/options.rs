@@ -354,15 +354,20 @@ fn read_settings(text: &str) -> Result<Settings, String> {
     let [dest, vlan, rule, window, time] = <[&str; 5]>::try_from(parts).map_err(|_| form())?;
     Ok(Settings {
         destination: read_address(dest)?,
-        vlan: read_number("VLAN id", vlan, 0, u16::MAX)?,
+        vlan: read_field("VLAN id", vlan, 0, Stream::VLAN_MOST)?,
         rule: match rule {
             "vector" => Stream::VECTOR_RULE,
             "match" => Stream::MATCH_RULE,
             _ => read_number("rule", rule, 0, u8::MAX)
                 .map_err(|_| format!("rule '{rule}' is neither vector nor match"))?,
         },
-        window: read_number("window L", window, 0, u16::MAX)?,
-        time: read_number("reset time R", time, 0, u16::MAX)?,
+        window: read_field(
+            "window L",
+            window,
+            Stream::WINDOW_LEAST,
+            Stream::WINDOW_MOST,
+        )?,
+        time: read_field("reset time R", time, Stream::TIME_LEAST, Stream::TIME_MOST)?,
     })
 }
 
@@ -404,6 +409,12 @@ fn read_give(text: &str) -> Result<Give, String> {
         "nothing" => Ok(Give::Nothing),
         _ => Err("--give is lines, raw or nothing".to_string()),
     }
+}
+
+/// A field of a record, which may hold more than the library takes: what does not fit into it is refused here, with the sizes that it has.
+fn read_field(what: &str, text: &str, least: u16, most: u16) -> Result<u16, String> {
+    let fits = read_number(what, text, 0, u16::MAX);
+    fits.map_err(|_| format!("{what} '{text}' is no number from {least} to {most}"))
 }
 
 fn read_number<N>(what: &str, text: &str, least: N, most: N) -> Result<N, String>

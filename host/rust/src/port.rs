@@ -41,7 +41,7 @@ impl Setup {
                     return Ok(Source { socket, ring });
                 }
                 Err((step, e)) => warn(format!(
-                    ": no ring: {step}: {}; frames are read one by one",
+                    ": no ring: {step}: {}; frames are read by system calls",
                     words(&e)
                 )),
             }

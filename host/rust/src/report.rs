@@ -392,6 +392,11 @@ pub struct About<'a> {
 pub fn news_line(news: News, stream: &Stream, about: &About) -> String {
     let ms = about.alarm_ms;
     let interface = |network: usize| &about.interfaces[network];
+    let either = [0, 1].map(|network: usize| {
+        let (own, state) = (interface(network), state_words(about.states[network]));
+        format!("network {network} ({own}, {state})")
+    });
+    let either = either.join(" or ");
     let (word, what) = match news.what {
         What::Silent { network } => {
             let (own, state) = (interface(network), state_words(about.states[network]));
@@ -413,9 +418,9 @@ pub fn news_line(news: News, stream: &Stream, about: &About) -> String {
             format!("arrivals, but nothing handed up for {ms} ms"),
         ),
         What::HandedUpAgain => ("back", "frames are handed up again".to_string()),
-        What::NoArrival => ("alarm", format!("no arrival on either network for {ms} ms")),
+        What::NoArrival => ("alarm", format!("no arrival on {either} for {ms} ms")),
         What::Arrivals => ("back", "arrivals again".to_string()),
-        What::NothingYet => ("alarm", "nothing has come yet".to_string()),
+        What::NothingYet => ("alarm", format!("nothing has come yet on {either}")),
         What::First => ("back", "the first frame has come".to_string()),
         What::Single { doubled } => (
             "alarm",
@@ -619,9 +624,9 @@ ticks 50 late_turns 6 clock_steps 1";
             (What::Heard { network: 1 }, "back: S: arrivals on network 1 (eth2) again"),
             (What::NothingHandedUp, "alarm: S: arrivals, but nothing handed up for 1000 ms"),
             (What::HandedUpAgain, "back: S: frames are handed up again"),
-            (What::NoArrival, "alarm: S: no arrival on either network for 1000 ms"),
+            (What::NoArrival, "alarm: S: no arrival on network 0 (eth1, up) or network 1 (eth2, no carrier) for 1000 ms"),
             (What::Arrivals, "back: S: arrivals again"),
-            (What::NothingYet, "alarm: S: nothing has come yet"),
+            (What::NothingYet, "alarm: S: nothing has come yet on network 0 (eth1, up) or network 1 (eth2, no carrier)"),
             (What::First, "back: S: the first frame has come"),
             (What::Single { doubled: 3 }, "alarm: S: of 16 handed up in a row 3 had a second copy"),
             (What::Double, "back: S: second copies come again"),

@@ -17,7 +17,7 @@ pub const SLOT: usize = 2304;
 /// Bytes that the kernel takes in one piece, and the slots in them.
 pub const BLOCK: usize = 1 << 17;
 pub const SLOTS_OF_BLOCK: usize = BLOCK / SLOT;
-pub const SLOTS_MOST: usize = 65536;
+pub const SLOTS_MOST: usize = 65520;
 
 /// What the kernel leaves free before a frame: enough for a VLAN tag.
 pub const RESERVE: c_int = 16;

@@ -1,7 +1,6 @@
 //! Lines on standard error, each in one write, and none that would wait: commands matter more than words about them.
 
 use crate::socket;
-use std::io::{self, Write};
 use std::sync::atomic::{AtomicU64, Ordering};
 
 /// A pipe takes so many bytes as one piece, or says beforehand that it does not.
@@ -14,7 +13,7 @@ static UNSAID: AtomicU64 = AtomicU64::new(0);
 pub fn say(lines: &str) {
     for line in lines.lines() {
         let unsaid = UNSAID.load(Ordering::Relaxed);
-        let unsaid = say_to(line, unsaid, write);
+        let unsaid = say_to(line, unsaid, socket::put_error_line);
         UNSAID.store(unsaid, Ordering::Relaxed);
     }
 }
@@ -22,10 +21,6 @@ pub fn say(lines: &str) {
 /// A line with the time before it.
 pub fn say_now(line: &str) {
     say(&format!("{} {line}", socket::local_time()));
-}
-
-fn write(line: &[u8]) -> bool {
-    socket::error_is_ready() && io::stderr().write(line).is_ok()
 }
 
 /// Says a line, and before it how many were not said. Answers how many those are now.

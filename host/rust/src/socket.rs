@@ -9,7 +9,7 @@ use crate::order::{Time, BATCH, NETWORKS};
 use crate::ring::{self, Mapping, Ring};
 use crate::ring::{FRAME_MOST, TP_STATUS_VLAN_TPID_VALID, TP_STATUS_VLAN_VALID};
 use std::ffi::CString;
-use std::fs::{File, OpenOptions};
+use std::fs::{self, File, OpenOptions};
 use std::io::{self, Read, Write};
 use std::mem::size_of;
 use std::os::raw::{c_char, c_int, c_long, c_short, c_uint, c_ulong, c_void};
@@ -17,6 +17,7 @@ use std::os::unix::fs::{FileTypeExt, OpenOptionsExt};
 use std::os::unix::io::{AsFd, AsRawFd, FromRawFd, OwnedFd};
 use std::ptr;
 use std::sync::atomic::{AtomicBool, Ordering};
+use std::sync::Mutex;
 use std::time::{SystemTime, UNIX_EPOCH};
 
 #[cfg(not(all(
@@ -60,6 +61,7 @@ const POLLIN: c_short = 1;
 const POLLOUT: c_short = 4;
 const POLLERR: c_short = 8;
 const EPERM: c_int = 1;
+const ENOTSOCK: c_int = 88;
 const ENETDOWN: c_int = 100;
 const O_NOCTTY: c_int = 0o400;
 const O_NONBLOCK: c_int = 0o4000;
@@ -698,8 +700,56 @@ fn poll(files: &mut [Poll], limit: Time) -> io::Result<()> {
     Ok(())
 }
 
-/// Does standard error take a line now, without a wait?
-pub fn error_is_ready() -> bool {
+/// A pipe or terminal opened once more, so that no write to it waits: it then has flags of its own, and does not change for others
+/// who use it too. None: it is something else, or that is not allowed.
+fn without_waiting(number: c_int) -> Option<File> {
+    let name = format!("/proc/self/fd/{number}");
+    let kind = fs::metadata(&name).ok()?.file_type();
+    if !kind.is_fifo() && !kind.is_char_device() {
+        return None;
+    }
+    let mut open = OpenOptions::new();
+    let open = open.write(true).custom_flags(O_NONBLOCK | O_NOCTTY);
+    open.open(name).ok()
+}
+
+/// Standard error, where it can be opened once more.
+static ERRORS: Mutex<Option<File>> = Mutex::new(None);
+
+/// Puts a line onto standard error in one write, without a wait. Answers whether all of it was taken. A terminal that has some room may
+/// not have enough: only a file that does not block makes sure of it. Where there is none, a pipe that has room takes a line.
+pub fn put_error_line(line: &[u8]) -> bool {
+    let mut own = match ERRORS.lock() {
+        Ok(own) => own,
+        Err(_) => return false,
+    };
+    if own.is_none() {
+        *own = without_waiting(STANDARD_ERROR);
+    }
+    let put = match own.as_mut() {
+        Some(file) => file.write(line),
+        None if !error_is_ready() => return false,
+        None => match send_now(STANDARD_ERROR, line) {
+            Err(e) if e.raw_os_error() == Some(ENOTSOCK) => io::stderr().write(line),
+            put => put,
+        },
+    };
+    matches!(put, Ok(length) if length == line.len())
+}
+
+/// Gives bytes to a socket, as many as it takes without a wait.
+fn send_now(socket: c_int, bytes: &[u8]) -> io::Result<usize> {
+    let flags = MSG_DONTWAIT | MSG_NOSIGNAL;
+    // SAFETY: the bytes are there in the length that is given until the call ends, which only reads them.
+    let sent = unsafe { send(socket, bytes.as_ptr(), bytes.len(), flags) };
+    match sent {
+        0.. => Ok(sent as usize),
+        _ => Err(io::Error::last_os_error()),
+    }
+}
+
+/// Does standard error take something now?
+fn error_is_ready() -> bool {
     let mut files = [Poll {
         file: STANDARD_ERROR,
         events: POLLOUT,
@@ -746,12 +796,7 @@ impl Output {
                 flags: None,
             });
         }
-        // Opened anew it has flags of its own: a terminal or pipe that others use too does not change for them.
-        let anew = OpenOptions::new()
-            .write(true)
-            .custom_flags(O_NONBLOCK | O_NOCTTY)
-            .open("/proc/self/fd/1");
-        if let Ok(file) = anew {
+        if let Some(file) = without_waiting(STANDARD_OUTPUT) {
             return Ok(Output {
                 file,
                 is_socket,
@@ -780,13 +825,7 @@ impl Write for Output {
         if !self.is_socket {
             return self.file.write(bytes);
         }
-        let flags = MSG_DONTWAIT | MSG_NOSIGNAL;
-        // SAFETY: the bytes are there in the length that is given until the call ends, which only reads them.
-        let sent = unsafe { send(self.file.as_raw_fd(), bytes.as_ptr(), bytes.len(), flags) };
-        match sent {
-            0.. => Ok(sent as usize),
-            _ => Err(io::Error::last_os_error()),
-        }
+        send_now(self.file.as_raw_fd(), bytes)
     }
 
     fn flush(&mut self) -> io::Result<()> {
