@@ -15,7 +15,7 @@ pub const USAGE: &str = "usage: receive-rust [OPTION].. INTERFACE0 INTERFACE1
   --conf FILE                 the words of FILE in this place: a line OPTIONS=WORDS and a line INTERFACES=WORDS
   --tick MS                   a tick every MS milliseconds (100)
   --at-once                   no wait at the start. Without this it lasts R ticks, the largest R, and nothing is handed up in it: copies of what was handed up before a restart may still come
-  --room KB                   what the kernel may hold for a port, in kilobytes (1024)
+  --room KB                   room for waiting frames of a port, in kilobytes (1024): one frame for each 416 bytes
   --no-ring                   read frames by system calls and not from a ring that is shared with the kernel
   --backlog KB                what may wait for standard output, in kilobytes (4096); when it is full nothing more is read, and ticks stop
   --prp first|2012            a PRP line, with trailers of the first edition or of 2012 in place of tags
