@@ -1,6 +1,6 @@
--- No promise of demands 1 to 3 is there for nothing: for each one a receiver, machine, tagger or sending side, and the proof that it is
--- ruled out goes by that promise alone. The runs are of slot 1. (`RuledOut` of `demands` has those that demand 2 rules out by an answer
--- or a record, and `RuledOutByOne` of `missed_runs` those of order 8.) Assumes nothing.
+-- Promises of demands 1 to 3, each with a receiver, machine, tagger or sending side that fails by it. Runs of a stream are of slot 1.
+-- (`RuledOut` of `demands` has those that demand 2 rules out by an answer or a record, and `RuledOutByOne` of `missed_runs` those of
+-- order 8.) Assumes nothing.
 use Prim.Native.Nat.{ℕ, suc}
 use mathlib.Core.Option.{none}
 use mathlib.Core.List.{List, [], map}

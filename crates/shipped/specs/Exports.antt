@@ -1,6 +1,6 @@
 -- Every function that the library exports to C, by its name, and what it must ensure: over the definitions of the documents, not over
--- the records of its own crate. So an export that ensures less is refused here. `bindings/check` holds the lines of `Exports` to the
--- symbols of the archive, one for each. Assumes nothing.
+-- the records of its own crate. So an export that ensures less is refused here. The plain fields are told by the port crates' own
+-- `tell..`. `bindings/check` holds the lines of `Exports` to the symbols of the archive, one for each. Assumes nothing.
 use Prim.Native.Nat.{ℕ}
 use mathlib.Core.Path.{_≡_}
 use mathlib.Core.List.{List, []}

@@ -1,5 +1,5 @@
--- All that ships, as one list: every public call, in Rattle and for C, by its name, has the contract that the documents ask for. Assumes
--- nothing.
+-- All that ships, as one list: every call that a program makes, in Rattle and for C, by its name, has the contract that the documents
+-- ask for. Assumes nothing.
 use Rattle.demands.specs.Code.{CodeMeets}
 use Rattle.both_sides.specs.Code.{SenderMeets}
 use Rattle.shipped.specs.Turns.{PrpMeets}
