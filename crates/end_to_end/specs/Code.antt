@@ -1,5 +1,5 @@
--- From bytes to bytes, of the code of both ends: each public call of the sender and of the receiver, by its name. Assumes nothing. The
--- words of the logic are the kit's, as in `Code` of `demands`.
+-- From bytes to bytes, of the code of both ends: `send` and `reset` of the sender, the five calls of the receiver and the batch, by their
+-- names. Assumes nothing. The words of the logic are the kit's, as in `Code` of `demands`.
 use Prim.Native.Nat.{ℕ, _+_}
 use mathlib.Core.Path.{_≡_}
 use mathlib.Core.List.{List, [], _∷_, _++_}

@@ -37,7 +37,7 @@ use Rattle.sender.specs.Runs.{nth}
 use Rattle.sender.specs.Wrong.{risen, risesOnRefusal, firstTooSoon}
 use Rattle.sender.specs.Example.{plain, pair, room0, room1, into, near}
 use Rattle.sender.proofs.Computed.{computing as sending}
-use Rattle.held.specs.ByOne.{spoilt, losesTable, losesOutput, writesNothing, storesNothing, tellsNext, loosens, spoiltBatch, batchLosesTable, batchLosesOutput, batchRefuses, framesLose, takeUnknown, takeLoses, writeUnknown, writeLoses, sendsUnknown, neverResets, ByOne}
+use Rattle.held.specs.ByOne.{spoilt, losesTable, losesOutput, writesNothing, storesNothing, storesNoOpen, storesNoReset, tellsNext, loosens, spoiltBatch, batchLosesTable, batchLosesOutput, batchRefuses, framesLose, takeUnknown, takeLoses, writeUnknown, writeLoses, sendsUnknown, neverResets, ByOne}
 
 -- ---- what differs
 
@@ -98,7 +98,7 @@ unfolding refusing
 by-15 h = ⊎-elim (λ x. let z : _≡_ {A = ℕ} 15 1 = x .1 in omega arith) (λ x. ⊎-elim (λ y. let z : _≡_ {A = ℕ} 15 2 = y .1 in omega arith) (λ y. ⊎-elim (λ z. false≢true (z .0)) (λ z. z .1) (y .1)) (x .1)) h
 
 pub by-one : ByOne
-unfolding refusing sending nth risen risesOnRefusal firstTooSoon sendsUnknown neverResets writesNothing storesNothing tellsNext loosens byAct deciding handsUpAll duplicateRenews duplicateIsRogue countsNoLoss handedOf distinct sumOf sumOnce absent begin sent dead begun idle room
+unfolding refusing sending nth risen risesOnRefusal firstTooSoon sendsUnknown neverResets writesNothing storesNothing storesNoOpen storesNoReset tellsNext loosens byAct deciding handsUpAll duplicateRenews duplicateIsRogue countsNoLoss handedOf distinct sumOf sumOnce absent begin sent dead begun idle room
 by-one = record {
   number = λ h. none 6 (checksOf [] ticking) refl (h [] (ticking ∷ []) .0 .number 6 .0 refl);
   unrefused = λ h. done-not-refused (h (replicate 65 blank) (ticking ∷ []) .0 .number 1 .1 (inl (refl, refl)));

@@ -15,6 +15,7 @@ number-cases = record {
   handed-up = refl;
   again = refl;
   far = refl;
+  not-taken = refl;
   not-reached = refl;
   for-open = (refl, refl);
   for-close = (refl, refl);

@@ -1,6 +1,6 @@
--- No promise of demands 1 to 3 is there for nothing: for each one a receiver, machine, tagger or sending side, and the proof that it is
--- ruled out goes by that promise alone. The runs are of slot 1. (`RuledOut` of `demands` has those that demand 2 rules out by an answer
--- or a record, and `RuledOutByOne` of `missed_runs` those of order 8.) Assumes nothing.
+-- Promises of demands 1 to 3, each with a receiver, machine, tagger or sending side that fails by it. Runs of a stream are of slot 1.
+-- (`RuledOut` of `demands` has those that demand 2 rules out by an answer or a record, and `RuledOutByOne` of `missed_runs` those of
+-- order 8.) Assumes nothing.
 use Prim.Native.Nat.{ℕ, suc}
 use mathlib.Core.Option.{none}
 use mathlib.Core.List.{List, [], map}
@@ -12,7 +12,7 @@ use Rattle.frame.specs.TagCalls.{takeTag, writeTag}
 use Rattle.stream.specs.Record.{Stream}
 use Rattle.stream.specs.Decisions.{with}
 use Rattle.calls.specs.Table.{Table}
-use Rattle.calls.specs.Calls.{Answer, arrived, placed, done, swept, outOf, Result}
+use Rattle.calls.specs.Calls.{Call, arriving, opening, closing, resetting, ticking, Answer, arrived, placed, done, swept, outOf, Result}
 use Rattle.batch.specs.Batch.{Bundle, batchOf}
 use Rattle.demands.specs.Receiver.{Receiver, theReceiver, Tagger}
 use Rattle.demands.specs.Seen.{ResetsSeen}
@@ -49,6 +49,27 @@ writesNothing t c = record { said = theReceiver t c .said; table = theReceiver t
 
 unfoldable pub storesNothing : Receiver
 storesNothing t c = record { said = theReceiver t c .said; table = t; output = theReceiver t c .output }
+
+-- all but an open is stored, or all but a reset;
+abbrev pub butOpen : Call → (before after : Table) → Table
+butOpen (arriving network f out) t u = u
+butOpen (opening dest vlan rule window time) t u = t
+butOpen (closing i) t u = u
+butOpen (resetting i) t u = u
+butOpen ticking t u = u
+
+unfoldable pub storesNoOpen : Receiver
+storesNoOpen t c = record { said = theReceiver t c .said; table = butOpen c t (theReceiver t c .table); output = theReceiver t c .output }
+
+abbrev pub butReset : Call → (before after : Table) → Table
+butReset (arriving network f out) t u = u
+butReset (opening dest vlan rule window time) t u = u
+butReset (closing i) t u = u
+butReset (resetting i) t u = t
+butReset ticking t u = u
+
+unfoldable pub storesNoReset : Receiver
+storesNoReset t c = record { said = theReceiver t c .said; table = butReset c t (theReceiver t c .table); output = theReceiver t c .output }
 
 -- an arrival tells the number behind its own;
 abbrev pub nextTold : Said Answer → Said Answer
@@ -139,8 +160,8 @@ pub record ByOne : Type 0 where
   pub fresh-lost : FreshLost countsNoLoss → ⊥
   pub opened-lost : OpenedLost countsNoLoss → ⊥
   pub resets-seen : ResetsSeen storesNothing → ⊥
-  pub begins-opened : BeginsFresh storesNothing → ⊥
-  pub begins-reset : BeginsFresh storesNothing → ⊥
+  pub begins-opened : BeginsFresh storesNoOpen → ⊥
+  pub begins-reset : BeginsFresh storesNoReset → ⊥
   pub begins-ticked : BeginsFresh loosens → ⊥
   -- and of what is sent.
   pub after-reset : SentAfterReset neverResets → ⊥

@@ -39,6 +39,7 @@ pub record NumberCases : Type 0 where
   pub handed-up : tellArrival (answers (arrived 5 7 (handedUp 14))) ≡ record { slot = 5; length = 14; number = 7; verdict = 1; refusal = 0 }
   pub again : tellArrival (answers (arrived 5 7 duplicate)) ≡ record { slot = 5; length = 0; number = 7; verdict = 2; refusal = 0 }
   pub far : tellArrival (answers (arrived 5 7 rogue)) ≡ record { slot = 5; length = 0; number = 7; verdict = 3; refusal = 0 }
+  pub not-taken : tellArrival (refused 8) ≡ record { slot = 0; length = 0; number = 0; verdict = 0; refusal = 8 }
   pub not-reached : mark ≡ record { slot = 0; length = 0; number = 0; verdict = 0; refusal = 0 }
   -- and the other answers, as C gets them
   pub for-open : (tellOpened (answers (placed 5)) ≡ record { slot = 5; refusal = 0 }) × (tellOpened (refused 9) ≡ record { slot = 0; refusal = 9 })

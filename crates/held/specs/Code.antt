@@ -1,5 +1,5 @@
 -- Demand 1 of the code itself: of each public call that `CodeMeets` and `SenderMeets` name, what it leaves when it is refused. It follows
--- from all that they say of a call, so that neither can lose a call or a word. Assumes nothing.
+-- from all that they say of a call, so that neither can lose a call, nor what it says of a refusal. Assumes nothing.
 use Prim.Native.Nat.{ℕ}
 use mathlib.Core.Path.{_≡_}
 use mathlib.Core.List.{List, []}

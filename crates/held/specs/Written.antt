@@ -1,6 +1,5 @@
--- The statements of `demands` and `both_sides` written out once more, from their lists of theorems: of every receiver, machine and
--- sending side that meets its contract, on any table and in any slot. One that asks for more, gives less or leaves a list is refused
--- here. Assumes nothing.
+-- What `demands` and `both_sides` say of every receiver, machine and sending side, written out once more from their lists of theorems,
+-- on any table and in any slot. One of these that asks for more, gives less or leaves its list is refused here. Assumes nothing.
 use Prim.Native.Nat.{ℕ, suc, _+_, _-_, _%_, _^_, _≤_, _<_}
 use mathlib.Core.Path.{_≡_}
 use mathlib.Core.Logic.{_↔_}

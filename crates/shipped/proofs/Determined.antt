@@ -1,14 +1,19 @@
--- What the lines of the exports leave open: nothing. Assumes nothing.
+-- What the lines of the exports, of the PRP lines and of the tag calls leave open: nothing. Assumes nothing.
 use Prim.Native.Nat.{ℕ}
 use mathlib.Core.Path.{_≡_, sym, ap, _∙_}
 use mathlib.Core.List.{List}
 use Rattle.refusal.specs.Checks.{Said}
+use Rattle.refusal.proofs.Checks.{same-value}
 use Rattle.frame.specs.TagCalls.{Outcome}
+use Rattle.frame.specs.Laws.{Telling}
 use Rattle.calls.specs.Table.{Table}
 use Rattle.calls.specs.Calls.{Call, Answer, Result, Meets}
 use Rattle.calls.proofs.Kept.{coincide}
 use Rattle.batch.specs.Batch.{Bundle}
 use Rattle.sender.specs.Sender.{Numbered, Sends}
+use Rattle.prp.specs.Prp.{saidTurned}
+use Rattle.prp.specs.declared.Turned.{Turned}
+use Rattle.prp.specs.declared.Turned.the-variants as cases
 use Rattle.port.specs.Sending.{senderAt}
 use Rattle.shipped.specs.Exports.{PlainFields}
 
@@ -42,3 +47,16 @@ pub sends : {A : Type 0} {tell : Said Numbered → A} {o : Sends} {a b : A} {m n
 sends p q =
     let e = p .given ∙ sym (q .given) in
     (same-told _ _ _ p q (ap (λ (r : Sends). r .said) e), ap (λ (r : Sends). r .sender .next) e, ap (λ (r : Sends). r .out0) e, ap (λ (r : Sends). r .out1) e)
+
+-- in Rattle: where an answer is known by what it says
+pub outcomes : {S A : Type 0} (said : A → Said S) → Telling said → {o : Outcome S} {a b : A} {x y : List ℕ}
+    → record { said = said a; bytes = x } ≡ o → record { said = said b; bytes = y } ≡ o → (a ≡ b) × (x ≡ y)
+outcomes {S} said tell {a = a} {b = b} p q =
+    let e = p ∙ sym q in
+    (tell a b (ap (λ (r : Outcome S). r .said) e), ap (λ (r : Outcome S). r .bytes) e)
+
+pub turneds : (r s : Turned) → saidTurned r ≡ saidTurned s → r ≡ s
+turneds (cases.Refused n) (cases.Refused m) e = cc
+turneds (cases.Refused n) (cases.Out w m l) e = cc
+turneds (cases.Out v n k) (cases.Refused m) e = cc
+turneds (cases.Out v n k) (cases.Out w m l) e = let t = same-value e in λ i. cases.Out (t i .network) (t i .number) (t i .length)

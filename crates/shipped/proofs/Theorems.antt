@@ -2,7 +2,7 @@
 use Rattle.demands.proofs.Coded.{code-meets}
 use Rattle.both_sides.proofs.Theorems as both
 use Rattle.shipped.specs.Theorems.{Shipped}
-use Rattle.shipped.proofs.Turned.{prp-meets}
+use Rattle.shipped.proofs.Turned.{prp-meets, tags-meet}
 use Rattle.shipped.proofs.Exported.{exports-meet}
 
 pub shipped : Shipped
@@ -10,5 +10,6 @@ shipped = record {
   receiver = code-meets;
   sender = both.theorems .sender-meets;
   prp = prp-meets;
+  tags = tags-meet;
   exports = exports-meet;
 }

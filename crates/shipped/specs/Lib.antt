@@ -1,3 +1,5 @@
+pub mod Ships
 pub mod Exports
 pub mod Turns
+pub mod Tags
 pub mod Theorems
