@@ -11,6 +11,7 @@ class Frame:
         self.about, self.result, self.requires = '', '()', None
         self.n = self.off = 0
         self.tails = {}
+        self.shared = {}
 
     # ---- the callees
     def callee(self, g):
@@ -46,6 +47,8 @@ class Frame:
     # (of a slice whose end is lent for a while: its offset is that of the end)
     def names(self, k):
         κ, q, b, o, γ = [v + ('' if k == 0 else str(k).translate(SUB)) for v in ('κ', 'q', 'b', 'o', 'γ')]
+        if k in self.shared:   # a &mut that is a & for a while: of a lifetime and a name of its own
+            κ, q, γ = f'(ν-{k} ∷ [])', 'fullShare', f'δ-{k}'
         return [κ, q, b, f'({self.tails[k]} + {o})' if k in self.tails else o, γ]
     def lone(self, p): return p[1].startswith('&') and '[' not in p[1]   # a & to one value, as &Six
     def element(self, p): return Type(re.sub(r'&|mut |\[|\]', '', p[1])).row
@@ -73,13 +76,13 @@ class Frame:
     def value(self, p):
         if p[1].startswith('&'):
             _, _, b, o, _ = self.names(self.ref(p))
-            return f'vptr {b} {o}' if self.lone(p) else f'sliceVal ({b}, {o}) (length {p[0]})'
+            return f'vptr {b} {o}' if self.lone(p) else f'sliceVal ({b}, {o}) (length {self.shared.get(self.ref(p), p[0])})'
         return Type(p[1]).val(p[0])
 
     def row(self, p):
         if p[1].startswith('&'):
             k = self.ref(p)
-            return f'{"ShrRef" if self.lone(p) else "MutSlice" if "mut" in p[1] else "ShrSlice"} (named {k}) {self.names(k)[0]} {self.element(p)}'
+            return f'{"ShrRef" if self.lone(p) else "MutSlice" if "mut" in p[1] and k not in self.shared else "ShrSlice"} (named {k}) {self.names(k)[0]} {self.element(p)}'
         return Type(p[1]).row
 
     def lifetimes(self):
@@ -90,7 +93,7 @@ class Frame:
     def front(self):
         r = []
         for k, p in self.refs():
-            r += [('obs', k), ('bor', k), ('tok', k)] if 'mut' in p[1] else [('own', k), ('tok', k)]
+            r += [('own', k), ('tok', k), ('kept', k)] if k in self.shared else [('obs', k), ('bor', k), ('tok', k)] if 'mut' in p[1] else [('own', k), ('tok', k)]
         return r
 
     def entry(self, kind, k, now=None):
@@ -104,7 +107,7 @@ class Frame:
 
     def reference(self, k, now=None, name=None):
         _, _, b, o, γ = self.names(k)
-        return f'record {{ ptr = ({b}, {o}); name = {name or γ}; now = {now or self.refs()[k][1][0]} }}'
+        return f'record {{ ptr = ({b}, {o}); name = {name or γ}; now = {now or self.shared.get(k) or self.refs()[k][1][0]} }}'
 
     def owner(self, k):
         p = self.refs()[k][1]
@@ -140,7 +143,7 @@ class Frame:
         last = {k: ('zs' if p[0] == 'ys' else p[0] + '′') for k, p in muts}
         have = [e for e in self.front() if e[0] != 'own']
         kept = ' ∷ '.join(self.entry(e, k, last.get(k)) for e, k in have) + ' ∷ []'
-        args = ' → '.join(f'Room {self.element(p)} (length {p[0]}) → ({last[k]} : List {self.item(p)}) → length {last[k]} ≡ length {p[0]}' for k, p in muts)
+        args = ''.join(f'Room {self.element(p)} (length {p[0]}) → ({last[k]} : List {self.item(p)}) → length {last[k]} ≡ length {p[0]} → ' for k, p in muts)
         names = ' '.join(f'g-{p[0]} {last[k]} len-{p[0]}' for k, p in muts)
         out = []
         move = lambda *ix: (out.append('move ! (' + ' ∷ '.join(map(str, ix)) + ' ∷ []) $'), have.__setitem__(slice(None), [have[i] for i in ix] + [h for i, h in enumerate(have) if i not in ix]))
@@ -161,8 +164,9 @@ class Frame:
             out.append('fjoin ! $'); have[0:2] = ['acc']
         at = nest([last[self.ref(p)] if p[1].startswith('&mut') else 'tt' for p in self.params], 'tt')
         lens = nest([f'len-{p[0]}' if p[1].startswith('&mut') else 'tt' for p in self.params], 'tt')
-        return f'''  exits : {args} → (r : {r.denot}) → {r.fact('r')} → {said} → ent 𝓤 (⋆ 𝓤 H A ({kept})) (Post′ ({r.val('r')}))
-  exits {names} r g said =
+        fits = f'{r.fact("r")} → ' if r.fact else ''
+        return f'''  exits : {args}(r : {r.denot}) → {fits}{said} → ent 𝓤 (⋆ 𝓤 H A ({kept})) (Post′ ({r.val('r')}))
+  exits {names} r {'g ' if r.fact else ''}said =
       qed W ({kept}) ∵
       suffices ! _ (ends-at 𝓤 H A fn.ended stayed (fn.clauses 𝓤 H A mem run) W {self.ghost()} ({r.val('r')}) r {at} {lens}) $ says ! said $
       {' '.join(out)} frame ! $ {r.owned('r', 'g')} $ done !

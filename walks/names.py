@@ -31,7 +31,7 @@ contract.Running: givenOf tables tablesOf
 types.Kit: Given Item ‵ ⊛=_⊛_ ⋆ Post anyQ atRet post runs Sq $=_$_ ∵=_∵_ ! qed by move keep join split rewrite fjoin fsplit feqI suffices frame done use1 group lose=drop@lose
 types.Part: whole sub look-in agg rep
 types.Match: vrt in-variant look-tag
-types.Run: look-cell=look@look-cell look-raw store-raw store-cell=store@store-cell init forget stop hop fld from load lit unit-lit addr and-then no-more of-opd bin un assigns assigns-last land first skips jumps blocks branches switches-on loops again Below exec returns returns-within enter alloc1 alloc0 params1 pass1 pass0 free1 free0
+types.Run: look-cell=look@look-cell look-raw store-raw store-cell=store@store-cell init forget stop hop fld from load lit unit-lit true-lit false-lit addr and-then no-more of-opd bin un assigns assigns-last land first skips jumps blocks branches switches-on loops again Below exec returns returns-within enter alloc1 alloc0 params1 pass1 pass0 free1 free0
 types.Share: arr-parts
 sound.WpLaws: FmC fmOf WpFn-mono
 denote.RattleType: owns
@@ -97,7 +97,7 @@ class Type:
             self.owned = lambda v, g: f'owned ! Boolean (Is Boolean) (bool-makes 𝓤 H A W) {paren(v)} _ refl'
         elif name == '()':
             self.denot, self.tells, self.make = 'Unit {0}', 'nothing-tells', 'λ _. vunit'
-            self.val, self.typed = lambda v: 'vunit', lambda v, g: '(tt, tt)'
+            self.val, self.typed, self.fact = lambda v: 'vunit', lambda v, g: '(tt, tt)', None
             self.owned = lambda v, g: 'feqI ! (List Val) (vunit ∷ []) (vunit ∷ []) refl'
         else:
             p = '' if name == 'Stream' else low + '-'

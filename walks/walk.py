@@ -6,7 +6,7 @@
 
 A walk is a proof in antt with these short forms. docs/WALKS.md says how one is written.
 
-A walk that is another one with other words has one line, `%like F: word=other ..`.
+A walk that is another one with other words has one line, `%like F: word=other ..`. A word is a regular expression.
 
 Of the function:
   %about TEXT               the file's first comment
@@ -33,7 +33,7 @@ Of the proof:
   <<forgets 1 2>> <<frees>> <<keeps>> <<close>>      locals become room; locals are freed; what `exits` wants is kept; the brackets of %walk
 Statements of the MIR, on lines that begin with a colon. An operand is a local 3, a field 3.1, or field 0 of variant 1, 3#1.0.
 `:=` is into room, `<-` over a value, `last` before it ends an arm or a turn. EVIDENCE is `fits FACT` for a number, `bool`, `ptr`, or a term.
-  : 5 := 1.1 ; EVIDENCE                     a copy                      : 5 := lit ; EVIDENCE
+  : 5 := 1.1 ; EVIDENCE                     a copy                      : 5 := lit ; EVIDENCE           : 5 := true ; bool
   : 6 := 5 cmp 3                            a comparison                : 3 <- 3 plus ; fits FACT       plus 1
   : 7 := not 6                              a bool, the other way round
   : place 8 := 1[3] via := 5 ; FACT         local 8 points to record number _3 of the slice _1; _5 is its distance, of which FACT says that it fits
@@ -42,12 +42,14 @@ Statements of the MIR, on lines that begin with a colon. An operand is a local 3
   : tail 9 := 2[5..] via 6 7 8 ; LIST FIRST WITHIN FACT      local 9 is the end of the &mut slice _2 from number _5 on, which is FIRST: WITHIN says that it is one, FACT that the slice's length fits
   : ends NAME ; LIST FIRST WITHIN FACT      from here on the &mut parameter NAME is its end from FIRST on, a slice of its own; what is kept of the whole stands behind the other entries in front (one more for %off). Leaves a bracket open
   : back NAME ; LIST LAST                   and here it is whole again: LAST stands in the place of the end
+  : shares NAME ; LIST FACT                 from here on the &mut parameter NAME, which is LIST, is a & (handed on as `& NAME OPERAND`); FACT is that its length fits. Leaves a bracket open
+  : whole-again NAME                        and here it is a &mut again, at the same list
   : reborrow 8 := 1 via 7 ; FACT            local 8 is the slice _1 once more, of which FACT says that its length fits; _7 is its place
 Calls leave a bracket open. r is the result, g-r that it fits, `said` the FACT of it. An argument is `TYPE VALUE FACT OPERAND`; `| given PROOF` shows a `requires`.
   : call CRATE::G | .. | .. -> TYPE r said. FACT                by value
   : lend CRATE::G 8 LIST FACT | .. -> TYPE r said. FACT         lent the table as a &[Stream], _8, while the caller keeps it; it is LIST, and FACT is that its length fits
   : lend mut CRATE::G 8 LIST FACT | .. -> TYPE r zs said. FACT  as a &mut [Stream]; zs is the list that it leaves, `len` that it is as long
-  : read CRATE::G | & NAME OPERAND | .. -> TYPE r said. FACT    handed a & parameter; and with `| &lent NAME LIST FACT OPERAND` lent a &mut one as a &
+  : read CRATE::G | & NAME OPERAND | .. -> TYPE r said. FACT    handed a & parameter, or two; and with `| &lent NAME LIST FACT OPERAND` lent a &mut one as a &
   : write CRATE::G | & NAME OPERAND | &mut NAME LIST FACT OPERAND | .. -> TYPE r vs said. FACT      and lent a &mut one; vs is what it leaves, len-vs that it is as long
                             (handed a part of a & parameter: `| &part LIST FIRST END WITHIN OPERAND`, as `: part` has them; it leaves a second bracket open)
                             (without the &: only lent one. With two &mut, in whatever order: lent both, and two names stand behind r, `-> TYPE r zs vs said.`)
@@ -108,6 +110,12 @@ class Walk(Steps):
         m = re.fullmatch(r'back (\S+)', body)
         if m:
             return ind + self.back(m[1], *self.arguments('|' + ev)[0][0])
+        m = re.fullmatch(r'shares (\S+)', body)
+        if m:
+            return ind + self.share(m[1], *self.arguments('|' + ev)[0][0])
+        m = re.fullmatch(r'whole-again (\S+)', body)
+        if m:
+            return ind + self.again(m[1])
         last = body.startswith('last ')
         step = 'assigns-last' if last else 'assigns'
         body = body[5:] if last else body

@@ -5,8 +5,7 @@ use mathlib.Core.Bool.{true, false}
 use mathlib.Core.List.{List}
 use lib.ListN.{set}
 use borrow.Author.Tests.{lt-ltb, le-ltb, le-leb, lt-leb, eq-eqb, ne-eqb}
-use Rattle.refusal.specs.Numbers.{TABLE, NETWORK, ROOM, BATCH}
-use Rattle.record.specs.Sizes.{slotsMost}
+use Rattle.refusal.specs.Numbers.{NETWORK, ROOM, BATCH}
 use Rattle.frame.specs.Bytes.{word}
 use Rattle.calls.specs.declared.ArrivalAnswer.{ArrivalAnswer}
 use Rattle.batch.specs.Batch.{framesMost, runsPast}
@@ -16,29 +15,29 @@ use Rattle.batch.specs.declared.Next.the-variants.{Done, Frame}
 
 -- ---- the start
 
-module _ (slots network count : ℕ) (s : List ℕ) where
-  pub no-table : {c : Cursor} → slotsMost < slots → c ≡ startsWith 0 TABLE → c ≡ begun slots network count s
+module _ (unfit network count : ℕ) (s : List ℕ) where
+  pub no-index : {c : Cursor} → (unfit ≡ 0 → ⊥) → c ≡ startsWith 0 unfit → c ≡ begun unfit network count s
   unfolding begun
-  no-table h e = e ∙ simp (lt-ltb _ _ h)
+  no-index h e = e ∙ simp (ne-eqb _ _ h)
 
-  module _ (h : slots ≤ slotsMost) where
-    pub no-network : {c : Cursor} → 1 < network → c ≡ startsWith 0 NETWORK → c ≡ begun slots network count s
+  module _ (h : unfit ≡ 0) where
+    pub no-network : {c : Cursor} → 1 < network → c ≡ startsWith 0 NETWORK → c ≡ begun unfit network count s
     unfolding begun
-    no-network k e = e ∙ simp (le-ltb _ _ h, lt-ltb _ _ k)
+    no-network k e = e ∙ simp (eq-eqb _ _ h, lt-ltb _ _ k)
 
     module _ (k : network ≤ 1) where
-      pub no-count : {c : Cursor} → framesMost < count → c ≡ startsWith 0 BATCH → c ≡ begun slots network count s
+      pub no-count : {c : Cursor} → framesMost < count → c ≡ startsWith 0 BATCH → c ≡ begun unfit network count s
       unfolding begun
-      no-count m e = e ∙ simp (le-ltb _ _ h, le-ltb _ _ k, lt-ltb _ _ m)
+      no-count m e = e ∙ simp (eq-eqb _ _ h, le-ltb _ _ k, lt-ltb _ _ m)
 
       module _ (m : count ≤ framesMost) where
-        pub no-lengths : {c : Cursor} → runsPast count s ≡ true → c ≡ startsWith 0 BATCH → c ≡ begun slots network count s
+        pub no-lengths : {c : Cursor} → runsPast count s ≡ true → c ≡ startsWith 0 BATCH → c ≡ begun unfit network count s
         unfolding begun
-        no-lengths p e = e ∙ simp (le-ltb _ _ h, le-ltb _ _ k, le-ltb _ _ m, p)
+        no-lengths p e = e ∙ simp (eq-eqb _ _ h, le-ltb _ _ k, le-ltb _ _ m, p)
 
-        pub all-passed : {c : Cursor} → runsPast count s ≡ false → c ≡ startsWith count 0 → c ≡ begun slots network count s
+        pub all-passed : {c : Cursor} → runsPast count s ≡ false → c ≡ startsWith count 0 → c ≡ begun unfit network count s
         unfolding begun
-        all-passed p e = e ∙ simp (le-ltb _ _ h, le-ltb _ _ k, le-ltb _ _ m, p)
+        all-passed p e = e ∙ simp (eq-eqb _ _ h, le-ltb _ _ k, le-ltb _ _ m, p)
 
 -- ---- the next frame
 

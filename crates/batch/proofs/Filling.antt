@@ -1,14 +1,13 @@
 -- The turns of a batch: where it can be, a frame more, and where it stops. Assumes nothing.
 use Prim.Native.Nat.{ℕ, zero, suc, _+_, _-_, _≤_, _<_}
 use mathlib.Core.Path.{_≡_, refl, sym, ap, _∙_}
-use mathlib.Core.Bool.{Bool, true, false, cond, _||_}
+use mathlib.Core.Bool.{Bool, true, false, not, cond, _||_}
 use mathlib.Core.List.{List}
 use native.Mathlib.Omega.{arith}
-use lib.Dec.{eqb, ltb, leb}
+use lib.Dec.{T, eqb, ltb, leb}
 use lib.ListN.{length, take, drop}
 use borrow.Author.Tests.{eqb-false, leb-true, ltb-false}
-use Rattle.refusal.specs.Numbers.{TABLE, NETWORK, BATCH}
-use Rattle.record.specs.Sizes.{slotsMost}
+use Rattle.refusal.specs.Numbers.{NETWORK, BATCH}
 use Rattle.frame.specs.Bytes.{word}
 use Rattle.calls.specs.Table.{Table}
 use Rattle.calls.specs.Calls.{Call, Result, resultOf, Meets}
@@ -30,23 +29,33 @@ pub record Whole (s : List ℕ) (room : ℕ) (c : Cursor) : Type 0 where
   pub past : runsPast (c .left) (drop (c .at) s) ≡ false
   pub count : c .frames + c .left ≤ framesMost
 
-pub whole-begun : (slots network count : ℕ) (s : List ℕ) (room : ℕ) → Whole s room (begun slots network count s)
-unfolding begun runsPast
-whole-begun slots network count s room = go (ltb slotsMost slots) (ltb 1 network) (ltb framesMost count) (runsPast count s) refl refl
-  where
-    starts : (left n : ℕ) → left ≤ framesMost → runsPast left s ≡ false → Whole s room (startsWith left n)
-    starts left n h e = record { at = omega arith; used = omega arith; past = e; count = omega arith }
+module _ (unfit network count : ℕ) (s : List ℕ) where
+  pub whole-begun : (room : ℕ) → Whole s room (begun unfit network count s)
+  unfolding begun runsPast
+  whole-begun room = go (eqb unfit 0) (ltb 1 network) (ltb framesMost count) (runsPast count s) refl refl
+    where
+      starts : (left n : ℕ) → left ≤ framesMost → runsPast left s ≡ false → Whole s room (startsWith left n)
+      starts left n h e = record { at = omega arith; used = omega arith; past = e; count = omega arith }
 
-    none : (n : ℕ) → Whole s room (startsWith 0 n)
-    none n = starts 0 n (omega arith) refl
+      none : (n : ℕ) → Whole s room (startsWith 0 n)
+      none n = starts 0 n (omega arith) refl
 
-    go : (a b m p : Bool) → ltb framesMost count ≡ m → runsPast count s ≡ p
-        → Whole s room (cond a (startsWith 0 TABLE) (cond b (startsWith 0 NETWORK) (cond (m || p) (startsWith 0 BATCH) (startsWith count 0))))
-    go true b m p e f = none TABLE
-    go false true m p e f = none NETWORK
-    go false false true p e f = none BATCH
-    go false false false true e f = none BATCH
-    go false false false false e f = starts count 0 (ltb-false framesMost count e) f
+      go : (a b m p : Bool) → ltb framesMost count ≡ m → runsPast count s ≡ p
+          → Whole s room (cond (not a) (startsWith 0 unfit) (cond b (startsWith 0 NETWORK) (cond (m || p) (startsWith 0 BATCH) (startsWith count 0))))
+      go false b m p e f = none unfit
+      go true true m p e f = none NETWORK
+      go true false true p e f = none BATCH
+      go true false false true e f = none BATCH
+      go true false false false e f = starts count 0 (ltb-false framesMost count e) f
+
+  -- a batch that has frames to come was refused with neither 1 nor 18
+  pub begun-fit : 0 < begun unfit network count s .left → T (not (not (eqb unfit 0)))
+  unfolding begun
+  begun-fit h = go (eqb unfit 0) refl h
+    where
+      go : (a : Bool) → eqb unfit 0 ≡ a → 0 < begun unfit network count s .left → T (not (not (eqb unfit 0)))
+      go true e h = rw e tt
+      go false e h = absurd (let l : 0 < 0 = rw e at h in omega (arith, l))
 
 -- ---- the next frame
 

@@ -26,3 +26,4 @@ pub mod One
 pub mod Parts
 pub mod Splitting
 pub mod Worked
+pub mod Within

@@ -95,7 +95,7 @@ readBy zero zero e = none
 readBy zero (suc v) e = some (answers (arrived (e .slot) (e .number) (readVerdict (suc v) (e .length))))
 readBy (suc n) v e = some (refused (suc n))
 
-abbrev readEach : ArrivalAnswer → Option (Said Answer)
+abbrev pub readEach : ArrivalAnswer → Option (Said Answer)
 readEach e = readBy (e .refusal) (e .verdict) e
 
 abbrev ReadsBack : Said Answer → Type 0
@@ -122,18 +122,18 @@ read-act t left ticks k h = absurd (k .fact)
 reads : (t : Table) (network : ℕ) (f left : List ℕ) → length t ≤ slotsMost → network ≤ 1 → ReadsBack (answer t (act t (arriving network f left)))
 reads t network f left h k = read-act t left _ (arrives t network f left) (later t network f left h k)
 
-read-all : (us : List Turn) (m : ℕ) → Each ReadsBack us
+pub read-all : (us : List Turn) (m : ℕ) → Each ReadsBack us
     → map readEach (map tellEach (map (λ (u : Turn). some (u .result .said)) us ++ replicate m none)) ≡ map (λ (u : Turn). some (u .result .said)) us ++ replicate m none
 read-all [] zero p = refl
 read-all [] (suc m) p = ap (λ (l : List (Option (Said Answer))). none ∷ l) (read-all [] m p)
 read-all (u ∷ us) m p = ap₂ (λ (a : Option (Said Answer)) (l : List (Option (Said Answer))). a ∷ l) (p .0) (read-all us m (p .1))
 
-read-answers : (t : Table) (b : Batch) → map readEach (tellBatch (batchOf t b) .answers) ≡ batchOf t b .answers
+pub read-answers : (t : Table) (b : Batch) → map readEach (tellBatch (batchOf t b) .answers) ≡ batchOf t b .answers
 unfolding answersOf
 read-answers t b = rw (answers-are t b) (read-all (turnsBy t b) (framesMost - length (turnsBy t b)) (each ReadsBack reads t b))
 
 -- the number of frames where nothing was refused
-abbrev readSaid : (frames refusal : ℕ) → Said ℕ
+abbrev pub readSaid : (frames refusal : ℕ) → Said ℕ
 readSaid k zero = answers k
 readSaid k (suc n) = refused (suc n)
 
@@ -141,7 +141,7 @@ positive : (t : Table) (b : Batch) → Positive (batchChecks t b)
 unfolding batchChecks
 positive t b = (omega arith, (omega arith, (omega arith, tt)))
 
-read-said : (t : Table) (b : Batch) → readSaid (framesTold (batchOf t b .said)) (refusalTold (batchOf t b .said)) ≡ batchOf t b .said
+pub read-said : (t : Table) (b : Batch) → readSaid (framesTold (batchOf t b .said)) (refusalTold (batchOf t b .said)) ≡ batchOf t b .said
 read-said t b = go (batchOf t b .said) refl
   where
     go : (s : Said ℕ) → batchOf t b .said ≡ s → readSaid (framesTold s) (refusalTold s) ≡ s

@@ -37,11 +37,11 @@ module _ (t : Table) (out : List ℕ) where
   same-refusal (refused m) n = (λ e. (let z : m ≡ n = cc in ap refused z), λ e. (let z : m ≡ n = cc in ap refused z))
   same-refusal (answers us) n = (λ e. absurd (let z : _≡_ {A = ℕ} 0 1 = cc in omega arith), λ e. absurd (let z : _≡_ {A = ℕ} 0 1 = cc in omega arith))
 
-  keeps : (x : Said (List Turn)) (n : ℕ) → bundle t out x .said ≡ refused n
+  pub refused-bundle : (x : Said (List Turn)) (n : ℕ) → bundle t out x .said ≡ refused n
       → (bundle t out x .table ≡ t) × (bundle t out x .output ≡ out) × (bundle t out x .answers ≡ replicate framesMost none)
   unfolding bundle answersOf
-  keeps (refused m) n e = (refl, refl, refl)
-  keeps (answers us) n e = absurd (let z : _≡_ {A = ℕ} 0 1 = cc in omega arith)
+  refused-bundle (refused m) n e = (refl, refl, refl)
+  refused-bundle (answers us) n e = absurd (let z : _≡_ {A = ℕ} 0 1 = cc in omega arith)
 
 pub refused-exactly : RefusedExactly
 unfolding batchOf
@@ -52,7 +52,7 @@ refused-exactly t b n =
 
 pub refused-changes-nothing : RefusedChangesNothing
 unfolding batchOf
-refused-changes-nothing t b n e = keeps t (b .out) (comesTo t b) n e
+refused-changes-nothing t b n e = refused-bundle t (b .out) (comesTo t b) n e
 
 -- ---- a batch that is not refused
 

@@ -4,3 +4,4 @@ pub mod Steps
 pub mod Refusals
 pub mod Laws
 pub mod Example
+pub mod Indexed

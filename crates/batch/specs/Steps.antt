@@ -2,18 +2,19 @@
 -- Assumes nothing.
 use Prim.Native.Nat.{ℕ, zero, suc, _+_, _-_, _/_, _%_}
 use mathlib.Core.Path.{_≡_}
-use mathlib.Core.Bool.{Bool, _||_}
+use mathlib.Core.Bool.{Bool, not, _||_}
 use mathlib.Core.List.{List, _++_}
 use lib.Dec.{eqb, ltb, leb}
 use lib.ListN.{length, take, drop, set}
-use Rattle.refusal.specs.Numbers.{TABLE, NETWORK, ROOM, BATCH}
+use Rattle.refusal.specs.Numbers.{NETWORK, ROOM, BATCH}
 use Rattle.record.specs.Words.{if_then_else_}
-use Rattle.record.specs.Sizes.{slotsMost}
 use Rattle.frame.specs.Bytes.{word}
 use Rattle.calls.specs.Table.{Table}
 use Rattle.calls.specs.Calls.{arriving, Result, resultOf}
 use Rattle.calls.specs.Told.{tellArrival}
 use Rattle.calls.specs.declared.ArrivalAnswer.{ArrivalAnswer}
+use Rattle.index.specs.Index.{Index}
+use Rattle.index.specs.Indexed.{unfitOf}
 use Rattle.batch.specs.Batch.{Batch, framesMost, runsPast}
 use Rattle.batch.specs.declared.Cursor.{Cursor}
 use Rattle.batch.specs.declared.Next.{Next}
@@ -21,13 +22,13 @@ use Rattle.batch.specs.declared.Next.the-variants.{Done, Frame}
 
 -- ---- where a batch is
 
--- At the start: 1, 2 and 15, or `left` frames to come. A refused batch has none.
+-- At the start: 1 or 18 (`unfitOf` of `index`, 0 for neither), 2 and 15, or `left` frames to come. A refused batch has none.
 abbrev pub startsWith : (left refusal : ℕ) → Cursor
 startsWith left n = record { at = 0; used = 0; left = left; frames = 0; refusal = n }
 
-unfoldable pub begun : (slots network count : ℕ) (frames : List ℕ) → Cursor
-begun slots network count s =
-    if ltb slotsMost slots then startsWith 0 TABLE
+unfoldable pub begun : (unfit network count : ℕ) (frames : List ℕ) → Cursor
+begun unfit network count s =
+    if not (eqb unfit 0) then startsWith 0 unfit
     else if ltb 1 network then startsWith 0 NETWORK
     else if ltb framesMost count || runsPast count s then startsWith 0 BATCH
     else startsWith count 0
@@ -99,7 +100,7 @@ unfoldable pub filledOf : (network : ℕ) (frames : List ℕ) → Work → Work
 filledOf network s w = filledIn (w .cursor .left) network s w
 
 -- All frames: the table, where the batch is then, every output byte and every answer.
-pub record Fills (t : Table) (b : Batch) (old : List ArrivalAnswer) (u : Table) (r : Cursor) (out : List ℕ) (new : List ArrivalAnswer) : Type 0 where
+pub record Fills (ix : Index) (t : Table) (b : Batch) (old : List ArrivalAnswer) (u : Table) (r : Cursor) (out : List ℕ) (new : List ArrivalAnswer) : Type 0 where
   pub same :
       _≡_ {A = Work} (record { table = u; cursor = r; out = out; answers = new })
-      (filledOf (b .network) (b .frames) (record { table = t; cursor = begun (length t) (b .network) (b .count) (b .frames); out = b .out; answers = old }))
+      (filledOf (b .network) (b .frames) (record { table = t; cursor = begun (unfitOf ix t) (b .network) (b .count) (b .frames); out = b .out; answers = old }))

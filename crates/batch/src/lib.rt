@@ -1,14 +1,21 @@
 // Up to 32 frames in one call (document 02, order 3): each is a single arrival, and what these hand up is packed into the
-// output.
+// output. The slot of each is found by the index (order 9).
+use calls::Answer;
 use calls::ArrivalAnswer;
+use calls::Asked;
+use calls::Found;
 use record::Stream;
 ghost use mathlib.Core.Path.{_≡_};
-ghost use mathlib.Core.Bool.{false};
+ghost use mathlib.Core.Bool.{true, false};
 ghost use Prim.Native.Nat.{_+_, _^_, _≤_, _<_};
 ghost use lib.ListN.{length, drop, set};
 ghost use Rattle.frame.specs.Bytes.{word};
+ghost use Rattle.calls.specs.Calls.{arriving, Meets};
+ghost use Rattle.calls.specs.Said.{saidArrival};
+ghost use Rattle.index.specs.Index.{indexed};
 ghost use Rattle.batch.specs.Batch.{framesMost, runsPast};
-ghost use Rattle.batch.specs.Told.{mark, MeetsBatch};
+ghost use Rattle.batch.specs.Told.{mark};
+ghost use Rattle.batch.specs.Indexed.{MeetsBatchBy};
 ghost use Rattle.batch.specs.Steps.{startsWith, begun, fromOf, nextFrame, added, lengthPut, cursorAfter, Fills};
 
 // The most frames of a batch. specs/Batch.antt has it as framesMost.
@@ -33,7 +40,7 @@ pub struct Cursor {
     pub left: usize,
     // How many came before.
     pub frames: usize,
-    // 1, 2 or 15, and 0 where the call is not refused.
+    // 1, 18, 2 or 15, and 0 where the call is not refused.
     pub refusal: u8,
 }
 
@@ -77,12 +84,12 @@ fn runs_past(frames: &[u8], count: usize) -> bool
     false
 }
 
-// A batch: 1, 2, then 15, before any frame is looked at.
-fn begin(slots: usize, network: u8, count: usize, frames: &[u8]) -> Cursor
-    ensures { λ r. ⌜ r ≡ begun slots network count (now (frames .entry)) ⌝ }
+// A batch: 1 or 18 where one of them is given, 2, then 15, before any frame is looked at.
+fn begin(unfit: u8, network: u8, count: usize, frames: &[u8]) -> Cursor
+    ensures { λ r. ⌜ r ≡ begun unfit network count (now (frames .entry)) ⌝ }
 {
-    if slots > Stream::SLOTS_MOST {
-        return starts_with(0, refusal::TABLE);
+    if unfit != 0 {
+        return starts_with(0, unfit);
     }
     if network > 1 {
         return starts_with(0, refusal::NETWORK);
@@ -204,9 +211,29 @@ fn keep(answers: &mut [ArrivalAnswer], i: usize, e: ArrivalAnswer)
     answers[i] = e;
 }
 
-// All frames, one after the other, until one is refused with 8.
+// A single arrival, of a table and an index that agree: its slot is found by following.
+fn arrive_by(t: &mut [Stream], index: &[u8], network: u8, frame: &[u8], out: &mut [u8]) -> Answer
+    requires { ⌜ indexed (now index) (now t) ≡ true ⌝ }
+    ensures { λ r. ⌜ Meets (now (t .entry)) (arriving network (now (frame .entry)) (now (out .entry))) (record { said = saidArrival r; table = now (t .exit); output = now (out .exit) }) ⌝ }
+{
+    let q = calls::ask(t.len(), network, frame);
+    let Asked::For(h, number) = q else {
+        return calls::refused(q);
+    };
+    let f = receiver::follow(t, index, h.dest, h.vlan);
+    let Found::At(i) = f else {
+        return calls::unknown();
+    };
+    let room = calls::fits(frame, out);
+    let j = receiver::decide_in(t, i, network, number, room);
+    calls::finish(j, i, h.at, number, frame, out)
+}
+
+// All frames, one after the other, until one is refused with 8. The agreement is tested once, before the first: no arrival
+// changes it.
 fn fill(
     t: &mut [Stream],
+    index: &[u8],
     network: u8,
     count: usize,
     frames: &[u8],
@@ -214,14 +241,15 @@ fn fill(
     answers: &mut [ArrivalAnswer],
 ) -> Cursor
     requires { ⌜ framesMost ≤ length (now answers) ⌝ }
-    ensures { λ r. ⌜ Fills (now (t .entry)) (record { network = network; count = count; frames = now (frames .entry); out = now (out .entry) }) (now (answers .entry)) (now (t .exit)) r (now (out .exit)) (now (answers .exit)) ⌝ }
+    ensures { λ r. ⌜ Fills (now (index .entry)) (now (t .entry)) (record { network = network; count = count; frames = now (frames .entry); out = now (out .entry) }) (now (answers .entry)) (now (t .exit)) r (now (out .exit)) (now (answers .exit)) ⌝ }
 {
-    let mut c = begin(t.len(), network, count, frames);
+    let unfit = receiver::unfit(t, index);
+    let mut c = begin(unfit, network, count, frames);
     loop {
         let Next::Frame(start, end, from) = seek(c, frames, out.len()) else {
             break;
         };
-        let a = receiver::arrival(t, network, &frames[start..end], &mut out[from..]);
+        let a = arrive_by(t, index, network, &frames[start..end], &mut out[from..]);
         let e = calls::tell_arrival(a);
         put_length(out, c.used, e);
         keep(answers, c.frames, e);
@@ -231,13 +259,20 @@ fn fill(
     c
 }
 
-// The call.
-pub fn batch(t: &mut [Stream], network: u8, count: usize, frames: &[u8], out: &mut [u8]) -> Batched
-    ensures { λ r. ⌜ MeetsBatch (now (t .entry)) (record { network = network; count = count; frames = now (frames .entry); out = now (out .entry) }) r (now (t .exit)) (now (out .exit)) ⌝ }
+// The call: 1, 18, 2, 15.
+pub fn batch(
+    t: &mut [Stream],
+    index: &[u8],
+    network: u8,
+    count: usize,
+    frames: &[u8],
+    out: &mut [u8],
+) -> Batched
+    ensures { λ r. ⌜ MeetsBatchBy (now (index .entry)) (now (t .entry)) (record { network = network; count = count; frames = now (frames .entry); out = now (out .entry) }) r (now (t .exit)) (now (out .exit)) ⌝ }
 {
     let mark = unreached();
     let mut answers = [mark; 32];
-    let c = fill(t, network, count, frames, out, &mut answers);
+    let c = fill(t, index, network, count, frames, out, &mut answers);
     Batched {
         answers,
         frames: c.frames,

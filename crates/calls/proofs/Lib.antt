@@ -17,5 +17,4 @@ pub mod Halves
 pub mod Worked
 -- What the proofs of the functions rest on.
 mod Keys
-mod Looks
 mod Steps

@@ -1,8 +1,7 @@
--- Laws of the search in a table, and of the survey for an open. Assumes nothing.
+-- Laws of the search in a table. Assumes nothing.
 --     found-cons, found-snoc     a table with one record more, in front or behind
 --     found-front                what is found in the front part of a table is what is found
 --     found-within, found-passes, found-below, found-no-slot      a slot that is found is one of the table, its record passes and none below it does; where none is found none passes
---     surveyed-nil, surveyed-snoc    a survey is made slot by slot
 use mathlib.Core.Path.{_≡_, refl, sym, _∙_, ap}
 use Prim.Native.Nat.{ℕ, zero, suc, _<_}
 use native.Mathlib.Nat.{not-suc-le-zero, le-of-suc-le-suc}
@@ -12,7 +11,7 @@ use mathlib.Core.List.{[], _∷_, _++_}
 use lib.Dec.{ltb, leb·suc-suc, leb·zero}
 use lib.ListN.{length}
 use Rattle.record.specs.declared.Stream.{Stream}
-use Rattle.calls.specs.Table.{Table, at, search, someSlot, found, hasKey, isFree, surveyed, looked, orElse, foundHere}
+use Rattle.calls.specs.Table.{Table, at, search, someSlot, found, orElse, foundHere}
 use Rattle.calls.specs.declared.Found.{Found}
 use Rattle.calls.specs.declared.Found.the-variants.{At, Nothing}
 
@@ -124,12 +123,3 @@ module _ (p : Stream → Bool) where
       step false (At j) k b e l h = no-slot (suc j) (sym e)
       step false Nothing zero b e l h = b
       step false Nothing (suc m) b e l h = h m refl (le-of-suc-le-suc l)
-
--- ---- the survey
-pub surveyed-nil : (dest vlan : ℕ) → surveyed dest vlan [] ≡ record { taken = false; free = Nothing }
-unfolding surveyed someSlot search found
-surveyed-nil dest vlan = refl
-
-pub surveyed-snoc : (dest vlan : ℕ) (t : Table) (s : Stream) → surveyed dest vlan (t ++ s ∷ []) ≡ looked dest vlan (surveyed dest vlan t) s (length t)
-unfolding surveyed looked
-surveyed-snoc dest vlan t s i = record { taken = some-snoc (hasKey dest vlan) t s i; free = found-snoc isFree t s i }

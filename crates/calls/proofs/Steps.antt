@@ -22,13 +22,14 @@ use Rattle.stream.specs.declared.Weighed.{Weighed}
 use Rattle.stream.specs.declared.Weighed.the-variants as weighs
 use Rattle.stream.specs.Steps.{marksOf, answer, weighedAs, weighed}
 use Rattle.calls.specs.Calls.{admitted}
+use Rattle.calls.specs.declared.Found.{Found}
 use Rattle.calls.specs.declared.Found.the-variants.{At, Nothing}
 use Rattle.calls.specs.declared.Survey.{Survey}
 use Rattle.calls.specs.declared.Judged.{Judged}
 use Rattle.calls.specs.declared.Judged.the-variants as judges
 use Rattle.calls.specs.declared.Opened.the-variants as opened
 use Rattle.calls.specs.declared.Done.the-variants as done
-use Rattle.calls.specs.Steps.{asked, judgedAs, judged, notPlaced, placingOf, unchanged, closeChange, resetChange}
+use Rattle.calls.specs.Steps.{asked, judgedAs, judged, isAt, seenAs, notPlaced, placingOf, unchanged, closeChange, resetChange}
 use Rattle.calls.proofs.Admits.{admits-all, admits-none}
 
 -- ---- ask
@@ -116,6 +117,10 @@ judge-granted s number room {w} {j} e g = go (lawful s) room refl g
     go true true l g = g .1 (not-damaged w (ap has-verdict e ∙ judged-so s number l)) ∙ rw (l, e)
 
 -- ---- place
+
+pub seen-made : (f free : Found) {b : Bool} → b ≡ isAt f → record { taken = b; free = free } ≡ seenAs f free
+unfolding seenAs
+seen-made f free e i = record { taken = e i; free = free }
 
 module _ (slots : ℕ) (v : Survey) (s : Stream) where
   pub place-taken : v .taken ≡ true → notPlaced slots s TAKEN ≡ placingOf slots v s

@@ -2,7 +2,7 @@
 -- each on values alone. The laws of `proofs/` put the steps together and show that they come to what `Calls` says. Assumes
 -- nothing.
 use Prim.Native.Nat.{ℕ, _-_}
-use mathlib.Core.Bool.{Bool, _&&_, not}
+use mathlib.Core.Bool.{Bool, true, false, _&&_, not}
 use mathlib.Core.List.{List}
 use lib.Dec.{ltb, leb}
 use lib.ListN.{length}
@@ -27,7 +27,9 @@ use Rattle.calls.specs.declared.Asked.{Asked}
 use Rattle.calls.specs.declared.Asked.the-variants as asks
 use Rattle.calls.specs.declared.Judged.{Judged}
 use Rattle.calls.specs.declared.Judged.the-variants as judges
+use Rattle.calls.specs.declared.Opened.{Opened}
 use Rattle.calls.specs.declared.Opened.the-variants as opened
+use Rattle.calls.specs.declared.Done.{Done}
 use Rattle.calls.specs.declared.Done.the-variants as done
 use Rattle.calls.specs.declared.Placing.{Placing}
 use Rattle.calls.specs.declared.Change.{Change}
@@ -93,6 +95,23 @@ bytesOf judges.Duplicate o f out = out
 bytesOf judges.Rogue o f out = out
 
 -- ---- open, close and reset, once 1 (and of an open also 9) is passed: the answer, and what is stored in which slot
+
+-- What an open has to know (`surveyed` of Table), by a search for its key and one for a free slot.
+unfoldable pub isAt : Found → Bool
+isAt (found.At i) = true
+isAt found.Nothing = false
+
+unfoldable pub seenAs : (key free : Found) → Survey
+seenAs f free = record { taken = isAt f; free = free }
+
+-- an open that filled a slot, and a close that freed one
+unfoldable pub isOpened : Opened → Bool
+isOpened (opened.At i) = true
+isOpened (opened.Refused n) = false
+
+unfoldable pub isDone : Done → Bool
+isDone done.Ok = true
+isDone (done.Refused n) = false
 
 -- A refused call stores nothing: its slot is the number of slots, which lies beyond the table.
 abbrev pub notPlaced : (slots : ℕ) → Stream → (number : ℕ) → Placing

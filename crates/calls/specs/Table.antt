@@ -1,7 +1,7 @@
 -- Document 01, "The stream record" and "Calls and the order of checks": a table of streams and the search in it.
 -- Assumes nothing.
 use Prim.Native.Nat.{ℕ, zero, suc, _+_}
-use mathlib.Core.Bool.{Bool, false, _&&_, _||_, not}
+use mathlib.Core.Bool.{Bool, _&&_, not}
 use mathlib.Core.List.{List, [], _∷_}
 use lib.Dec.{eqb, ltb}
 use lib.ListN.{getD, length}
@@ -62,16 +62,10 @@ isFree s = not (yes (s .used))
 unfoldable pub surveyed : (dest vlan : ℕ) → Table → Survey
 surveyed dest vlan t = record { taken = someSlot (hasKey dest vlan) t; free = found isFree t }
 
--- The same slot by slot: the survey of no slot, and one that looks at slot i, which holds s, after those below it.
-abbrev pub unseen : Survey
-unseen = record { taken = false; free = Nothing }
-
+-- The same slot by slot: what is found in front, or else here.
 abbrev pub orElse : Found → Found → Found
 orElse (At i) f = At i
 orElse Nothing f = f
 
 abbrev pub foundHere : (Stream → Bool) → Stream → ℕ → Found
 foundHere p s i = if p s then At i else Nothing
-
-unfoldable pub looked : (dest vlan : ℕ) → Survey → Stream → ℕ → Survey
-looked dest vlan a s i = record { taken = a .taken || hasKey dest vlan s; free = orElse (a .free) (foundHere isFree s i) }

@@ -15,14 +15,17 @@ use record::Counts;
 use record::State;
 use record::Stream;
 pub use slot::close;
+pub use slot::is_done;
+pub use slot::is_free;
+pub use slot::is_opened;
 pub use slot::place;
 pub use slot::reset;
+pub use slot::seen;
 use stream::Marks;
 pub use told::tell_arrival;
 ghost use mathlib.Core.Path.{_≡_};
-ghost use mathlib.Core.Bool.{_||_};
 ghost use Rattle.calls.specs.Ticks.{noSums, visited};
-ghost use Rattle.calls.specs.Table.{blank, hasKey, isFree, unseen, looked, orElse, foundHere};
+ghost use Rattle.calls.specs.Table.{blank, hasKey};
 
 // What an arrival was found to be.
 pub enum Verdict {
@@ -158,52 +161,6 @@ pub fn blank() -> Stream
         used: 0,
         state,
         counts,
-    }
-}
-
-// The survey before any slot is looked at.
-pub fn unseen() -> Survey
-    ensures { λ r. ⌜ r ≡ unseen ⌝ }
-{
-    Survey {
-        taken: false,
-        free: Found::Nothing,
-    }
-}
-
-// The survey once slot i, which holds s, is looked at too.
-pub fn look(acc: Survey, s: Stream, i: usize, dest: u64, vlan: u16) -> Survey
-    ensures { λ r. ⌜ r ≡ looked dest vlan acc s i ⌝ }
-{
-    let taken = taken_too(acc.taken, s, dest, vlan);
-    let before = acc.free;
-    let free = free_too(before, s, i);
-    Survey { taken, free }
-}
-
-// A slot in use has the key: one that was looked at before, or this one.
-fn taken_too(before: bool, s: Stream, dest: u64, vlan: u16) -> bool
-    ensures { λ r. ⌜ r ≡ (before || hasKey dest vlan s) ⌝ }
-{
-    if before {
-        return true;
-    }
-    has_key(s, dest, vlan)
-}
-
-// The lowest free slot: one that was looked at before, or else this one.
-fn free_too(before: Found, s: Stream, i: usize) -> Found
-    ensures { λ r. ⌜ r ≡ orElse before (foundHere isFree s i) ⌝ }
-{
-    match before {
-        Found::At(j) => Found::At(j),
-        Found::Nothing => {
-            if s.used == 0 {
-                Found::At(i)
-            } else {
-                Found::Nothing
-            }
-        }
     }
 }
 

@@ -11,7 +11,52 @@ ghost use mathlib.Core.Path.{_≡_};
 ghost use mathlib.Core.Bool.{_&&_};
 ghost use lib.Dec.{ltb};
 ghost use Rattle.record.specs.Words.{yes};
-ghost use Rattle.calls.specs.Steps.{notPlaced, placingOf, unchanged, closeChange, resetChange};
+ghost use Rattle.calls.specs.Table.{isFree};
+ghost use Rattle.calls.specs.Steps.{isOpened, isDone, isAt, seenAs, notPlaced, placingOf, unchanged, closeChange, resetChange};
+
+// A free slot.
+pub fn is_free(s: Stream) -> bool
+    ensures { λ r. ⌜ r ≡ isFree s ⌝ }
+{
+    let used = s.used != 0;
+    !used
+}
+
+fn is_at(f: Found) -> bool
+    ensures { λ r. ⌜ r ≡ isAt f ⌝ }
+{
+    match f {
+        Found::At(_) => true,
+        Found::Nothing => false,
+    }
+}
+
+// What an open has to know: the search for its key found a slot or none, and the lowest free slot.
+pub fn seen(f: Found, free: Found) -> Survey
+    ensures { λ r. ⌜ r ≡ seenAs f free ⌝ }
+{
+    let taken = is_at(f);
+    Survey { taken, free }
+}
+
+// An open that filled a slot, and a close that freed one.
+pub fn is_opened(a: Opened) -> bool
+    ensures { λ r. ⌜ r ≡ isOpened a ⌝ }
+{
+    match a {
+        Opened::At(_) => true,
+        Opened::Refused(_) => false,
+    }
+}
+
+pub fn is_done(a: Done) -> bool
+    ensures { λ r. ⌜ r ≡ isDone a ⌝ }
+{
+    match a {
+        Done::Ok => true,
+        Done::Refused(_) => false,
+    }
+}
 
 // Open: 10, 11 from a survey of the table, else the new record s for the lowest free slot.
 pub fn place(slots: usize, v: Survey, s: Stream) -> Placing

@@ -10,6 +10,7 @@ use Rattle.frame.proofs.write_tag.Symbol.{routine as writeCode}
 use Rattle.receiver.proofs.arrival.Met as arrival
 use Rattle.receiver.proofs.open.Met as open-stream
 use Rattle.receiver.proofs.close.Met as close
+use Rattle.receiver.proofs.rebuild.Met as rebuild
 use Rattle.receiver.proofs.reset.Met as reset
 use Rattle.receiver.proofs.tick.Met as tick
 use Rattle.batch.proofs.batch.Met as batch
@@ -21,6 +22,7 @@ code-meets M 𝓤 H 𝓜 𝓖 𝓡 = record {
   arrival = arrival.met 𝓤 H 𝓜 𝓖 𝓡;
   open-stream = open-stream.met 𝓤 H 𝓜 𝓖 𝓡;
   close = close.met 𝓤 H 𝓜 𝓖 𝓡;
+  rebuild = rebuild.met 𝓤 H 𝓜 𝓖 𝓡;
   reset = reset.met 𝓤 H 𝓜 𝓖 𝓡;
   tick = tick.met 𝓤 H 𝓜 𝓖 𝓡;
   batch = batch.met 𝓤 H 𝓜 𝓖 𝓡;

@@ -13,12 +13,15 @@ pub mod Parts
 pub mod Once
 pub mod Sums
 pub mod Stepping
+pub mod Indexing
+pub mod Stays
 pub mod Sent
 pub mod Begins
 pub mod Missed
 pub mod Runs
 pub mod Computing
 pub mod StepRuns
+pub mod IndexRuns
 pub mod Wrong
 -- What they rest on.
 pub mod Moves

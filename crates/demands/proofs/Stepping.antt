@@ -149,14 +149,14 @@ fresh-lost-steps k = carried FreshLostSteps lost-steps k
 
 -- ---- what a program gets
 
-got : (t : Table) (s : Step) (g : Got) → EnsuredStep t s g → g ≡ given theMachine t s
+pub got : (t : Table) (s : Step) (g : Got) → EnsuredStep t s g → g ≡ given theMachine t s
 unfolding theMachine given
 got t (single c) (result r) e = ap result (coincide t c r (theReceiver t c) e (the-receiver-meets t c))
 got t (single c) (told a rows bytes) e = absurd e
 got t (batch b) (result r) e = absurd e
 got t (batch b) (told a rows bytes) e = λ i. told (e .said i) (e .table i) (e .output i)
 
-left : (t : Table) (s : Step) → leftBy (given theMachine t s) ≡ tableOf theMachine t s
+pub left : (t : Table) (s : Step) → leftBy (given theMachine t s) ≡ tableOf theMachine t s
 unfolding given tableOf
 left t (single c) = refl
 left t (batch b) = refl

@@ -11,6 +11,9 @@ use Rattle.demands.proofs.After.{never-twice, unlimited-never-twice, op
 use Rattle.demands.proofs.Absent.{lost-for-good}
 use Rattle.demands.proofs.Lost.{fresh-lost, opened-lost}
 use Rattle.demands.proofs.Stepping.{the-machine-meets, steps-are-calls, batches-are-calls, seen-as-calls, demand-1-steps, demand-3-steps, fresh-lost-steps, steps-coincide}
+use Rattle.demands.proofs.Indexing.{indexed-coincide, indexed-are-steps, left-out-claim-nothing}
+use Rattle.demands.proofs.Stays.{nothing-left-out}
+use Rattle.demands.proofs.IndexRuns.{indexed-shown}
 use Rattle.demands.proofs.Sent.{seen-or-refused, refused-with}
 use Rattle.demands.proofs.Begins.{begins-fresh}
 use Rattle.demands.proofs.Missed.{nothing-seen-missed, nothing-missed, nothing-seen-missed-steps, nothing-missed-steps}
@@ -60,6 +63,11 @@ theorems = record {
   step-demands = λ m k. step-demands k;
   all-met = the-machine-meets;
   steps-coincide = steps-coincide;
+  indexed-coincide = indexed-coincide;
+  indexed-are-steps = indexed-are-steps;
+  left-out-claim-nothing = left-out-claim-nothing;
+  nothing-left-out = nothing-left-out;
+  indexed-shown = indexed-shown;
   tags-1 = λ tagger m. demand-1-tags m;
   tags-2 = λ tagger m. m;
   unlimited-never-twice = unlimited-never-twice;

@@ -25,15 +25,18 @@ use Rattle.calls.specs.Calls as calls
 use Rattle.calls.specs.Said.{saidArrival, saidOpened, saidDone, saidSwept}
 use Rattle.receiver.proofs.arrival.{ended as arrivalEnded}
 use Rattle.receiver.proofs.arrival.Symbol.{routine as arrivalCode}
+use Rattle.index.specs.Indexed.{MeetsIndexed, MeetsRebuild}
 use Rattle.receiver.proofs.open.{ended as openEnded}
 use Rattle.receiver.proofs.open.Symbol.{routine as openCode}
 use Rattle.receiver.proofs.close.{ended as closeEnded}
 use Rattle.receiver.proofs.close.Symbol.{routine as closeCode}
+use Rattle.receiver.proofs.rebuild.{ended as rebuildEnded}
+use Rattle.receiver.proofs.rebuild.Symbol.{routine as rebuildCode}
 use Rattle.receiver.proofs.reset.{ended as resetEnded}
 use Rattle.receiver.proofs.reset.Symbol.{routine as resetCode}
 use Rattle.receiver.proofs.tick.{ended as tickEnded}
 use Rattle.receiver.proofs.tick.Symbol.{routine as tickCode}
-use Rattle.batch.specs.Told.{MeetsBatch}
+use Rattle.batch.specs.Indexed.{MeetsBatchBy}
 use Rattle.batch.proofs.batch.{ended as batchEnded}
 use Rattle.batch.proofs.batch.Symbol.{routine as batchCode}
 
@@ -50,20 +53,23 @@ module _ {M : Type 1} (𝓤 : URA M) (H : Heap 𝓤) (𝓜 : Model 𝓤 H) (𝓖
     ensures = λ g r e. fact 𝓤 (P κs a r e);
   }))
 
-  -- The five calls on a table, the batch, and the two that have no table: a primed name is what stands there afterwards.
+  -- The six calls on a table, of which three take an index, the batch, and the two that have no table: a primed name is what stands
+  -- there afterwards.
   pub record PublicCalls : Type 1 where
     pub arrival : Ensures arrivalEnded arrivalCode (λ κs (t, (network, (frame, (out, _)))) r (t′, (_, (_, (out′, _)))).
         Meets (now t) (arriving network (now frame) (now out)) (record { said = saidArrival r; table = now t′; output = now out′ }))
-    pub open-stream : Ensures openEnded openCode (λ κs (t, (dest, (vlan, (rule, (window, (time, _)))))) r (t′, _).
-        Meets (now t) (opening dest vlan rule window time) (record { said = saidOpened r; table = now t′; output = [] }))
-    pub close : Ensures closeEnded closeCode (λ κs (t, (slot, _)) r (t′, _).
-        Meets (now t) (calls.closing slot) (record { said = saidDone r; table = now t′; output = [] }))
+    pub open-stream : Ensures openEnded openCode (λ κs (t, (ix, (dest, (vlan, (rule, (window, (time, _))))))) r (t′, (ix′, _)).
+        MeetsIndexed (now ix) (now t) (opening dest vlan rule window time) (record { said = saidOpened r; table = now t′; index = now ix′ }))
+    pub close : Ensures closeEnded closeCode (λ κs (t, (ix, (slot, _))) r (t′, (ix′, _)).
+        MeetsIndexed (now ix) (now t) (calls.closing slot) (record { said = saidDone r; table = now t′; index = now ix′ }))
+    pub rebuild : Ensures rebuildEnded rebuildCode (λ κs (t, (ix, _)) r (_, (ix′, _)).
+        MeetsRebuild (now ix) (now t) (saidDone r) (now ix′))
     pub reset : Ensures resetEnded resetCode (λ κs (t, (slot, _)) r (t′, _).
         Meets (now t) (resetting slot) (record { said = saidDone r; table = now t′; output = [] }))
     pub tick : Ensures tickEnded tickCode (λ κs (t, _) r (t′, _).
         Meets (now t) ticking (record { said = saidSwept r; table = now t′; output = [] }))
-    pub batch : Ensures batchEnded batchCode (λ κs (t, (network, (count, (frames, (out, _))))) r (t′, (_, (_, (_, (out′, _))))).
-        MeetsBatch (now t) (record { network = network; count = count; frames = now frames; out = now out }) r (now t′) (now out′))
+    pub batch : Ensures batchEnded batchCode (λ κs (t, (ix, (network, (count, (frames, (out, _)))))) r (t′, (_, (_, (_, (_, (out′, _)))))).
+        MeetsBatchBy (now ix) (now t) (record { network = network; count = count; frames = now frames; out = now out }) r (now t′) (now out′))
     pub take : Ensures takeEnded takeCode (λ κs (frame, (out, _)) r (_, (out′, _)).
         record { said = saidTaken r; bytes = now out′ } ≡ takeTag (now frame) (now out))
     pub write : Ensures writeEnded writeCode (λ κs (frame, (number, (out, _))) r (_, (_, (out′, _))).

@@ -7,10 +7,12 @@ pub mod Seen
 pub mod Unlimited
 pub mod Demand3
 pub mod Steps
+pub mod Indexed
 pub mod Corollaries
 pub mod Lost
 pub mod Missed
 pub mod Examples
 pub mod Needed
 pub mod StepExamples
+pub mod IndexExamples
 pub mod Theorems

@@ -148,7 +148,8 @@ abbrev pub leftBy : Got → Table
 leftBy (result r) = r .table
 leftBy (told a rows bytes) = rows
 
--- What the public calls ensure to a program that makes these steps: a single call by `Meets`, a batch by `MeetsBatch`.
+-- What such steps ensure to a program: a single call by `Meets`, a batch by `MeetsBatch`. (The public open, close and batch take an index
+-- too: `Indexed` reads the runs of a program that keeps one as runs of these steps.)
 abbrev pub EnsuredStep : Table → Step → Got → Type 0
 EnsuredStep t (single c) (result r) = Meets t c r
 EnsuredStep t (single c) (told a rows bytes) = ⊥

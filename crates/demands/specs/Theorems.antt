@@ -8,6 +8,8 @@ use Rattle.demands.specs.Demand2.{Demand2, Demand2Tags, ArrivalsRecovere
 use Rattle.demands.specs.Seen.{ResetsSeen}
 use Rattle.demands.specs.Demand3.{Demand3}
 use Rattle.demands.specs.Steps.{Machine, MeetsAll, theMachine, StepsAreCalls, BatchesAreCalls, SeenAsCalls, Demand1Steps, Demand3Steps, StepsCoincide}
+use Rattle.demands.specs.Indexed.{IndexedCoincide, IndexedAreSteps, LeftOutClaimNothing, NothingLeftOut}
+use Rattle.demands.specs.IndexExamples.{IndexedShown}
 use Rattle.demands.specs.Corollaries.{NeverTwice, UnlimitedNeverTwice, FreshDecides, OpenedDecides, RestartGetsThrough, CountsOnce}
 use Rattle.demands.specs.Lost.{FreshLost, OpenedLost, FreshLostSteps, LostForGood}
 use Rattle.demands.specs.Missed.{NothingSeenMissed, NothingMissed, SeenOrRefused, RefusedWith, BeginsFresh, NothingSeenMissedSteps, NothingMissedSteps}
@@ -60,6 +62,13 @@ pub record Theorems : Type 2 where
   pub step-demands : (m : Machine) → MeetsAll m → StepDemands m
   pub all-met : MeetsAll theMachine
   pub steps-coincide : StepsCoincide
+  -- the same of a program that keeps an index beside its table: its runs are read as runs of steps, in which nothing is left out that
+  -- the index did not refuse;
+  pub indexed-coincide : IndexedCoincide
+  pub indexed-are-steps : IndexedAreSteps
+  pub left-out-claim-nothing : LeftOutClaimNothing
+  pub nothing-left-out : NothingLeftOut
+  pub indexed-shown : IndexedShown
   -- the same of the two calls that have no table.
   pub tags-1 : (tagger : Tagger) → MeetsTags tagger → Demand1Tags tagger
   pub tags-2 : (tagger : Tagger) → MeetsTags tagger → Demand2Tags tagger

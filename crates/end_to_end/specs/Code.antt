@@ -1,5 +1,5 @@
--- From bytes to bytes, of the code of both ends: `send` and `reset` of the sender, the five calls of the receiver and the batch, by their
--- names. Assumes nothing. The words of the logic are the kit's, as in `Code` of `demands`.
+-- From bytes to bytes, of the code of both ends: `send` and `reset` of the sender, the six calls of the receiver and the batch, by their
+-- names, in a program that keeps an index beside its table. Assumes nothing. The words of the logic are the kit's, as in `Code` of `demands`.
 use Prim.Native.Nat.{ℕ, _+_}
 use mathlib.Core.Path.{_≡_}
 use mathlib.Core.List.{List, [], _∷_, _++_}
@@ -25,6 +25,8 @@ use Rattle.receiver.proofs.open.{ended as openEnded}
 use Rattle.receiver.proofs.open.Symbol.{routine as openCode}
 use Rattle.receiver.proofs.close.{ended as closeEnded}
 use Rattle.receiver.proofs.close.Symbol.{routine as closeCode}
+use Rattle.receiver.proofs.rebuild.{ended as rebuildEnded}
+use Rattle.receiver.proofs.rebuild.Symbol.{routine as rebuildCode}
 use Rattle.receiver.proofs.reset.{ended as resetEnded}
 use Rattle.receiver.proofs.reset.Symbol.{routine as resetCode}
 use Rattle.receiver.proofs.tick.{ended as tickEnded}
@@ -33,7 +35,10 @@ use Rattle.batch.proofs.batch.{ended as batchEnded}
 use Rattle.batch.proofs.batch.Symbol.{routine as batchCode}
 use Rattle.demands.specs.Receiver.{theReceiver}
 use Rattle.demands.specs.Missed.{FreshVector}
-use Rattle.demands.specs.Steps.{Step, single, batch, theMachine, readAs, Got, result, told, leftBy, givenAll}
+use Rattle.index.specs.Index.{Index}
+use Rattle.demands.specs.Steps.{single, batch, theMachine, readAs, Got, result, told, givenAll}
+use Rattle.demands.specs.Indexed.{Doing, step, rebuilds, stepsOf, GotBy, got, indexLeft, tableLeft, plainly}
+use Rattle.demands.specs.Indexed as indexed
 use Rattle.demands.specs.Code.{Promise, Ensures}
 use Rattle.sender.specs.declared.Sender.{Sender}
 use Rattle.sender.specs.Sender.{comesTo}
@@ -68,31 +73,33 @@ pub record CodeCalled (T : Ended) (code : Routine) {X Y : Type 0} (passed : (κs
 
 -- ---- the receiver's end
 
--- A step on a table, and what the program gets: a call of one of these. A primed name is what stands there afterwards.
-pub data Receives (t : Table) (s : Step) (g : Got) : Type 2 where
-  arrival : CodeCalled arrivalEnded arrivalCode {X = Table × Step}
-      (λ κs (t, (network, (frame, (out, _)))). (now t, single (arriving network (now frame) (now out))))
-      (λ κs r (t′, (_, (_, (out′, _)))). result (record { said = saidArrival r; table = now t′; output = now out′ })) (t, s) g → Receives t s g
-  open-stream : CodeCalled openEnded openCode {X = Table × Step}
-      (λ κs (t, (dest, (vlan, (rule, (window, (time, _)))))). (now t, single (opening dest vlan rule window time)))
-      (λ κs r (t′, _). result (record { said = saidOpened r; table = now t′; output = [] })) (t, s) g → Receives t s g
-  close : CodeCalled closeEnded closeCode {X = Table × Step}
-      (λ κs (t, (slot, _)). (now t, single (closing slot)))
-      (λ κs r (t′, _). result (record { said = saidDone r; table = now t′; output = [] })) (t, s) g → Receives t s g
-  reset : CodeCalled resetEnded resetCode {X = Table × Step}
-      (λ κs (t, (slot, _)). (now t, single (resetting slot)))
-      (λ κs r (t′, _). result (record { said = saidDone r; table = now t′; output = [] })) (t, s) g → Receives t s g
-  tick : CodeCalled tickEnded tickCode {X = Table × Step}
-      (λ κs (t, _). (now t, single ticking))
-      (λ κs r (t′, _). result (record { said = saidSwept r; table = now t′; output = [] })) (t, s) g → Receives t s g
-  in-batch : CodeCalled batchEnded batchCode {X = Table × Step}
-      (λ κs (t, (network, (count, (frames, (out, _))))). (now t, batch (record { network = network; count = count; frames = now frames; out = now out })))
-      (λ κs r (t′, (_, (_, (_, (out′, _))))). told r (now t′) (now out′)) (t, s) g → Receives t s g
+-- What a program does on an index and a table, and what it gets: a call of one of these. A primed name is what stands there afterwards.
+pub data Receives (ix : Index) (t : Table) (d : Doing) : GotBy → Type 2 where
+  arrival : {g : GotBy} → CodeCalled arrivalEnded arrivalCode {X = Index × Table × Doing}
+      (λ κs (t, (network, (frame, (out, _)))). (ix, now t, step (single (arriving network (now frame) (now out)))))
+      (λ κs r (t′, (_, (_, (out′, _)))). got (result (record { said = saidArrival r; table = now t′; output = now out′ })) ix) (ix, t, d) g → Receives ix t d g
+  open-stream : {g : GotBy} → CodeCalled openEnded openCode {X = Index × Table × Doing}
+      (λ κs (t, (ix, (dest, (vlan, (rule, (window, (time, _))))))). (now ix, now t, step (single (opening dest vlan rule window time))))
+      (λ κs r (t′, (ix′, _)). got (result (record { said = saidOpened r; table = now t′; output = [] })) (now ix′)) (ix, t, d) g → Receives ix t d g
+  close : {g : GotBy} → CodeCalled closeEnded closeCode {X = Index × Table × Doing}
+      (λ κs (t, (ix, (slot, _))). (now ix, now t, step (single (closing slot))))
+      (λ κs r (t′, (ix′, _)). got (result (record { said = saidDone r; table = now t′; output = [] })) (now ix′)) (ix, t, d) g → Receives ix t d g
+  rebuild : {g : GotBy} → CodeCalled rebuildEnded rebuildCode {X = Index × Table × Doing}
+      (λ κs (t, (ix, _)). (now ix, now t, rebuilds)) (λ κs r (_, (ix′, _)). indexed.made (saidDone r) (now ix′)) (ix, t, d) g → Receives ix t d g
+  reset : {g : GotBy} → CodeCalled resetEnded resetCode {X = Index × Table × Doing}
+      (λ κs (t, (slot, _)). (ix, now t, step (single (resetting slot))))
+      (λ κs r (t′, _). got (result (record { said = saidDone r; table = now t′; output = [] })) ix) (ix, t, d) g → Receives ix t d g
+  tick : {g : GotBy} → CodeCalled tickEnded tickCode {X = Index × Table × Doing}
+      (λ κs (t, _). (ix, now t, step (single ticking)))
+      (λ κs r (t′, _). got (result (record { said = saidSwept r; table = now t′; output = [] })) ix) (ix, t, d) g → Receives ix t d g
+  in-batch : {g : Got} → CodeCalled batchEnded batchCode {X = Index × Table × Doing}
+      (λ κs (t, (ix, (network, (count, (frames, (out, _)))))). (now ix, now t, step (batch (record { network = network; count = count; frames = now frames; out = now out }))))
+      (λ κs r (t′, (_, (_, (_, (_, (out′, _)))))). told r (now t′) (now out′)) (ix, t, d) g → Receives ix t d (got g ix)
 
--- Each step on the table that the one before it left.
-pub data ReceiverRan : Table → List Step → List Got → Type 2 where
-  none-made : {t : Table} → ReceiverRan t [] []
-  made : {t : Table} {s : Step} {ss : List Step} {g : Got} {gs : List Got} → Receives t s g → ReceiverRan (leftBy g) ss gs → ReceiverRan t (s ∷ ss) (g ∷ gs)
+-- Each on the index and the table that the one before it left.
+pub data ReceiverRan : Index → Table → List Doing → List GotBy → Type 2 where
+  none-made : {ix : Index} {t : Table} → ReceiverRan ix t [] []
+  made : {ix : Index} {t : Table} {d : Doing} {ds : List Doing} {g : GotBy} {gs : List GotBy} → Receives ix t d g → ReceiverRan (indexLeft g) (tableLeft t g) ds gs → ReceiverRan ix t (d ∷ ds) (g ∷ gs)
 
 -- What the application gets from the stream in slot i, read from what the program got: of a batch by the fields of its answers (verdict 1
 -- is handed up, with its length), and along the output by the lengths.
@@ -102,13 +109,14 @@ gotTold i (a ∷ rest) output =
     if eqb (a .verdict) 1 then (if eqb (a .slot) i then take (a .length) (drop 2 output) ∷ [] else []) ++ gotTold i rest (drop (2 + a .length) output)
     else gotTold i rest output
 
-abbrev pub gotBy : (slot : ℕ) → Got → List (List ℕ)
-gotBy i (result r) = gotOf i (r .said) (r .output)
-gotBy i (told a rows bytes) = gotTold i (a .answers) bytes
+abbrev pub gotOfStep : (slot : ℕ) → Got → List (List ℕ)
+gotOfStep i (result r) = gotOf i (r .said) (r .output)
+gotOfStep i (told a rows bytes) = gotTold i (a .answers) bytes
 
-unfoldable pub gotAll : (slot : ℕ) → List Got → List (List ℕ)
+unfoldable pub gotAll : (slot : ℕ) → List GotBy → List (List ℕ)
 gotAll i [] = []
-gotAll i (g ∷ gs) = gotBy i g ++ gotAll i gs
+gotAll i (got g jx ∷ gs) = gotOfStep i g ++ gotAll i gs
+gotAll i (indexed.made w jx ∷ gs) = gotAll i gs
 
 -- ---- the sender's end
 
@@ -125,18 +133,19 @@ pub data SenderRan : Sender → List sends.Call → List sends.SideGot → Type 
 
 -- ---- both
 
--- What a program gets from the code of either end is what the definitions give: so what `Between` says of these it says of what was got.
+-- What a program gets from the code of either end is what the definitions give, of the steps that its run is read as: so what `Between`
+-- says of these it says of what was got.
 pub record RansCoincide : Type 2 where
   pub sender : (s : Sender) (calls : List sends.Call) (gs : List sends.SideGot) → SenderRan s calls gs → gs ≡ sends.sideGivesAll theSide s calls
-  pub receiver : (t : Table) (steps : List Step) (rs : List Got) → ReceiverRan t steps rs → rs ≡ givenAll theMachine t steps
+  pub receiver : (ix : Index) (t : Table) (ds : List Doing) (rs : List GotBy) → ReceiverRan ix t ds rs → plainly ix t ds rs ≡ givenAll theMachine t (stepsOf ix t ds)
 
 -- `BytesToBytes`, with batches, of what the two programs got: what the application gets is each frame that was given to the code of the
 -- sender, and of which a copy arrived, byte for byte, exactly once.
 abbrev pub CodeToCode : Type 2
 CodeToCode =
-    (k : Known) (b : ℕ) (still : List ℕ) (before es : List Event) (s : Sender) (sending : List sends.Call) (gs : List sends.SideGot) (t : Table) (i : ℕ) (steps : List Step) (rs : List Got) (places : List ℕ)
+    (k : Known) (b : ℕ) (still : List ℕ) (before es : List Event) (s : Sender) (sending : List sends.Call) (gs : List sends.SideGot) (ix : Index) (t : Table) (i : ℕ) (ds : List Doing) (rs : List GotBy) (places : List ℕ)
     → SenderRan s sending gs
-    → ReceiverRan t steps rs
+    → ReceiverRan ix t ds rs
     → FreshVector (at t i)
-    → Between theReceiver theSide k b still before es s sending t i (readAs theMachine t steps) places
+    → Between theReceiver theSide k b still before es s sending t i (readAs theMachine t (stepsOf ix t ds)) places
     → gotAll i rs ≡ givenAt (sentIn sending gs) (onceEach [] places)

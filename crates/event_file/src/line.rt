@@ -111,7 +111,8 @@ fn in_digits(n: u8) -> Numeral
         refusal::GROUP => Numeral::Two(b'1', b'4'),
         refusal::BATCH => Numeral::Two(b'1', b'5'),
         refusal::TRAILER => Numeral::Two(b'1', b'6'),
-        0 | 17..=255 => Numeral::Other(n),
+        refusal::INDEX => Numeral::Two(b'1', b'8'),
+        0 | 17 | 19..=255 => Numeral::Other(n),
     }
 }
 

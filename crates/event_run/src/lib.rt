@@ -10,8 +10,12 @@ use event_file::reader::Event;
 use event_file::reader::Read;
 use record::Stream;
 ghost use mathlib.Core.Path.{_≡_};
+ghost use mathlib.Core.List.{[]};
 ghost use Prim.Native.Nat.{_+_, _-_, _^_, _≤_, _<_};
 ghost use lib.ListN.{length, take, drop};
+ghost use Rattle.calls.specs.Calls.{opening, closing, Meets};
+ghost use Rattle.calls.specs.Said.{saidOpened, saidDone};
+ghost use Rattle.index.specs.Index.{places};
 ghost use Rattle.event_file.specs.Records.{eventOf, destinationOf};
 ghost use Rattle.event_run.specs.Run.{nextOf, Handled, Noted, Drains};
 
@@ -108,6 +112,60 @@ fn tell_tick(a: Swept) -> Told
     Told::Answered(Reply::Tick(a))
 }
 
+// ---- open and close without an index, which document 01 does not know (document 02, order 9)
+// Each makes an index of its own, which is rebuilt from the table before the call: so 18 is never given. What the rebuild
+// answers is not looked at, since the call gives 1 by itself. `.._here` has the index and lends it once, `.._with` makes
+// the two calls: so each walk is short.
+
+fn open_with(
+    table: &mut [Stream],
+    index: &mut [u8],
+    dest: [u8; 6],
+    vlan: u16,
+    rule: u8,
+    window: u16,
+    time: u16,
+) -> Opened
+    requires { ⌜ length (now index) ≡ places ⌝ }
+    ensures { λ r. ⌜ Meets (now (table .entry)) (opening dest vlan rule window time) (record { said = saidOpened r; table = now (table .exit); output = [] }) ⌝ }
+{
+    let built = receiver::rebuild(table, index);
+    let a = receiver::open(table, index, dest, vlan, rule, window, time);
+    a
+}
+
+fn open_here(
+    table: &mut [Stream],
+    dest: [u8; 6],
+    vlan: u16,
+    rule: u8,
+    window: u16,
+    time: u16,
+) -> Opened
+    ensures { λ r. ⌜ Meets (now (table .entry)) (opening dest vlan rule window time) (record { said = saidOpened r; table = now (table .exit); output = [] }) ⌝ }
+{
+    let mut index = [0u8; 128];
+    let a = open_with(table, &mut index, dest, vlan, rule, window, time);
+    a
+}
+
+fn close_with(table: &mut [Stream], index: &mut [u8], slot: usize) -> Done
+    requires { ⌜ length (now index) ≡ places ⌝ }
+    ensures { λ r. ⌜ Meets (now (table .entry)) (closing slot) (record { said = saidDone r; table = now (table .exit); output = [] }) ⌝ }
+{
+    let built = receiver::rebuild(table, index);
+    let a = receiver::close(table, index, slot);
+    a
+}
+
+fn close_here(table: &mut [Stream], slot: usize) -> Done
+    ensures { λ r. ⌜ Meets (now (table .entry)) (closing slot) (record { said = saidDone r; table = now (table .exit); output = [] }) ⌝ }
+{
+    let mut index = [0u8; 128];
+    let a = close_with(table, &mut index, slot);
+    a
+}
+
 // The call that the body asks for is made with the table, and its answer is told. Each arm returns by itself, so that the
 // walk of one needs nothing of the others.
 fn handle(table: &mut [Stream], input: &[u8], start: usize, end: usize, out: &mut [u8]) -> Told
@@ -121,11 +179,11 @@ fn handle(table: &mut [Stream], input: &[u8], start: usize, end: usize, out: &mu
         }
         Event::Open(s) => {
             let dest = destination_at(input, start, end);
-            let a = receiver::open(table, dest, s.vlan, s.rule, s.window, s.time);
+            let a = open_here(table, dest, s.vlan, s.rule, s.window, s.time);
             return tell_open(a);
         }
         Event::Close(slot) => {
-            let a = receiver::close(table, slot);
+            let a = close_here(table, slot);
             return tell_close(a);
         }
         Event::Reset(slot) => {

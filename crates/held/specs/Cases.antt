@@ -7,7 +7,7 @@ use mathlib.Core.List.{List, [], _∷_, _++_}
 use lib.ListN.{length, replicate}
 use Rattle.refusal.specs.Checks.{Said}
 use Rattle.refusal.specs.Checks.Said.{refused, answers}
-use Rattle.refusal.specs.Numbers.{TABLE, NETWORK, LONG, SHORT, UNTAGGED, UNKNOWN, DAMAGED, ROOM, SETTING, TAKEN, FULL, SLOT, TAGGED, GROUP, BATCH, TRAILER}
+use Rattle.refusal.specs.Numbers.{TABLE, NETWORK, LONG, SHORT, UNTAGGED, UNKNOWN, DAMAGED, ROOM, SETTING, TAKEN, FULL, SLOT, TAGGED, GROUP, BATCH, TRAILER, INDEX}
 use Rattle.record.specs.Sizes.{slotsMost, frameMost, untaggedMost, windowLeast, windowMost, timeLeast, timeMost, vlanMost, vectorRule, matchRule}
 use Rattle.frame.specs.Frame.{destOf, vlanOf, typeAt, headShort, tagShort, placeOf}
 use Rattle.stream.specs.History.{holding}
@@ -33,8 +33,8 @@ pub record NumberCases : Type 0 where
   pub words : holding (2 ^ 64 + 2) ≡ 2 ∷ 1 ∷ 0 ∷ 0 ∷ 0 ∷ 0 ∷ 0 ∷ 0 ∷ []
   pub sizes : slotsMost ∷ frameMost ∷ untaggedMost ∷ windowLeast ∷ windowMost ∷ timeLeast ∷ timeMost ∷ vlanMost ∷ vectorRule ∷ matchRule ∷ []
       ≡ 64 ∷ 2000 ∷ 1994 ∷ 2 ∷ 512 ∷ 1 ∷ 65535 ∷ 4094 ∷ 1 ∷ 2 ∷ []
-  pub refusals : TABLE ∷ NETWORK ∷ LONG ∷ SHORT ∷ UNTAGGED ∷ UNKNOWN ∷ DAMAGED ∷ ROOM ∷ SETTING ∷ TAKEN ∷ FULL ∷ SLOT ∷ TAGGED ∷ GROUP ∷ BATCH ∷ TRAILER ∷ []
-      ≡ 1 ∷ 2 ∷ 3 ∷ 4 ∷ 5 ∷ 6 ∷ 7 ∷ 8 ∷ 9 ∷ 10 ∷ 11 ∷ 12 ∷ 13 ∷ 14 ∷ 15 ∷ 16 ∷ []
+  pub refusals : TABLE ∷ NETWORK ∷ LONG ∷ SHORT ∷ UNTAGGED ∷ UNKNOWN ∷ DAMAGED ∷ ROOM ∷ SETTING ∷ TAKEN ∷ FULL ∷ SLOT ∷ TAGGED ∷ GROUP ∷ BATCH ∷ TRAILER ∷ INDEX ∷ []
+      ≡ 1 ∷ 2 ∷ 3 ∷ 4 ∷ 5 ∷ 6 ∷ 7 ∷ 8 ∷ 9 ∷ 10 ∷ 11 ∷ 12 ∷ 13 ∷ 14 ∷ 15 ∷ 16 ∷ 18 ∷ []
   -- an answer in plain fields, and the mark of a batch
   pub handed-up : tellArrival (answers (arrived 5 7 (handedUp 14))) ≡ record { slot = 5; length = 14; number = 7; verdict = 1; refusal = 0 }
   pub again : tellArrival (answers (arrived 5 7 duplicate)) ≡ record { slot = 5; length = 0; number = 7; verdict = 2; refusal = 0 }

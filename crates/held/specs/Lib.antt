@@ -1,5 +1,6 @@
 pub mod Cases
 pub mod Edges
 pub mod Written
+pub mod WrittenIndex
 pub mod ByOne
 pub mod Code

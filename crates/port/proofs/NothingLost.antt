@@ -4,14 +4,13 @@ use mathlib.Core.Path.{_≡_, refl, sym, ap, _∙_}
 use Prim.Native.Nat.{ℕ, zero, suc, _-_}
 use native.Mathlib.Omega.{arith}
 use mathlib.Core.Bool.{Bool, true, false, cond, not}
-use mathlib.Core.List.{List}
+use mathlib.Core.List.{List, [], _∷_}
 use lib.Dec.{eqb, ltb, leb}
 use lib.ListN.{length}
-use Rattle.refusal.specs.Checks.{Said}
+use Rattle.refusal.specs.Checks.{Said, Check, firstOf}
 use Rattle.refusal.specs.Checks.Said.{refused, answers}
-use Rattle.refusal.specs.Numbers.{TABLE, NETWORK, UNKNOWN, DAMAGED, ROOM, SETTING, TAKEN, FULL, SLOT}
+use Rattle.refusal.specs.Numbers.{TABLE, NETWORK, UNKNOWN, DAMAGED, ROOM, SETTING, TAKEN, FULL, SLOT, INDEX}
 use Rattle.refusal.proofs.Checks.{Positive, first-positive}
-use Rattle.record.specs.declared.Stream.{Stream}
 use Rattle.record.specs.Sizes.{slotsMost}
 use Rattle.frame.specs.Frame.{Tag, destOf, untagged}
 use Rattle.stream.specs.Record.{settled, lawful}
@@ -20,10 +19,13 @@ use Rattle.calls.specs.Table.{Table, at, search, someSlot, hasKey, isFree}
 use Rattle.calls.specs.Calls.{Call, arriving, opening, closing, resetting, ticking, Act, refuse, arrive, opens, closes, resets, ticks, Answer, Verdict, arrived, placed, done, handedUp, duplicate, rogue, arrivalAt, arrival, inUse, open-call, checked, act, answer}
 use Rattle.calls.specs.Refusals.{checksOf}
 use Rattle.calls.proofs.Exactly.{refused-exactly}
+use Rattle.index.specs.Index.{Index, indexed}
+use Rattle.index.specs.Indexed.{guarded, behindFirst, checksWith, rebuildChecks}
+use Rattle.index.proofs.Guard.{exactly}
 use Rattle.calls.specs.declared.ArrivalAnswer.{ArrivalAnswer}
 use Rattle.port.specs.declared.SlotAnswer.{SlotAnswer}
 use Rattle.calls.specs.Told.{tellArrival}
-use Rattle.port.specs.Answers.{tellOpened, tellDone, ArrivalTold, OpenTold, CloseTold, ResetTold}
+use Rattle.port.specs.Answers.{tellOpened, tellDone, ArrivalTold, ResetTold, OpenTold, CloseTold, RebuildTold}
 
 -- ---- no refusal has the number 0
 
@@ -35,8 +37,26 @@ positive t (closing i) = (omega arith, (omega arith, tt))
 positive t (resetting i) = (omega arith, (omega arith, (omega arith, tt)))
 positive t ticking = (omega arith, tt)
 
+positive-with : (ix : Index) (t : Table) (c : Call) → Positive (checksWith ix t c)
+unfolding checksWith behindFirst
+positive-with ix t c = go (checksOf t c) (positive t c)
+  where
+    k : Check
+    k = record { number = INDEX; holds = not (indexed ix t) }
+
+    go : (cs : List Check) → Positive cs → Positive (behindFirst k cs)
+    go [] p = (omega arith, tt)
+    go (d ∷ cs) p = (p .0, (omega arith, p .1))
+
+positive-rebuild : (ix : Index) (t : Table) → Positive (rebuildChecks ix t)
+unfolding rebuildChecks
+positive-rebuild ix t = (omega arith, (omega arith, tt))
+
 pub never : (t : Table) (c : Call) → answer t (act t c) ≡ refused 0 → ⊥
 never t c e = let z = first-positive 0 (checksOf t c) (positive t c) (refused-exactly t c 0 .0 e) in omega arith
+
+never-with : (ix : Index) (t : Table) (c : Call) → answer t (guarded ix t c) ≡ refused 0 → ⊥
+never-with ix t c e = let z = first-positive 0 (checksWith ix t c) (positive-with ix t c) (exactly ix t c 0 .0 e) in omega arith
 
 -- ---- what is told is read back
 
@@ -87,6 +107,11 @@ pub either : (P : Act → Type 0) (b : Bool) (n : ℕ) (a : Act) → P (refuse n
 either P true n a p q = p
 either P false n a p q = q
 
+-- nor do 1 and 18 before it
+behind : (P : Act → Type 0) → ((n : ℕ) → P (refuse n)) → (ix : Index) (t : Table) (c : Call) → P (checked t c) → P (guarded ix t c)
+unfolding guarded
+behind P r ix t c p = either P (ltb slotsMost (length t)) TABLE _ (r TABLE) (either P (not (indexed ix t)) INDEX _ (r INDEX) p)
+
 -- an arrival after 1 to 5 and 14
 read : (t : Table) (network : ℕ) (f out : List ℕ) (x : Said Tag) → Arrives (arrival t network f out x)
 unfolding arrivalAt arrival
@@ -106,27 +131,22 @@ unfolding act checked
 arrives t network f out =
     either Arrives (ltb slotsMost (length t)) TABLE _ tt (either Arrives (ltb 1 network) NETWORK _ tt (read t network f out _))
 
-opened : (t : Table) (dest : List ℕ) (vlan rule window time : ℕ) → Opens (act t (opening dest vlan rule window time))
-unfolding act checked open-call
-opened t dest vlan rule window time =
+opened : (ix : Index) (t : Table) (dest : List ℕ) (vlan rule window time : ℕ) → Opens (guarded ix t (opening dest vlan rule window time))
+unfolding checked open-call
+opened ix t dest vlan rule window time =
     let s = record′.opened (destOf dest) vlan rule window time in
-    go (ltb slotsMost (length t)) (not (settled s)) (someSlot (hasKey (s .dest) (s .vlan)) t) (not (someSlot isFree t)) (search isFree t) s
+    behind Opens (λ n. tt) ix t (opening dest vlan rule window time) (go (not (settled s)) (someSlot (hasKey (s .dest) (s .vlan)) t) (not (someSlot isFree t)) (opens (search isFree t) s) tt)
   where
-    go : (a b c d : Bool) (i : ℕ) (s : Stream) → Opens (cond a (refuse TABLE) (cond b (refuse SETTING) (cond c (refuse TAKEN) (cond d (refuse FULL) (opens i s)))))
-    go true b c d i s = tt
-    go false true c d i s = tt
-    go false false true d i s = tt
-    go false false false true i s = tt
-    go false false false false i s = tt
+    go : (b c d : Bool) (a : Act) → Opens a → Opens (cond b (refuse SETTING) (cond c (refuse TAKEN) (cond d (refuse FULL) a)))
+    go b c d a k = either Opens b SETTING _ tt (either Opens c TAKEN _ tt (either Opens d FULL a tt k))
 
-closed : (t : Table) (i : ℕ) → Slots (act t (closing i))
-unfolding act checked
-closed t i = go (ltb slotsMost (length t)) (inUse t i)
+closed : (ix : Index) (t : Table) (i : ℕ) → Slots (guarded ix t (closing i))
+unfolding checked
+closed ix t i = behind Slots (λ n. tt) ix t (closing i) (go (inUse t i))
   where
-    go : (a b : Bool) → Slots (cond a (refuse TABLE) (cond b (closes i) (refuse SLOT)))
-    go true b = tt
-    go false true = tt
-    go false false = tt
+    go : (b : Bool) → Slots (cond b (closes i) (refuse SLOT))
+    go true = tt
+    go false = tt
 
 reset : (t : Table) (i : ℕ) → Slots (act t (resetting i))
 unfolding act checked
@@ -183,12 +203,28 @@ pub arrival-told : ArrivalTold
 arrival-told t network f out u other g back =
     alike tellArrival readArrival _ _ (read-arrival t _ (arrives t network f out) (never t _)) (read-arrival u _ (arrives u other g back) (never u _))
 
-pub open-told : OpenTold
-open-told t dest vlan rule window time u dest′ vlan′ rule′ window′ time′ =
-    alike tellOpened readOpened _ _ (read-opened t _ (opened t dest vlan rule window time) (never t _)) (read-opened u _ (opened u dest′ vlan′ rule′ window′ time′) (never u _))
-
-pub close-told : CloseTold
-close-told t i u j = alike tellDone readDone _ _ (read-done t _ (closed t i) (never t _)) (read-done u _ (closed u j) (never u _))
-
 pub reset-told : ResetTold
 reset-told t i u j = alike tellDone readDone _ _ (read-done t _ (reset t i) (never t _)) (read-done u _ (reset u j) (never u _))
+
+pub open-told : OpenTold
+open-told ix t dest vlan rule window time jx u dest′ vlan′ rule′ window′ time′ =
+    alike tellOpened readOpened _ _ (read-opened t _ (opened ix t dest vlan rule window time) (never-with ix t _))
+    (read-opened u _ (opened jx u dest′ vlan′ rule′ window′ time′) (never-with jx u _))
+
+pub close-told : CloseTold
+close-told ix t i jx u j =
+    alike tellDone readDone _ _ (read-done t _ (closed ix t i) (never-with ix t _)) (read-done u _ (closed jx u j) (never-with jx u _))
+
+-- the rebuild's answer is that of its list of checks
+read-first : (cs : List Check) → Positive cs → readDone (tellDone (firstOf cs done)) ≡ firstOf cs done
+unfolding firstOf
+read-first [] p = refl
+read-first (c ∷ cs) p = go (c .holds) (read-first cs (p .1))
+  where
+    go : (b : Bool) → readDone (tellDone (firstOf cs done)) ≡ firstOf cs done
+        → readDone (tellDone (cond b (refused (c .number)) (firstOf cs done))) ≡ cond b (refused (c .number)) (firstOf cs done)
+    go true rest = read-refused (c .number) _ (λ e. let z : c .number ≡ 0 = cc in omega (arith, p .0, z))
+    go false rest = rest
+
+pub rebuild-told : RebuildTold
+rebuild-told ix t jx u = alike tellDone readDone _ _ (read-first _ (positive-rebuild ix t)) (read-first _ (positive-rebuild jx u))

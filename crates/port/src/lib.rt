@@ -7,7 +7,7 @@ ghost use Rattle.calls.specs.Calls.{arriving, opening, closing, resetting};
 ghost use Rattle.calls.specs.Said.{saidOpened, saidDone};
 ghost use Rattle.calls.specs.Told.{tellArrival};
 ghost use Rattle.port.specs.Tags.{tellTaken, tellWritten};
-ghost use Rattle.port.specs.Answers.{tellOpened, tellDone, MeetsInC};
+ghost use Rattle.port.specs.Answers.{tellOpened, tellDone, MeetsInC, MeetsIndexedInC, MeetsRebuildInC};
 ghost use Rattle.port.specs.Sending.{SendsInC, tellSent};
 ghost use Rattle.sender.specs.Sender.{atFirst, saidSent};
 use calls::ArrivalAnswer;
@@ -162,15 +162,6 @@ pub extern "C" fn nippitsun_arrival(
     calls::tell_arrival(a)
 }
 
-// Close.
-#[no_mangle]
-pub extern "C" fn nippitsun_close(table: &mut [Stream], slot: usize) -> u8
-    ensures { λ r. ⌜ MeetsInC tellDone (now (table .entry)) (closing slot) r (now (table .exit)) [] ⌝ }
-{
-    let a = receiver::close(table, slot);
-    tell_done(a)
-}
-
 // Reset.
 #[no_mangle]
 pub extern "C" fn nippitsun_reset(table: &mut [Stream], slot: usize) -> u8
@@ -180,19 +171,41 @@ pub extern "C" fn nippitsun_reset(table: &mut [Stream], slot: usize) -> u8
     tell_done(a)
 }
 
+// ---- the calls that take the index beside the table. A slice of any length may be lent: 18 refuses one that is not of 128
+// places, so that nothing is asked of the caller.
+
 // Open. The destination is six bytes.
 #[no_mangle]
 pub extern "C" fn nippitsun_open(
     table: &mut [Stream],
+    index: &mut [u8],
     dest: &[u8; 6],
     vlan: u16,
     rule: u8,
     window: u16,
     time: u16,
 ) -> SlotAnswer
-    ensures { λ r. ⌜ MeetsInC tellOpened (now (table .entry)) (opening (now (dest .entry)) vlan rule window time) r (now (table .exit)) [] ⌝ }
+    ensures { λ r. ⌜ MeetsIndexedInC tellOpened (now (index .entry)) (now (table .entry)) (opening (now (dest .entry)) vlan rule window time) r (now (table .exit)) (now (index .exit)) ⌝ }
 {
     let d = six_of(dest);
-    let a = receiver::open(table, d, vlan, rule, window, time);
+    let a = receiver::open(table, index, d, vlan, rule, window, time);
     tell_opened(a)
+}
+
+// Close.
+#[no_mangle]
+pub extern "C" fn nippitsun_close(table: &mut [Stream], index: &mut [u8], slot: usize) -> u8
+    ensures { λ r. ⌜ MeetsIndexedInC tellDone (now (index .entry)) (now (table .entry)) (closing slot) r (now (table .exit)) (now (index .exit)) ⌝ }
+{
+    let a = receiver::close(table, index, slot);
+    tell_done(a)
+}
+
+// Rebuild of the index from the table, which stays as it is.
+#[no_mangle]
+pub extern "C" fn nippitsun_rebuild(table: &[Stream], index: &mut [u8]) -> u8
+    ensures { λ r. ⌜ MeetsRebuildInC (now (index .entry)) (now (table .entry)) r (now (index .exit)) ⌝ }
+{
+    let a = receiver::rebuild(table, index);
+    tell_done(a)
 }

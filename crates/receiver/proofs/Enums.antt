@@ -37,6 +37,9 @@ use Rattle.calls.proofs.Judged.Laws as Judged-laws
 use Rattle.calls.specs.declared.Answer.{Answer}
 use Rattle.calls.proofs.Answer as Answer-type
 use Rattle.calls.proofs.Answer.Laws as Answer-laws
+use Rattle.receiver.specs.declared.Named.{Named}
+use Rattle.receiver.proofs.Named as Named-type
+use Rattle.receiver.proofs.Named.Laws as Named-laws
 
 -- ---- Found
 abbrev pub found-row : RattleType
@@ -226,3 +229,30 @@ module _ {M : Type 1} (𝓤 : URA M) (H : Heap 𝓤) (A : Atoms 𝓤) (W : Given
 module _ {M : Type 1} {𝓤 : URA M} {H : Heap 𝓤} {A : Atoms 𝓤} {K : Type 0} {W : Given 𝓤 H A} {Γ : List (Item 𝓤)} {G : Goal 𝓤 H} where
   pub answer-has : K → (v : Answer) → answer-ok v → Step K W (‵ (answer-row .own v (answer-val v ∷ [])) ∷ Γ) G Γ G
   answer-has t v g = owned t answer-row (Is answer-row) (Enum-laws.makes Answer-type.the-type Answer-laws.the-plain 𝓤 H A) v _ g
+
+-- ---- Named
+abbrev pub named-row : RattleType
+named-row = Named-type.the-row
+
+abbrev pub named-ty : Ty
+named-ty = Named-laws.mir
+
+abbrev pub named-val : Named → Val
+named-val = Enum-laws.val Named-type.the-type Named-laws.the-laws
+
+abbrev pub named-spells : Named → List Val
+named-spells = Enum-laws.vals Named-type.the-type Named-laws.the-laws
+
+pub named-tells : Tells named-row (Is named-row) named-spells
+named-tells = Enum-laws.tells Named-type.the-type Named-laws.the-laws
+
+abbrev pub named-ok : Named → Type 0
+named-ok v = Is named-row v (named-val v ∷ [])
+
+module _ {M : Type 1} (𝓤 : URA M) (H : Heap 𝓤) (A : Atoms 𝓤) (W : Given 𝓤 H A) where
+  pub named-typed : (v : Named) → named-ok v → T (hasTy named-ty (named-val v)) × WT (named-val v)
+  named-typed v g = Enum-laws.lawful Named-type.the-type Named-laws.the-laws 𝓤 H A W tt .typed v _ g .0
+
+module _ {M : Type 1} {𝓤 : URA M} {H : Heap 𝓤} {A : Atoms 𝓤} {K : Type 0} {W : Given 𝓤 H A} {Γ : List (Item 𝓤)} {G : Goal 𝓤 H} where
+  pub named-has : K → (v : Named) → named-ok v → Step K W (‵ (named-row .own v (named-val v ∷ [])) ∷ Γ) G Γ G
+  named-has t v g = owned t named-row (Is named-row) (Enum-laws.makes Named-type.the-type Named-laws.the-plain 𝓤 H A) v _ g

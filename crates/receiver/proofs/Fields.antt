@@ -37,9 +37,15 @@ use Rattle.stream.specs.declared.Marks.{Marks}
 use Rattle.calls.specs.declared.Judged.{Judged}
 use Rattle.calls.proofs.Judged as Judged-type
 use Rattle.calls.proofs.Judged.Laws as Judged-laws
+use Rattle.receiver.specs.declared.Named.{Named}
+use Rattle.receiver.proofs.Named as Named-type
+use Rattle.receiver.proofs.Named.Laws as Named-laws
+use Rattle.receiver.specs.declared.Holder.{Holder}
+use Rattle.receiver.proofs.Holder as Holder-type
+use Rattle.receiver.proofs.Holder.Laws as Holder-laws
 use Rattle.receiver.proofs.Rows.{Ok}
-use Rattle.receiver.proofs.Values.{sums-ok, visited-ok, change-ok, placing-ok, header-ok, marks-ok}
-use Rattle.receiver.proofs.Enums.{found-ok, done-ok, swept-ok, opened-ok, asked-ok, judged-ok}
+use Rattle.receiver.proofs.Values.{sums-ok, visited-ok, change-ok, placing-ok, header-ok, marks-ok, holder-ok}
+use Rattle.receiver.proofs.Enums.{found-ok, done-ok, swept-ok, opened-ok, asked-ok, judged-ok, named-ok}
 
 pub at-ok : (i : ℕ) → i < 2 ^ 64 → found-ok (Found.At i)
 at-ok i g = Enum-laws.owes Found-type.the-type Found-laws.the-laws (Found.At i) ((refl, g), tt)
@@ -84,6 +90,9 @@ opened-refused n g = Enum-laws.owes Opened-type.the-type Opened-laws.the-laws (O
 pub done-refused : (n : ℕ) → n < 2 ^ 8 → done-ok (Done.Refused n)
 done-refused n g = Enum-laws.owes Done-type.the-type Done-laws.the-laws (Done.Refused n) ((refl, g), tt)
 
+pub done-so : done-ok Done.Ok
+done-so = Enum-laws.owes Done-type.the-type Done-laws.the-laws Done.Ok tt
+
 pub swept-refused : (n : ℕ) → n < 2 ^ 8 → swept-ok (Swept.Refused n)
 swept-refused n g = Enum-laws.owes Swept-type.the-type Swept-laws.the-laws (Swept.Refused n) ((refl, g), tt)
 
@@ -99,6 +108,9 @@ asked-header h number g = Enum-laws.owed Asked-type.the-type Asked-laws.the-laws
 pub asked-number : (h : Header) (number : ℕ) → asked-ok (Asked.For h number) → number < 2 ^ 16
 asked-number h number g = Enum-laws.owed Asked-type.the-type Asked-laws.the-laws (Asked.For h number) _ g .1 .0 .1
 
+pub judged-refused : (n : ℕ) → n < 2 ^ 8 → judged-ok (Judged.Refused n)
+judged-refused n g = Enum-laws.owes Judged-type.the-type Judged-laws.the-laws (Judged.Refused n) ((refl, g), tt)
+
 -- what a frame that is handed up marks
 pub judged-marks : (m : Marks) → judged-ok (Judged.HandedUp m) → marks-ok m
 judged-marks m g = Enum-laws.owed Judged-type.the-type Judged-laws.the-laws (Judged.HandedUp m) _ g .0
@@ -111,3 +123,13 @@ header-vlan h g = Struct-laws.owed Header-type.the-type Header-laws.the-laws h _
 
 pub header-at : (h : Header) → header-ok h → h .at < 2 ^ 64
 header-at h g = Struct-laws.owed Header-type.the-type Header-laws.the-laws h _ g .1 .1 .0 .1
+
+-- what a place of the index names, and the key of a slot
+pub slot-fits : (i : ℕ) → named-ok (Named.Slot i) → i < 2 ^ 64
+slot-fits i g = Enum-laws.owed Named-type.the-type Named-laws.the-laws (Named.Slot i) _ g .0 .1
+
+pub holder-dest : (h : Holder) → holder-ok h → h .dest < 2 ^ 64
+holder-dest h g = Struct-laws.owed Holder-type.the-type Holder-laws.the-laws h _ g .0 .1
+
+pub holder-vlan : (h : Holder) → holder-ok h → h .vlan < 2 ^ 16
+holder-vlan h g = Struct-laws.owed Holder-type.the-type Holder-laws.the-laws h _ g .1 .0 .1

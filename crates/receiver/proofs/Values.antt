@@ -42,6 +42,9 @@ use Rattle.frame.proofs.Header.Laws as Header-laws
 use Rattle.stream.specs.declared.Marks.{Marks}
 use Rattle.stream.proofs.Marks as Marks-type
 use Rattle.stream.proofs.Marks.Laws as Marks-laws
+use Rattle.receiver.specs.declared.Holder.{Holder}
+use Rattle.receiver.proofs.Holder as Holder-type
+use Rattle.receiver.proofs.Holder.Laws as Holder-laws
 
 -- ---- Survey
 abbrev pub survey-row : RattleType
@@ -231,6 +234,33 @@ module _ {M : Type 1} (𝓤 : URA M) (H : Heap 𝓤) (A : Atoms 𝓤) (W : Given
 module _ {M : Type 1} {𝓤 : URA M} {H : Heap 𝓤} {A : Atoms 𝓤} {K : Type 0} {W : Given 𝓤 H A} {Γ : List (Item 𝓤)} {G : Goal 𝓤 H} where
   pub marks-has : K → (v : Marks) → marks-ok v → Step K W (‵ (marks-row .own v (marks-val v ∷ [])) ∷ Γ) G Γ G
   marks-has t v g = owned t marks-row (Is marks-row) (Struct-laws.makes Marks-type.the-type Marks-laws.the-plain 𝓤 H A) v _ g
+
+-- ---- Holder
+abbrev pub holder-row : RattleType
+holder-row = Holder-type.the-row
+
+abbrev pub holder-ty : Ty
+holder-ty = Holder-laws.mir
+
+abbrev pub holder-val : Holder → Val
+holder-val = Struct-laws.val Holder-type.the-type Holder-laws.the-laws
+
+abbrev pub holder-spells : Holder → List Val
+holder-spells = Struct-laws.vals Holder-type.the-type Holder-laws.the-laws
+
+pub holder-tells : Tells holder-row (Is holder-row) holder-spells
+holder-tells = Struct-laws.tells Holder-type.the-type Holder-laws.the-laws
+
+abbrev pub holder-ok : Holder → Type 0
+holder-ok v = Is holder-row v (holder-val v ∷ [])
+
+module _ {M : Type 1} (𝓤 : URA M) (H : Heap 𝓤) (A : Atoms 𝓤) (W : Given 𝓤 H A) where
+  pub holder-typed : (v : Holder) → holder-ok v → T (hasTy holder-ty (holder-val v)) × WT (holder-val v)
+  holder-typed v g = Struct-laws.lawful Holder-type.the-type Holder-laws.the-laws 𝓤 H A W .typed v _ g .0
+
+module _ {M : Type 1} {𝓤 : URA M} {H : Heap 𝓤} {A : Atoms 𝓤} {K : Type 0} {W : Given 𝓤 H A} {Γ : List (Item 𝓤)} {G : Goal 𝓤 H} where
+  pub holder-has : K → (v : Holder) → holder-ok v → Step K W (‵ (holder-row .own v (holder-val v ∷ [])) ∷ Γ) G Γ G
+  holder-has t v g = owned t holder-row (Is holder-row) (Struct-laws.makes Holder-type.the-type Holder-laws.the-plain 𝓤 H A) v _ g
 
 -- ---- Six: 6 bytes, [u8; 6]
 abbrev pub Six : Type 0

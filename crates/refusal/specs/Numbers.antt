@@ -65,3 +65,7 @@ BATCH = 15
 -- no trailer of the set kind with a fitting size and a LAN of A or B (order 7)
 abbrev pub TRAILER : ℕ
 TRAILER = 16
+
+-- index not of 128 places or not in agreement with the table (order 9; 17 is no refusal's number)
+abbrev pub INDEX : ℕ
+INDEX = 18

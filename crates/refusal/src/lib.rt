@@ -48,3 +48,6 @@ pub const BATCH: u8 = 15;
 
 // No trailer of the set kind with a fitting size and a LAN of A or B (order 7).
 pub const TRAILER: u8 = 16;
+
+// Index not of 128 places or not in agreement with the table (order 9). (17 is no refusal's number.)
+pub const INDEX: u8 = 18;

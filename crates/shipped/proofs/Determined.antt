@@ -9,6 +9,9 @@ use Rattle.frame.specs.Laws.{Telling}
 use Rattle.calls.specs.Table.{Table}
 use Rattle.calls.specs.Calls.{Call, Answer, Result, Meets}
 use Rattle.calls.proofs.Kept.{coincide}
+use Rattle.index.specs.Index.{Index}
+use Rattle.index.specs.Indexed.{Indexed, MeetsIndexed, MeetsRebuild}
+use Rattle.index.proofs.Kept.{indexed-determined}
 use Rattle.batch.specs.Batch.{Bundle}
 use Rattle.sender.specs.Sender.{Numbered, Sends}
 use Rattle.prp.specs.Prp.{saidTurned}
@@ -27,6 +30,17 @@ pub on-table : {A : Type 0} {tell : Said Answer → A} {t : Table} {c : Call} {a
 on-table {t = t} {c = c} p q =
     let e = coincide t c _ _ (p .given) (q .given) in
     (same-told _ _ _ p q (ap (λ (r : Result). r .said) e), ap (λ (r : Result). r .table) e, ap (λ (r : Result). r .output) e)
+
+pub with-index : {A : Type 0} {tell : Said Answer → A} {ix : Index} {t : Table} {c : Call} {a b : A} {u v : Table} {jx kx : Index}
+    → PlainFields tell a (λ s. MeetsIndexed ix t c (record { said = s; table = u; index = jx })) → PlainFields tell b (λ s. MeetsIndexed ix t c (record { said = s; table = v; index = kx }))
+    → (a ≡ b) × (u ≡ v) × (jx ≡ kx)
+with-index {ix = ix} {t = t} {c = c} p q =
+    let e = indexed-determined ix t c _ _ (p .given) (q .given) in
+    (same-told _ _ _ p q (ap (λ (r : Indexed). r .said) e), ap (λ (r : Indexed). r .table) e, ap (λ (r : Indexed). r .index) e)
+
+pub rebuilds : {A : Type 0} {tell : Said Answer → A} {ix : Index} {t : Table} {a b : A} {jx kx : Index}
+    → PlainFields tell a (λ s. MeetsRebuild ix t s jx) → PlainFields tell b (λ s. MeetsRebuild ix t s kx) → (a ≡ b) × (jx ≡ kx)
+rebuilds p q = (same-told _ _ _ p q (p .given .said ∙ sym (q .given .said)), p .given .index ∙ sym (q .given .index))
 
 pub no-table : {S A : Type 0} {tell : Said S → A} {o : Outcome S} {a b : A} {x y : List ℕ}
     → PlainFields tell a (λ s. record { said = s; bytes = x } ≡ o) → PlainFields tell b (λ s. record { said = s; bytes = y } ≡ o) → (a ≡ b) × (x ≡ y)

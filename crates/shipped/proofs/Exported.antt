@@ -16,8 +16,10 @@ use Rattle.frame.specs.TagCalls.{Outcome, takeTag, writeTag}
 use Rattle.calls.specs.Table.{Table}
 use Rattle.calls.specs.Calls.{Call, Answer, arriving, opening, closing, resetting, ticking, act, answer, Meets}
 use Rattle.calls.specs.Told.{tellArrival}
-use Rattle.batch.specs.Batch.{Batch, batchOf}
-use Rattle.batch.specs.Told.{tellBatch, MeetsBatch}
+use Rattle.index.specs.Index.{Index}
+use Rattle.index.specs.Indexed.{guarded, MeetsIndexed, MeetsRebuild}
+use Rattle.batch.specs.Told.{tellBatch}
+use Rattle.batch.specs.Indexed.{batchBy, MeetsBatchBy}
 use Rattle.demands.specs.Code.{Ensures}
 use Rattle.demands.proofs.Follows.{follows, EnsuresBoth, both-follow}
 use Rattle.sender.specs.declared.Sender.{Sender}
@@ -26,7 +28,7 @@ use Rattle.prp.specs.Prp.{fromPrp, toPrp}
 use Rattle.port.specs.declared.TagAnswer.{TagAnswer}
 use Rattle.port.specs.Tags.{tellTaken, tellWritten}
 use Rattle.port.specs.Sending.{tellSent, senderAt, SendsInC}
-use Rattle.port.specs.Answers.{tellOpened, tellDone, MeetsInC}
+use Rattle.port.specs.Answers.{tellOpened, tellDone, MeetsInC, MeetsIndexedInC, MeetsRebuildInC}
 use Rattle.port_tick.specs.Tick.{tellSwept}
 use Rattle.port_prp.specs.Lines.{lineOf, tellTurned}
 use Rattle.port.proofs.nippitsun_arrival.{ended as arrivalEnded}
@@ -38,6 +40,9 @@ use Rattle.port.proofs.nippitsun_open.Symbol.{routine as openCode}
 use Rattle.port.proofs.nippitsun_close.{ended as closeEnded}
 use Rattle.port.proofs.nippitsun_close.Met as close
 use Rattle.port.proofs.nippitsun_close.Symbol.{routine as closeCode}
+use Rattle.port.proofs.nippitsun_rebuild.{ended as rebuildEnded}
+use Rattle.port.proofs.nippitsun_rebuild.Met as rebuild
+use Rattle.port.proofs.nippitsun_rebuild.Symbol.{routine as rebuildCode}
 use Rattle.port.proofs.nippitsun_reset.{ended as resetEnded}
 use Rattle.port.proofs.nippitsun_reset.Met as reset
 use Rattle.port.proofs.nippitsun_reset.Symbol.{routine as resetCode}
@@ -80,6 +85,18 @@ module _ {M : Type 1} (𝓤 : URA M) (H : Heap 𝓤) (𝓜 : Model 𝓤 H) (𝓖
       (λ κs a r e. PlainFields (tell κs) r (λ s. Meets (t κs a) (c κs a) (record { said = s; table = rows κs e; output = bytes κs e })))
       (λ κs a r e m. record { said = answer (t κs a) (act (t κs a) (c κs a)); fields = m .said; given = record { said = refl; table = m .table; output = m .output } })
 
+  -- a call on a table and an index: the index, the table, the call; both then
+  with-index : (tell : (κs : Lfts (T .signature .lifetimes)) → Said Answer → Res (T .signature) κs)
+      (ix : (κs : Lfts (T .signature .lifetimes)) → Args (T .signature) κs → Index) (t : (κs : Lfts (T .signature .lifetimes)) → Args (T .signature) κs → Table)
+      (c : (κs : Lfts (T .signature .lifetimes)) → Args (T .signature) κs → Call)
+      (rows : (κs : Lfts (T .signature .lifetimes)) → AtExit T κs → Table) (bytes : (κs : Lfts (T .signature .lifetimes)) → AtExit T κs → Index)
+      → Ensures 𝓤 H 𝓜 𝓖 𝓡 T code (λ κs a r e. MeetsIndexedInC (tell κs) (ix κs a) (t κs a) (c κs a) r (rows κs e) (bytes κs e))
+      → Ensures 𝓤 H 𝓜 𝓖 𝓡 T code (λ κs a r e. PlainFields (tell κs) r (λ s. MeetsIndexed (ix κs a) (t κs a) (c κs a) (record { said = s; table = rows κs e; index = bytes κs e })))
+  with-index tell ix t c rows bytes =
+      follows 𝓤 H 𝓜 𝓖 𝓡 T code (λ κs a r e. MeetsIndexedInC (tell κs) (ix κs a) (t κs a) (c κs a) r (rows κs e) (bytes κs e))
+      (λ κs a r e. PlainFields (tell κs) r (λ s. MeetsIndexed (ix κs a) (t κs a) (c κs a) (record { said = s; table = rows κs e; index = bytes κs e })))
+      (λ κs a r e m. record { said = answer (t κs a) (guarded (ix κs a) (t κs a) (c κs a)); fields = m .said; given = record { said = refl; table = m .table; index = m .index } })
+
   -- a call that has none: how it is told, the bytes then, and the outcome
   no-table : {A : Type 0} (tell : (κs : Lfts (T .signature .lifetimes)) → Args (T .signature) κs → Said A → Res (T .signature) κs)
       (bytes : (κs : Lfts (T .signature .lifetimes)) → AtExit T κs → List ℕ) (o : (κs : Lfts (T .signature .lifetimes)) → Args (T .signature) κs → Outcome A)
@@ -106,12 +123,19 @@ exports-meet M 𝓤 H 𝓜 𝓖 𝓡 = record {
     determines = λ κs a r s e f p q. let d = determined.on-table p q in (d .0, λ i. (d .1 i, d .2 i));
   };
   open-stream = record {
-    ensures = on-table 𝓤 H 𝓜 𝓖 𝓡 openEnded openCode (λ κs. tellOpened) (λ κs a. now (a .0)) (λ κs a. opening (now (a .1 .0)) (a .1 .1 .0) (a .1 .1 .1 .0) (a .1 .1 .1 .1 .0) (a .1 .1 .1 .1 .1 .0)) (λ κs e. now (e .0)) (λ κs e. []) (open-stream.met 𝓤 H 𝓜 𝓖 𝓡);
-    determines = λ κs a r s e f p q. let d = determined.on-table p q in (d .0, d .1);
+    ensures = with-index 𝓤 H 𝓜 𝓖 𝓡 openEnded openCode (λ κs. tellOpened) (λ κs a. now (a .1 .0)) (λ κs a. now (a .0)) (λ κs a. opening (now (a .1 .1 .0)) (a .1 .1 .1 .0) (a .1 .1 .1 .1 .0) (a .1 .1 .1 .1 .1 .0) (a .1 .1 .1 .1 .1 .1 .0)) (λ κs e. now (e .0)) (λ κs e. now (e .1 .0)) (open-stream.met 𝓤 H 𝓜 𝓖 𝓡);
+    determines = λ κs a r s e f p q. let d = determined.with-index p q in (d .0, λ i. (d .1 i, d .2 i));
   };
   close = record {
-    ensures = on-table 𝓤 H 𝓜 𝓖 𝓡 closeEnded closeCode (λ κs. tellDone) (λ κs a. now (a .0)) (λ κs a. closing (a .1 .0)) (λ κs e. now (e .0)) (λ κs e. []) (close.met 𝓤 H 𝓜 𝓖 𝓡);
-    determines = λ κs a r s e f p q. let d = determined.on-table p q in (d .0, d .1);
+    ensures = with-index 𝓤 H 𝓜 𝓖 𝓡 closeEnded closeCode (λ κs. tellDone) (λ κs a. now (a .1 .0)) (λ κs a. now (a .0)) (λ κs a. closing (a .1 .1 .0)) (λ κs e. now (e .0)) (λ κs e. now (e .1 .0)) (close.met 𝓤 H 𝓜 𝓖 𝓡);
+    determines = λ κs a r s e f p q. let d = determined.with-index p q in (d .0, λ i. (d .1 i, d .2 i));
+  };
+  rebuild = record {
+    ensures = follows 𝓤 H 𝓜 𝓖 𝓡 rebuildEnded rebuildCode
+        (λ κs (t, (ix, _)) r (_, (ix′, _)). MeetsRebuildInC (now ix) (now t) r (now ix′))
+        (λ κs (t, (ix, _)) r (_, (ix′, _)). PlainFields tellDone r (λ s. MeetsRebuild (now ix) (now t) s (now ix′)))
+        (λ κs a r e m. record { said = _; fields = m .said; given = record { said = refl; index = m .index } }) (rebuild.met 𝓤 H 𝓜 𝓖 𝓡);
+    determines = λ κs a r s e f p q. determined.rebuilds p q;
   };
   reset = record {
     ensures = on-table 𝓤 H 𝓜 𝓖 𝓡 resetEnded resetCode (λ κs. tellDone) (λ κs a. now (a .0)) (λ κs a. resetting (a .1 .0)) (λ κs e. now (e .0)) (λ κs e. []) (reset.met 𝓤 H 𝓜 𝓖 𝓡);
@@ -123,9 +147,9 @@ exports-meet M 𝓤 H 𝓜 𝓖 𝓡 = record {
   };
   batch = record {
     ensures = follows 𝓤 H 𝓜 𝓖 𝓡 batchEnded batchCode
-        (λ κs (t, (network, (count, (frames, (out, _))))) r (t′, (_, (_, (_, (out′, _))))). MeetsBatch (now t) (record { network = network; count = count; frames = now frames; out = now out }) r (now t′) (now out′))
-        (λ κs (t, (network, (count, (frames, (out, _))))) r (t′, (_, (_, (_, (out′, _))))).
-        PlainFields tellBatch r (λ b. (b ≡ batchOf (now t) (record { network = network; count = count; frames = now frames; out = now out })) × (now t′ ≡ b .table) × (now out′ ≡ b .output)))
+        (λ κs (t, (ix, (network, (count, (frames, (out, _)))))) r (t′, (_, (_, (_, (_, (out′, _)))))). MeetsBatchBy (now ix) (now t) (record { network = network; count = count; frames = now frames; out = now out }) r (now t′) (now out′))
+        (λ κs (t, (ix, (network, (count, (frames, (out, _)))))) r (t′, (_, (_, (_, (_, (out′, _)))))).
+        PlainFields tellBatch r (λ b. (b ≡ batchBy (now ix) (now t) (record { network = network; count = count; frames = now frames; out = now out })) × (now t′ ≡ b .table) × (now out′ ≡ b .output)))
         (λ κs a r e m. record { said = _; fields = m .said; given = (refl, m .table, m .output) }) (batch.met 𝓤 H 𝓜 𝓖 𝓡);
     determines = λ κs a r s e f p q. let d = determined.batches p q in (d .0, λ i. (d .1 i, d .2 i));
   };

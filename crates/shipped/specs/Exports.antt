@@ -13,8 +13,10 @@ use Rattle.frame.specs.TagCalls.{takeTag, writeTag}
 use Rattle.calls.specs.Table.{Table}
 use Rattle.calls.specs.Calls.{arriving, opening, closing, resetting, ticking, Meets}
 use Rattle.calls.specs.Told.{tellArrival}
-use Rattle.batch.specs.Batch.{Batch, batchOf}
+use Rattle.index.specs.Index.{Index}
+use Rattle.index.specs.Indexed.{MeetsIndexed, MeetsRebuild}
 use Rattle.batch.specs.Told.{tellBatch}
+use Rattle.batch.specs.Indexed.{batchBy}
 use Rattle.sender.specs.Sender.{resetOf, sendOf}
 use Rattle.prp.specs.Prp.{fromPrp, toPrp}
 use Rattle.port.specs.Tags.{tellTaken, tellWritten}
@@ -28,6 +30,8 @@ use Rattle.port.proofs.nippitsun_open.{ended as openEnded}
 use Rattle.port.proofs.nippitsun_open.Symbol.{routine as openCode}
 use Rattle.port.proofs.nippitsun_close.{ended as closeEnded}
 use Rattle.port.proofs.nippitsun_close.Symbol.{routine as closeCode}
+use Rattle.port.proofs.nippitsun_rebuild.{ended as rebuildEnded}
+use Rattle.port.proofs.nippitsun_rebuild.Symbol.{routine as rebuildCode}
 use Rattle.port.proofs.nippitsun_reset.{ended as resetEnded}
 use Rattle.port.proofs.nippitsun_reset.Symbol.{routine as resetCode}
 use Rattle.port_tick.proofs.nippitsun_tick.{ended as tickEnded}
@@ -60,21 +64,24 @@ module _ {M : Type 1} (𝓤 : URA M) (H : Heap 𝓤) (𝓜 : Model 𝓤 H) (𝓖
     pub arrival : Ships 𝓤 H 𝓜 𝓖 𝓡 arrivalEnded arrivalCode (λ κs (t, (network, (frame, (out, _)))) r (t′, (_, (_, (out′, _)))).
         PlainFields tellArrival r (λ s. Meets (now t) (arriving network (now frame) (now out)) (record { said = s; table = now t′; output = now out′ })))
         {X = Table × List ℕ} (λ κs (t′, (_, (_, (out′, _)))). (now t′, now out′))
-    pub open-stream : Ships 𝓤 H 𝓜 𝓖 𝓡 openEnded openCode (λ κs (t, (dest, (vlan, (rule, (window, (time, _)))))) r (t′, _).
-        PlainFields tellOpened r (λ s. Meets (now t) (opening (now dest) vlan rule window time) (record { said = s; table = now t′; output = [] })))
-        {X = Table} (λ κs (t′, _). now t′)
-    pub close : Ships 𝓤 H 𝓜 𝓖 𝓡 closeEnded closeCode (λ κs (t, (slot, _)) r (t′, _).
-        PlainFields tellDone r (λ s. Meets (now t) (closing slot) (record { said = s; table = now t′; output = [] })))
-        {X = Table} (λ κs (t′, _). now t′)
+    pub open-stream : Ships 𝓤 H 𝓜 𝓖 𝓡 openEnded openCode (λ κs (t, (ix, (dest, (vlan, (rule, (window, (time, _))))))) r (t′, (ix′, _)).
+        PlainFields tellOpened r (λ s. MeetsIndexed (now ix) (now t) (opening (now dest) vlan rule window time) (record { said = s; table = now t′; index = now ix′ })))
+        {X = Table × Index} (λ κs (t′, (ix′, _)). (now t′, now ix′))
+    pub close : Ships 𝓤 H 𝓜 𝓖 𝓡 closeEnded closeCode (λ κs (t, (ix, (slot, _))) r (t′, (ix′, _)).
+        PlainFields tellDone r (λ s. MeetsIndexed (now ix) (now t) (closing slot) (record { said = s; table = now t′; index = now ix′ })))
+        {X = Table × Index} (λ κs (t′, (ix′, _)). (now t′, now ix′))
+    pub rebuild : Ships 𝓤 H 𝓜 𝓖 𝓡 rebuildEnded rebuildCode (λ κs (t, (ix, _)) r (_, (ix′, _)).
+        PlainFields tellDone r (λ s. MeetsRebuild (now ix) (now t) s (now ix′)))
+        {X = Index} (λ κs (_, (ix′, _)). now ix′)
     pub reset : Ships 𝓤 H 𝓜 𝓖 𝓡 resetEnded resetCode (λ κs (t, (slot, _)) r (t′, _).
         PlainFields tellDone r (λ s. Meets (now t) (resetting slot) (record { said = s; table = now t′; output = [] })))
         {X = Table} (λ κs (t′, _). now t′)
     pub tick : Ships 𝓤 H 𝓜 𝓖 𝓡 tickEnded tickCode (λ κs (t, _) r (t′, _).
         PlainFields tellSwept r (λ s. Meets (now t) ticking (record { said = s; table = now t′; output = [] })))
         {X = Table} (λ κs (t′, _). now t′)
-    pub batch : Ships 𝓤 H 𝓜 𝓖 𝓡 batchEnded batchCode (λ κs (t, (network, (count, (frames, (out, _))))) r (t′, (_, (_, (_, (out′, _))))).
-        PlainFields tellBatch r (λ b. (b ≡ batchOf (now t) (record { network = network; count = count; frames = now frames; out = now out })) × (now t′ ≡ b .table) × (now out′ ≡ b .output)))
-        {X = Table × List ℕ} (λ κs (t′, (_, (_, (_, (out′, _))))). (now t′, now out′))
+    pub batch : Ships 𝓤 H 𝓜 𝓖 𝓡 batchEnded batchCode (λ κs (t, (ix, (network, (count, (frames, (out, _)))))) r (t′, (_, (_, (_, (_, (out′, _)))))).
+        PlainFields tellBatch r (λ b. (b ≡ batchBy (now ix) (now t) (record { network = network; count = count; frames = now frames; out = now out })) × (now t′ ≡ b .table) × (now out′ ≡ b .output)))
+        {X = Table × List ℕ} (λ κs (t′, (_, (_, (_, (_, (out′, _)))))). (now t′, now out′))
     pub take : Ships 𝓤 H 𝓜 𝓖 𝓡 takeEnded takeCode (λ κs (frame, (out, _)) r (_, (out′, _)).
         PlainFields tellTaken r (λ s. record { said = s; bytes = now out′ } ≡ takeTag (now frame) (now out)))
         {X = List ℕ} (λ κs (_, (out′, _)). now out′)

@@ -2,7 +2,7 @@
 use mathlib.Core.Path.{sym, _∙_}
 use native.Mathlib.Omega.{arith}
 use borrow.Author.Needs.{needs}
-use Rattle.batch.proofs.Bodies.{no-table, no-network, no-count, no-lengths, all-passed}
+use Rattle.batch.proofs.Bodies.{no-index, no-network, no-count, no-lengths, all-passed}
 use Rattle.batch.proofs.begin.Statement.{statement}
 use Rattle.batch.proofs.begin.Tie as tie
 
@@ -10,7 +10,7 @@ starts-with-requires : tie.Need-starts-with-requires
 starts-with-requires c κs = search needs
 
 returns : tie.Need-returns
-returns c = no-table _ _ _ _ (omega arith) (c .starts-with .ensures)
+returns c = no-index _ _ _ _ (c .before .if1 .taken) (c .starts-with .ensures)
 
 starts-with-requires-2 : tie.Need-starts-with-requires-2
 starts-with-requires-2 c κs = search needs

@@ -1,4 +1,4 @@
--- `event_run::handle` meets its contract: what the body says is asked; in each arm but the first a call of the receiver is lent the table, and its answer is told.
+-- `event_run::handle` meets its contract: what the body says is asked; in each arm but the first a call is lent the table, and its answer is told.
 -- A walk of its MIR, made by walks/walk.py from walks/event_run/handle.walk: edit that. Assumes nothing.
 use mathlib.Core.Path.{_≡_, refl, sym, subst}
 use Prim.Native.Nat.{ℕ, _+_, _-_, _<_, _≤_, _^_}
@@ -73,18 +73,18 @@ use Rattle.event_run.proofs.destination_at as fn-destination-at
 use Rattle.event_run.proofs.destination_at.Symbol as fn-destination-at-def
 use Rattle.event_run.proofs.destination_at.Symbol.{name as #event-run·destination-at}
 use Rattle.event_run.proofs.destination_at.Met as fn-destination-at-met
-use Rattle.receiver.proofs.open as fn-open
-use Rattle.receiver.proofs.open.Symbol as fn-open-def
-use Rattle.receiver.proofs.open.Symbol.{name as #receiver·open}
-use Rattle.receiver.proofs.open.Met as fn-open-met
+use Rattle.event_run.proofs.open_here as fn-open-here
+use Rattle.event_run.proofs.open_here.Symbol as fn-open-here-def
+use Rattle.event_run.proofs.open_here.Symbol.{name as #event-run·open-here}
+use Rattle.event_run.proofs.open_here.Met as fn-open-here-met
 use Rattle.event_run.proofs.tell_open as fn-tell-open
 use Rattle.event_run.proofs.tell_open.Symbol as fn-tell-open-def
 use Rattle.event_run.proofs.tell_open.Symbol.{name as #event-run·tell-open}
 use Rattle.event_run.proofs.tell_open.Met as fn-tell-open-met
-use Rattle.receiver.proofs.close as fn-close
-use Rattle.receiver.proofs.close.Symbol as fn-close-def
-use Rattle.receiver.proofs.close.Symbol.{name as #receiver·close}
-use Rattle.receiver.proofs.close.Met as fn-close-met
+use Rattle.event_run.proofs.close_here as fn-close-here
+use Rattle.event_run.proofs.close_here.Symbol as fn-close-here-def
+use Rattle.event_run.proofs.close_here.Symbol.{name as #event-run·close-here}
+use Rattle.event_run.proofs.close_here.Met as fn-close-here-met
 use Rattle.event_run.proofs.tell_close as fn-tell-close
 use Rattle.event_run.proofs.tell_close.Symbol as fn-tell-close-def
 use Rattle.event_run.proofs.tell_close.Symbol.{name as #event-run·tell-close}
@@ -133,14 +133,14 @@ module _ {M : Type 1} (𝓤 : URA M) (H : Heap 𝓤) (A : Atoms 𝓤) (mem : Mem
   abbrev DestinationAt : Contract 𝓤
   DestinationAt = tripleOf 𝓤 H A fn-destination-at.signature (fn-destination-at.spec 𝓤 H A mem run)
 
-  abbrev Open : Contract 𝓤
-  Open = tripleOf 𝓤 H A fn-open.signature (fn-open.spec 𝓤 H A mem run)
+  abbrev OpenHere : Contract 𝓤
+  OpenHere = tripleOf 𝓤 H A fn-open-here.signature (fn-open-here.spec 𝓤 H A mem run)
 
   abbrev TellOpen : Contract 𝓤
   TellOpen = tripleOf 𝓤 H A fn-tell-open.signature (fn-tell-open.spec 𝓤 H A mem run)
 
-  abbrev Close : Contract 𝓤
-  Close = tripleOf 𝓤 H A fn-close.signature (fn-close.spec 𝓤 H A mem run)
+  abbrev CloseHere : Contract 𝓤
+  CloseHere = tripleOf 𝓤 H A fn-close-here.signature (fn-close-here.spec 𝓤 H A mem run)
 
   abbrev TellClose : Contract 𝓤
   TellClose = tripleOf 𝓤 H A fn-tell-close.signature (fn-tell-close.spec 𝓤 H A mem run)
@@ -169,9 +169,9 @@ module _ {M : Type 1} (𝓤 : URA M) (H : Heap 𝓤) (A : Atoms 𝓤) (mem : Mem
   pub record Known (C : Calls 𝓤 H) : Type 1 where
     pub event-at′ : Triple 𝓤 (C #event-run·event-at) EventAt
     pub destination-at′ : Triple 𝓤 (C #event-run·destination-at) DestinationAt
-    pub open′ : Triple 𝓤 (C #receiver·open) Open
+    pub open-here′ : Triple 𝓤 (C #event-run·open-here) OpenHere
     pub tell-open′ : Triple 𝓤 (C #event-run·tell-open) TellOpen
-    pub close′ : Triple 𝓤 (C #receiver·close) Close
+    pub close-here′ : Triple 𝓤 (C #event-run·close-here) CloseHere
     pub tell-close′ : Triple 𝓤 (C #event-run·tell-close) TellClose
     pub reset′ : Triple 𝓤 (C #receiver·reset) Reset
     pub tell-reset′ : Triple 𝓤 (C #event-run·tell-reset) TellReset
@@ -236,7 +236,7 @@ module _ {M : Type 1} (𝓤 : URA M) (H : Heap 𝓤) (A : Atoms 𝓤) (W : Given
           assigns ! (of-opd ! (load ! (from ! (vrt ! refl (fld ! refl (stop !)))) (look-in ! 62 (in-variant ! 2 0 refl refl (whole !))))) (from ! (stop !)) (init ! 54 refl (tt, record { fits = close-slot slot g-v })) $
           assigns ! (addr ! (from ! (fld ! refl (hop ! (look-in ! 72 (sub ! 0 refl (whole !))) (stop !))))) (from ! (stop !)) (init ! 34 refl (tt, tt)) $
           assigns ! (agg ! (and-then ! (load ! (from ! (stop !)) (look-cell ! 34 refl)) (and-then ! (load ! (from ! (fld ! refl (stop !))) (look-in ! 72 (sub ! 1 refl (whole !)))) (no-more !)))) (from ! (stop !)) (init ! 32 refl (tt, (tt, (record { fits = g-ys .0 }, tt)))) $
-          calls-mut {𝓤 = 𝓤} {H = H} {A = A} ! fm R ys b o g-ys fn-close.ended (fn-close.clauses 𝓤 H A mem run) (known .close′) (λ ν δ. (((ν ∷ [], tt), (fullShare, tt), tt, (record { ptr = (b, o); name = δ; now = ys }, (slot, tt)), (sliceVal (b, o) (length ys) ∷ [], (vint w64 slot ∷ [], tt))), tt)) (λ ν δ. qed W (‵ (flft (ν ∷ []) fullShare) ∷ ‵ (mut-own R b o ν δ ys) ∷ []) ∵ nothing ! $ move ! (1 ∷ 0 ∷ []) $ join ! $ move ! (1 ∷ []) $ nothing ! $ owned ! usize (Is usize) (uint-makes 𝓤 H A W w64) slot _ (refl, (close-slot slot g-v)) $ fjoin ! $ move ! (1 ∷ 0 ∷ []) $ fjoin ! $ move ! (1 ∷ 0 ∷ []) $ join ! $ frame ! $ done !) (λ ν δ. fst∗ 𝓤 _ (emp 𝓤)) (λ ν δ. done-val) (λ ν δ a vs p. done-tells a vs p) (λ ν δ ws. ws .0) (λ ν δ ws. fst∗ 𝓤 (sem 𝓤 H A (fsep (finally R δ (ws .0)) (feq ℕ (length (ws .0)) (length ys)))) (sem 𝓤 H A (fsep ftrue ftrue))) (λ ν δ (a : Done) (zs : List Stream). CallMeets ys (closing slot) (record { said = saidDone a; table = zs; output = [] })) (λ ν δ a ws. id⊢ 𝓤 _) (λ ν δ. (and-then ! (load ! (from ! (stop !)) (look-cell ! 31 refl)) (and-then ! (load ! (from ! (stop !)) (look-cell ! 53 refl)) (no-more !)))) (λ ν δ a zs g-a len said.
+          calls-mut {𝓤 = 𝓤} {H = H} {A = A} ! fm R ys b o g-ys fn-close-here.ended (fn-close-here.clauses 𝓤 H A mem run) (known .close-here′) (λ ν δ. (((ν ∷ [], tt), (fullShare, tt), tt, (record { ptr = (b, o); name = δ; now = ys }, (slot, tt)), (sliceVal (b, o) (length ys) ∷ [], (vint w64 slot ∷ [], tt))), tt)) (λ ν δ. qed W (‵ (flft (ν ∷ []) fullShare) ∷ ‵ (mut-own R b o ν δ ys) ∷ []) ∵ nothing ! $ move ! (1 ∷ 0 ∷ []) $ join ! $ move ! (1 ∷ []) $ nothing ! $ owned ! usize (Is usize) (uint-makes 𝓤 H A W w64) slot _ (refl, (close-slot slot g-v)) $ fjoin ! $ move ! (1 ∷ 0 ∷ []) $ fjoin ! $ move ! (1 ∷ 0 ∷ []) $ join ! $ frame ! $ done !) (λ ν δ. fst∗ 𝓤 _ (emp 𝓤)) (λ ν δ. done-val) (λ ν δ a vs p. done-tells a vs p) (λ ν δ ws. ws .0) (λ ν δ ws. fst∗ 𝓤 (sem 𝓤 H A (fsep (finally R δ (ws .0)) (feq ℕ (length (ws .0)) (length ys)))) (sem 𝓤 H A (fsep ftrue ftrue))) (λ ν δ (a : Done) (zs : List Stream). CallMeets ys (closing slot) (record { said = saidDone a; table = zs; output = [] })) (λ ν δ a ws. id⊢ 𝓤 _) (λ ν δ. (and-then ! (load ! (from ! (stop !)) (look-cell ! 31 refl)) (and-then ! (load ! (from ! (stop !)) (look-cell ! 53 refl)) (no-more !)))) (λ ν δ a zs g-a len said.
           land ! (from ! (stop !)) (init ! 52 refl (done-typed 𝓤 H A W a g-a)) $
           calls-value {𝓤 = 𝓤} {H = H} {A = A} ! fm fn-tell-close.ended (fn-tell-close.clauses 𝓤 H A mem run) (known .tell-close′) ((tt, tt, tt, (a, tt), (done-val a ∷ [], tt)), tt) (qed W [] ∵ nothing ! $ done-has ! a g-a $ fjoin ! $ nothing ! $ join ! $ frame ! $ done !) told-val (λ r vs p. told-tells r vs p) (λ (r : Told). r ≡ Told.Answered (Reply.Close a)) (λ r ws. id⊢ 𝓤 _) (and-then ! (load ! (from ! (stop !)) (look-cell ! 53 refl)) (no-more !)) (λ r g-r heard.
           land ! (from ! (stop !)) (init ! 74 refl (told-typed 𝓤 H A W r g-r)) $
@@ -252,7 +252,7 @@ module _ {M : Type 1} (𝓤 : URA M) (H : Heap 𝓤) (A : Atoms 𝓤) (W : Given
           land ! (from ! (stop !)) (init ! 58 refl (six-typed 𝓤 H A W d g-d)) $
           assigns ! (addr ! (from ! (fld ! refl (hop ! (look-in ! 72 (sub ! 0 refl (whole !))) (stop !))))) (from ! (stop !)) (init ! 38 refl (tt, tt)) $
           assigns ! (agg ! (and-then ! (load ! (from ! (stop !)) (look-cell ! 38 refl)) (and-then ! (load ! (from ! (fld ! refl (stop !))) (look-in ! 72 (sub ! 1 refl (whole !)))) (no-more !)))) (from ! (stop !)) (init ! 36 refl (tt, (tt, (record { fits = g-ys .0 }, tt)))) $
-          calls-mut {𝓤 = 𝓤} {H = H} {A = A} ! fm R ys b o g-ys fn-open.ended (fn-open.clauses 𝓤 H A mem run) (known .open′) (λ ν δ. (((ν ∷ [], tt), (fullShare, tt), tt, (record { ptr = (b, o); name = δ; now = ys }, (d, ((w .vlan), ((w .rule), ((w .window), ((w .time), tt)))))), (sliceVal (b, o) (length ys) ∷ [], (six-val d ∷ [], (vint w16 (w .vlan) ∷ [], (vint w8 (w .rule) ∷ [], (vint w16 (w .window) ∷ [], (vint w16 (w .time) ∷ [], tt))))))), tt)) (λ ν δ. qed W (‵ (flft (ν ∷ []) fullShare) ∷ ‵ (mut-own R b o ν δ ys) ∷ []) ∵ nothing ! $ move ! (1 ∷ 0 ∷ []) $ join ! $ move ! (1 ∷ []) $ nothing ! $ owned ! u16 (Is u16) (uint-makes 𝓤 H A W w16) (w .time) _ (refl, (settings-time w g-w)) $ fjoin ! $ owned ! u16 (Is u16) (uint-makes 𝓤 H A W w16) (w .window) _ (refl, (settings-window w g-w)) $ fjoin ! $ owned ! u8 (Is u8) (uint-makes 𝓤 H A W w8) (w .rule) _ (refl, (settings-rule w g-w)) $ fjoin ! $ owned ! u16 (Is u16) (uint-makes 𝓤 H A W w16) (w .vlan) _ (refl, (settings-vlan w g-w)) $ fjoin ! $ six-has ! d g-d $ fjoin ! $ move ! (1 ∷ 0 ∷ []) $ fjoin ! $ move ! (1 ∷ 0 ∷ []) $ join ! $ frame ! $ done !) (λ ν δ. fst∗ 𝓤 _ (emp 𝓤)) (λ ν δ. opened-val) (λ ν δ a vs p. opened-tells a vs p) (λ ν δ ws. ws .0) (λ ν δ ws. fst∗ 𝓤 (sem 𝓤 H A (fsep (finally R δ (ws .0)) (feq ℕ (length (ws .0)) (length ys)))) (sem 𝓤 H A (fsep ftrue (fsep ftrue (fsep ftrue (fsep ftrue (fsep ftrue ftrue))))))) (λ ν δ (a : Opened) (zs : List Stream). CallMeets ys (opening d (w .vlan) (w .rule) (w .window) (w .time)) (record { said = saidOpened a; table = zs; output = [] })) (λ ν δ a ws. id⊢ 𝓤 _) (λ ν δ. (and-then ! (load ! (from ! (stop !)) (look-cell ! 35 refl)) (and-then ! (load ! (from ! (stop !)) (look-cell ! 57 refl)) (and-then ! (load ! (from ! (fld ! refl (stop !))) (look-in ! 59 (sub ! 0 refl (whole !)))) (and-then ! (load ! (from ! (fld ! refl (stop !))) (look-in ! 59 (sub ! 1 refl (whole !)))) (and-then ! (load ! (from ! (fld ! refl (stop !))) (look-in ! 59 (sub ! 2 refl (whole !)))) (and-then ! (load ! (from ! (fld ! refl (stop !))) (look-in ! 59 (sub ! 3 refl (whole !)))) (no-more !)))))))) (λ ν δ a zs g-a len said.
+          calls-mut {𝓤 = 𝓤} {H = H} {A = A} ! fm R ys b o g-ys fn-open-here.ended (fn-open-here.clauses 𝓤 H A mem run) (known .open-here′) (λ ν δ. (((ν ∷ [], tt), (fullShare, tt), tt, (record { ptr = (b, o); name = δ; now = ys }, (d, ((w .vlan), ((w .rule), ((w .window), ((w .time), tt)))))), (sliceVal (b, o) (length ys) ∷ [], (six-val d ∷ [], (vint w16 (w .vlan) ∷ [], (vint w8 (w .rule) ∷ [], (vint w16 (w .window) ∷ [], (vint w16 (w .time) ∷ [], tt))))))), tt)) (λ ν δ. qed W (‵ (flft (ν ∷ []) fullShare) ∷ ‵ (mut-own R b o ν δ ys) ∷ []) ∵ nothing ! $ move ! (1 ∷ 0 ∷ []) $ join ! $ move ! (1 ∷ []) $ nothing ! $ owned ! u16 (Is u16) (uint-makes 𝓤 H A W w16) (w .time) _ (refl, (settings-time w g-w)) $ fjoin ! $ owned ! u16 (Is u16) (uint-makes 𝓤 H A W w16) (w .window) _ (refl, (settings-window w g-w)) $ fjoin ! $ owned ! u8 (Is u8) (uint-makes 𝓤 H A W w8) (w .rule) _ (refl, (settings-rule w g-w)) $ fjoin ! $ owned ! u16 (Is u16) (uint-makes 𝓤 H A W w16) (w .vlan) _ (refl, (settings-vlan w g-w)) $ fjoin ! $ six-has ! d g-d $ fjoin ! $ move ! (1 ∷ 0 ∷ []) $ fjoin ! $ move ! (1 ∷ 0 ∷ []) $ join ! $ frame ! $ done !) (λ ν δ. fst∗ 𝓤 _ (emp 𝓤)) (λ ν δ. opened-val) (λ ν δ a vs p. opened-tells a vs p) (λ ν δ ws. ws .0) (λ ν δ ws. fst∗ 𝓤 (sem 𝓤 H A (fsep (finally R δ (ws .0)) (feq ℕ (length (ws .0)) (length ys)))) (sem 𝓤 H A (fsep ftrue (fsep ftrue (fsep ftrue (fsep ftrue (fsep ftrue ftrue))))))) (λ ν δ (a : Opened) (zs : List Stream). CallMeets ys (opening d (w .vlan) (w .rule) (w .window) (w .time)) (record { said = saidOpened a; table = zs; output = [] })) (λ ν δ a ws. id⊢ 𝓤 _) (λ ν δ. (and-then ! (load ! (from ! (stop !)) (look-cell ! 35 refl)) (and-then ! (load ! (from ! (stop !)) (look-cell ! 57 refl)) (and-then ! (load ! (from ! (fld ! refl (stop !))) (look-in ! 59 (sub ! 0 refl (whole !)))) (and-then ! (load ! (from ! (fld ! refl (stop !))) (look-in ! 59 (sub ! 1 refl (whole !)))) (and-then ! (load ! (from ! (fld ! refl (stop !))) (look-in ! 59 (sub ! 2 refl (whole !)))) (and-then ! (load ! (from ! (fld ! refl (stop !))) (look-in ! 59 (sub ! 3 refl (whole !)))) (no-more !)))))))) (λ ν δ a zs g-a len said.
           land ! (from ! (stop !)) (init ! 56 refl (opened-typed 𝓤 H A W a g-a)) $
           calls-value {𝓤 = 𝓤} {H = H} {A = A} ! fm fn-tell-open.ended (fn-tell-open.clauses 𝓤 H A mem run) (known .tell-open′) ((tt, tt, tt, (a, tt), (opened-val a ∷ [], tt)), tt) (qed W [] ∵ nothing ! $ opened-has ! a g-a $ fjoin ! $ nothing ! $ join ! $ frame ! $ done !) told-val (λ r vs p. told-tells r vs p) (λ (r : Told). r ≡ Told.Answered (Reply.Open a)) (λ r ws. id⊢ 𝓤 _) (and-then ! (load ! (from ! (stop !)) (look-cell ! 57 refl)) (no-more !)) (λ r g-r heard.
           land ! (from ! (stop !)) (init ! 74 refl (told-typed 𝓤 H A W r g-r)) $
@@ -335,9 +335,9 @@ handle-spec 𝓤 H 𝓜 𝓖 𝓡 =
     (meets 𝓤 H (𝓖 .A) (givenOf 𝓤 H 𝓜 𝓖) (𝓜 .mem) (𝓡 .run) (tablesOf 𝓤 H 𝓜 (tables 𝓤 H 𝓜 𝓡 code.env)) (record {
       event-at′ = cited 𝓤 H (EventAt 𝓤 H (𝓖 .A) (𝓜 .mem) (𝓡 .run)) 𝓜 𝓡 code.env #event-run·event-at fn-event-at-def.routine code.calls-event-run·event-at (fn-event-at-met.met 𝓤 H 𝓜 𝓖 𝓡);
       destination-at′ = cited 𝓤 H (DestinationAt 𝓤 H (𝓖 .A) (𝓜 .mem) (𝓡 .run)) 𝓜 𝓡 code.env #event-run·destination-at fn-destination-at-def.routine code.calls-event-run·destination-at (fn-destination-at-met.met 𝓤 H 𝓜 𝓖 𝓡);
-      open′ = cited 𝓤 H (Open 𝓤 H (𝓖 .A) (𝓜 .mem) (𝓡 .run)) 𝓜 𝓡 code.env #receiver·open fn-open-def.routine code.calls-receiver·open (fn-open-met.met 𝓤 H 𝓜 𝓖 𝓡);
+      open-here′ = cited 𝓤 H (OpenHere 𝓤 H (𝓖 .A) (𝓜 .mem) (𝓡 .run)) 𝓜 𝓡 code.env #event-run·open-here fn-open-here-def.routine code.calls-event-run·open-here (fn-open-here-met.met 𝓤 H 𝓜 𝓖 𝓡);
       tell-open′ = cited 𝓤 H (TellOpen 𝓤 H (𝓖 .A) (𝓜 .mem) (𝓡 .run)) 𝓜 𝓡 code.env #event-run·tell-open fn-tell-open-def.routine code.calls-event-run·tell-open (fn-tell-open-met.met 𝓤 H 𝓜 𝓖 𝓡);
-      close′ = cited 𝓤 H (Close 𝓤 H (𝓖 .A) (𝓜 .mem) (𝓡 .run)) 𝓜 𝓡 code.env #receiver·close fn-close-def.routine code.calls-receiver·close (fn-close-met.met 𝓤 H 𝓜 𝓖 𝓡);
+      close-here′ = cited 𝓤 H (CloseHere 𝓤 H (𝓖 .A) (𝓜 .mem) (𝓡 .run)) 𝓜 𝓡 code.env #event-run·close-here fn-close-here-def.routine code.calls-event-run·close-here (fn-close-here-met.met 𝓤 H 𝓜 𝓖 𝓡);
       tell-close′ = cited 𝓤 H (TellClose 𝓤 H (𝓖 .A) (𝓜 .mem) (𝓡 .run)) 𝓜 𝓡 code.env #event-run·tell-close fn-tell-close-def.routine code.calls-event-run·tell-close (fn-tell-close-met.met 𝓤 H 𝓜 𝓖 𝓡);
       reset′ = cited 𝓤 H (Reset 𝓤 H (𝓖 .A) (𝓜 .mem) (𝓡 .run)) 𝓜 𝓡 code.env #receiver·reset fn-reset-def.routine code.calls-receiver·reset (fn-reset-met.met 𝓤 H 𝓜 𝓖 𝓡);
       tell-reset′ = cited 𝓤 H (TellReset 𝓤 H (𝓖 .A) (𝓜 .mem) (𝓡 .run)) 𝓜 𝓡 code.env #event-run·tell-reset fn-tell-reset-def.routine code.calls-event-run·tell-reset (fn-tell-reset-met.met 𝓤 H 𝓜 𝓖 𝓡);

@@ -69,10 +69,14 @@ unfolding decimalOf digitsOf
 returns-16 c = let k = c .match .keys16 in rw k
 
 returns-17 : tie.Need-returns-17
-returns-17 c = search needs
+unfolding decimalOf digitsOf
+returns-17 c = let k = c .match .keys17 in rw k
 
 returns-18 : tie.Need-returns-18
 returns-18 c = search needs
+
+returns-19 : tie.Need-returns-19
+returns-19 c = search needs
 
 pub in-digits-spec : {M : Type 1} → statement M
 in-digits-spec =
@@ -95,4 +99,5 @@ in-digits-spec =
     returns-15
     returns-16
     returns-17
-    returns-18)
+    returns-18
+    returns-19)

@@ -1,0 +1,4 @@
+pub mod Index
+pub mod Indexed
+pub mod Laws
+pub mod Cases
