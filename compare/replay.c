@@ -93,18 +93,19 @@ static int same_answer(const nippitsun_arrival_answer *a) {
     return a->slot == slot && a->length == length && a->number == told && a->verdict == verdict && a->refusal == refusal;
 }
 
-static u8 frame[1 << 16], out[1 << 16], second_out[1 << 16], wanted[1 << 16];
+static u8 index_lent[1 << 16], frame[1 << 16], out[1 << 16], second_out[1 << 16], wanted[1 << 16];
 static stream table[256], after[256];
 
-static void check_output(const u8 *left, u64 room) {
-    take(wanted, room);
-    if (memcmp(left, wanted, room) != 0) stop("DIFFERENT: an output");
+static void check_bytes(const u8 *left, u64 n, const char *why) {
+    take(wanted, n);
+    if (memcmp(left, wanted, n) != 0) stop(why);
 }
 
 /* A call of the product. A case has the arguments and the answer's fields of all calls, 0 where a call has none. */
 static void call(u8 kind) {
-    u64 slots = number(1), room = number(2), second_room = number(2), n = number(2);
+    u64 slots = number(1), places = number(2), room = number(2), second_room = number(2), n = number(2);
     take(table, slots * sizeof *table);
+    take(index_lent, places);
     take(out, room);
     take(second_out, second_room);
     nippitsun_sender sender = {number(2)};
@@ -125,17 +126,17 @@ static void call(u8 kind) {
         nippitsun_arrival_answer a = nippitsun_arrival(table, slots, network, frame, n, out, room);
         slot_told = a.slot, length = a.length, number_told = a.number, verdict = a.verdict, refusal = a.refusal;
     } else if (kind == 6) {
-        nippitsun_slot_answer a = nippitsun_open(table, slots, dest, vlan, rule, window, time);
+        nippitsun_slot_answer a = nippitsun_open(table, slots, index_lent, places, dest, vlan, rule, window, time);
         slot_told = a.slot, refusal = a.refusal;
     } else if (kind == 7) {
-        refusal = nippitsun_close(table, slots, slot);
+        refusal = nippitsun_close(table, slots, index_lent, places, slot);
     } else if (kind == 8) {
         refusal = nippitsun_reset(table, slots, slot);
     } else if (kind == 9) {
         nippitsun_tick_answer a = nippitsun_tick(table, slots);
         resets = a.resets, damaged = a.damaged, refusal = a.refusal;
     } else if (kind == 10) {
-        batch = nippitsun_batch(table, slots, network, count, frame, n, out, room);
+        batch = nippitsun_batch(table, slots, index_lent, places, network, count, frame, n, out, room);
         frames = batch.frames, refusal = batch.refusal;
     } else if (kind == 11) {
         nippitsun_tag_answer a = nippitsun_send(&sender, frame, n, out, room, second_out, second_room);
@@ -146,6 +147,8 @@ static void call(u8 kind) {
         nippitsun_prp_answer a = kind == 13 ? nippitsun_from_prp(frame, n, prp, out, room)
                                             : nippitsun_to_prp(frame, n, network, prp, out, room);
         length = a.length, number_told = a.number, network_told = a.network, refusal = a.refusal;
+    } else if (kind == 15) {
+        refusal = nippitsun_rebuild(table, slots, index_lent, places);
     } else {
         stop("no such kind of case");
     }
@@ -158,8 +161,9 @@ static void call(u8 kind) {
     take(after, slots * sizeof *after);
     for (u64 i = 0; i < slots; i++)
         if (!same(table + i, after + i)) stop("DIFFERENT: a record");
-    check_output(out, room);
-    check_output(second_out, second_room);
+    check_bytes(index_lent, places, "DIFFERENT: an index");
+    check_bytes(out, room, "DIFFERENT: an output");
+    check_bytes(second_out, second_room, "DIFFERENT: an output");
     if (sender.next != number(2)) stop("DIFFERENT: a sender's next number");
 }
 
@@ -170,6 +174,6 @@ int main(void) {
         else call(kind);
         done++;
     }
-    printf("%lu calls of the archives themselves, under the emulator: answers, records, next numbers and output bytes equal\n", done);
+    printf("%lu calls of the archives themselves, under the emulator: answers, records, indexes, next numbers and output bytes equal\n", done);
     return done ? 0 : 1;
 }

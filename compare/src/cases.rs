@@ -5,10 +5,11 @@ use crate::{Answer, Call};
 use nippitsun::archive::BatchAnswer;
 use nippitsun::Stream;
 
-/// What a call starts from or leaves: the table, the outputs, and the sender's next number.
+/// What a call starts from or leaves: the table, its index, the outputs, and the sender's next number.
 #[derive(Clone, Copy, PartialEq, Eq)]
 pub struct Areas<'a> {
     pub table: &'a [Stream],
+    pub index: &'a [u8],
     pub outs: [&'a [u8]; 2],
     pub next: u16,
 }
@@ -109,6 +110,7 @@ fn arguments(call: Call) -> Arguments {
             a.network = network;
             a.prp = kind;
         }
+        Call::Rebuild => a.kind = 15,
     }
     a
 }
@@ -180,6 +182,7 @@ fn add_areas(to: &mut Vec<u8>, areas: Areas) {
     for s in areas.table {
         to.extend_from_slice(&s.to_bytes());
     }
+    to.extend_from_slice(areas.index);
     for out in areas.outs {
         to.extend_from_slice(out);
     }
@@ -190,7 +193,7 @@ fn add_areas(to: &mut Vec<u8>, areas: Areas) {
 pub fn add(to: &mut Vec<u8>, call: Call, before: Areas, answer: &Answer, after: Areas) {
     let a = arguments(call);
     to.extend_from_slice(&[a.kind, before.table.len() as u8]);
-    for area in [before.outs[0], before.outs[1], a.frame] {
+    for area in [before.index, before.outs[0], before.outs[1], a.frame] {
         to.extend_from_slice(&(area.len() as u16).to_le_bytes());
     }
     add_areas(to, before);

@@ -7,13 +7,13 @@
 
 pub mod cases;
 
-use nippitsun::archive::{self, ArrivalAnswer, BatchAnswer, PrpAnswer};
+use nippitsun::archive::{self, ArrivalAnswer, BatchAnswer, PrpAnswer, SlotAnswer, PLACES};
 use nippitsun::{tag, Counts, Receiver, Sender, State, Stream};
 use second::Verdict;
 
 pub use nippitsun::Settings;
 
-/// One call. The outputs, the table and the sender stand beside it.
+/// One call. The outputs, the table, its index and the sender stand beside it.
 #[derive(Clone, Copy, Debug)]
 pub enum Call<'a> {
     Arrival {
@@ -50,6 +50,18 @@ pub enum Call<'a> {
         network: u8,
         kind: u8,
     },
+    /// Makes the index anew.
+    Rebuild,
+}
+
+impl Call<'_> {
+    /// Does the call take the index too?
+    pub fn takes_index(&self) -> bool {
+        matches!(
+            self,
+            Call::Open(_) | Call::Close(_) | Call::Batch { .. } | Call::Rebuild
+        )
+    }
 }
 
 /// What a call answers, in one form for both sides.
@@ -103,6 +115,25 @@ impl Answer {
         }
     }
 
+    /// A refused open that has a slot is no refusal here, so that it differs from one.
+    fn of_open(told: SlotAnswer) -> Answer {
+        match told {
+            SlotAnswer {
+                slot: 0,
+                refusal: n @ 1..,
+            } => Answer::Refused(n),
+            SlotAnswer { slot, .. } => Answer::Opened(slot),
+        }
+    }
+
+    /// Of a call that answers its refusal alone.
+    fn of_refusal(refusal: u8) -> Answer {
+        match refusal {
+            0 => Answer::Done,
+            n => Answer::Refused(n),
+        }
+    }
+
     /// A refused batch that has more than its number is no refusal here, so that it differs from one.
     fn of_batch(told: BatchAnswer) -> Answer {
         let refusal = told.refusal;
@@ -132,14 +163,19 @@ impl Answer {
     }
 }
 
-/// One of the two programs, with a table and a sender.
+/// One of the two programs, with a table, its index and a sender.
 pub trait Side {
-    /// A table with these records, and a sender at first.
+    /// A table with these records, the index that a rebuild makes of it, and a sender at first. A table of more than 64 slots has
+    /// an index of zeros.
     fn new(records: &[Stream]) -> Self;
     /// Writes to a slot, as the owner of a table may.
     fn set(&mut self, slot: usize, record: Stream);
     /// The record in a slot of the table.
     fn record(&self, slot: usize) -> Stream;
+    /// Lends another index from now on, of any length.
+    fn set_index(&mut self, index: &[u8]);
+    /// The index beside the table.
+    fn index(&self) -> &[u8];
     /// Writes the sender's next number, as its owner may.
     fn set_next(&mut self, next: u16);
     /// The sender's next number.
@@ -148,16 +184,27 @@ pub trait Side {
     fn call(&mut self, call: Call, outs: [&mut [u8]; 2]) -> Answer;
 }
 
-/// The compiled product.
+/// The compiled product. A receiver lends no index but its own, so the calls that take one are the archive's.
 pub struct Product {
     receiver: Receiver,
+    index: Vec<u8>,
     sender: Sender,
+}
+
+impl Product {
+    /// The whole table.
+    pub fn records(&self) -> &[Stream] {
+        self.receiver.records()
+    }
 }
 
 impl Side for Product {
     fn new(records: &[Stream]) -> Product {
+        let mut index = vec![0; PLACES];
+        archive::rebuild(records, &mut index);
         Product {
             receiver: Receiver::from_records(records.to_vec()),
+            index,
             sender: Sender::new(),
         }
     }
@@ -170,6 +217,14 @@ impl Side for Product {
         self.receiver.records()[slot]
     }
 
+    fn set_index(&mut self, index: &[u8]) {
+        self.index = index.to_vec();
+    }
+
+    fn index(&self) -> &[u8] {
+        &self.index
+    }
+
     fn set_next(&mut self, next: u16) {
         self.sender.next = next;
     }
@@ -179,7 +234,7 @@ impl Side for Product {
     }
 
     fn call(&mut self, call: Call, [out, second_out]: [&mut [u8]; 2]) -> Answer {
-        let r = &mut self.receiver;
+        let (r, index) = (&mut self.receiver, &mut self.index);
         let answer = match call {
             Call::Arrival { network, frame } => r.arrival(network, frame, out).map(|a| {
                 let (slot, number) = (a.slot, a.number);
@@ -193,8 +248,20 @@ impl Side for Product {
                     nippitsun::Verdict::Rogue => Answer::Rogue { slot, number },
                 }
             }),
-            Call::Open(settings) => r.open(settings).map(Answer::Opened),
-            Call::Close(slot) => r.close(slot).map(|()| Answer::Done),
+            Call::Open(s) => Ok(Answer::of_open(archive::open(
+                r.records_mut(),
+                index,
+                &s.destination,
+                s.vlan,
+                s.rule,
+                s.window,
+                s.time,
+            ))),
+            Call::Close(slot) => {
+                let refusal = archive::close(r.records_mut(), index, slot);
+                Ok(Answer::of_refusal(refusal))
+            }
+            Call::Rebuild => Ok(Answer::of_refusal(archive::rebuild(r.records(), index))),
             Call::Reset(slot) => r.reset(slot).map(|()| Answer::Done),
             Call::Tick => r.tick().map(|t| Answer::Ticked {
                 resets: t.resets,
@@ -207,13 +274,13 @@ impl Side for Product {
             Call::WriteTag { frame, number } => {
                 tag::put(frame, number, out).map(|length| Answer::Tag { number, length })
             }
-            // The crate's own answer leaves the marks out, so the archive's is taken.
+            // A receiver's own answer leaves the marks out, too.
             Call::Batch {
                 network,
                 count,
                 frames,
             } => {
-                let told = archive::batch(r.records_mut(), network, count, frames, out);
+                let told = archive::batch(r.records_mut(), index, network, count, frames, out);
                 Ok(Answer::of_batch(told))
             }
             Call::Send { frame } => {
@@ -242,15 +309,39 @@ impl Side for Product {
 }
 
 /// The second program. Its record has no room for a destination of more than six bytes. Such a record has a stand-in here: a
-/// destination that no call may name. The real one is kept beside it.
+/// destination that no call may name, with the same own place in an index. The real one is kept beside it.
 pub struct Second {
     table: Vec<second::Stream>,
+    index: Vec<u8>,
     real: Vec<u64>,
+    /// The real keys, each with what stands in for its destination.
+    stand_ins: Vec<((u64, u16), [u8; 6])>,
     sender: second::Sender,
 }
 
-/// Stands in for a destination of more than six bytes.
-const NOBODY: [u8; 6] = [0xFF; 6];
+/// What stands in for a destination of more than six bytes begins so. No other destination may.
+pub const NOBODY: [u8; 2] = [0xFF; 2];
+
+impl Second {
+    /// The stand-in of a key. A key keeps it, and no two have one.
+    fn stand_in(&mut self, dest: u64, vlan: u16) -> [u8; 6] {
+        let known = &self.stand_ins;
+        if let Some(&(_, six)) = known.iter().find(|(key, _)| *key == (dest, vlan)) {
+            return six;
+        }
+        let own = (second::mixed(dest, vlan) >> 25) as usize;
+        let six = (0..=u32::MAX)
+            .map(|n| {
+                let [a, b, c, d] = n.to_be_bytes();
+                [NOBODY[0], NOBODY[1], a, b, c, d]
+            })
+            .filter(|&six| second::own_place(six, vlan) == own)
+            .find(|six| !known.iter().any(|(_, other)| other == six))
+            .expect("a table has few keys");
+        self.stand_ins.push(((dest, vlan), six));
+        six
+    }
+}
 
 /// What the second program answers to one frame of a batch, as the archive has it. The mark is all zeros.
 fn plain(answer: Option<Result<second::Arrival, second::Refusal>>) -> ArrivalAnswer {
@@ -285,25 +376,30 @@ impl Side for Second {
     fn new(records: &[Stream]) -> Second {
         let mut side = Second {
             table: vec![second::Stream::FREE; records.len()],
+            index: vec![0; PLACES],
             real: vec![0; records.len()],
+            stand_ins: Vec::new(),
             sender: second::Sender::default(),
         };
         for (slot, &record) in records.iter().enumerate() {
             side.set(slot, record);
         }
+        // Refused with 1, it leaves the zeros.
+        let _ = second::rebuild(&side.table, &mut side.index);
         side
     }
 
     fn set(&mut self, slot: usize, s: Stream) {
         let [_, _, destination @ ..] = s.dest.to_be_bytes();
+        let destination = if s.dest >> 48 == 0 {
+            destination
+        } else {
+            self.stand_in(s.dest, s.vlan)
+        };
         self.real[slot] = s.dest;
         self.table[slot] = second::Stream {
             in_use: s.used,
-            destination: if s.dest >> 48 == 0 {
-                destination
-            } else {
-                NOBODY
-            },
+            destination,
             vlan: s.vlan,
             rule: s.rule,
             window: s.window,
@@ -326,7 +422,7 @@ impl Side for Second {
     fn record(&self, slot: usize) -> Stream {
         let s = &self.table[slot];
         Stream {
-            dest: if s.destination == NOBODY {
+            dest: if s.destination[..2] == NOBODY {
                 self.real[slot]
             } else {
                 nippitsun::dest_of(s.destination)
@@ -356,6 +452,14 @@ impl Side for Second {
         }
     }
 
+    fn set_index(&mut self, index: &[u8]) {
+        self.index = index.to_vec();
+    }
+
+    fn index(&self) -> &[u8] {
+        &self.index
+    }
+
     fn set_next(&mut self, next: u16) {
         self.sender.next = next;
     }
@@ -365,7 +469,7 @@ impl Side for Second {
     }
 
     fn call(&mut self, call: Call, [out, second_out]: [&mut [u8]; 2]) -> Answer {
-        let table = &mut self.table;
+        let (table, index) = (&mut self.table, &mut self.index);
         let answer =
             match call {
                 Call::Arrival { network, frame } => second::arrival(table, network, frame, out)
@@ -383,6 +487,7 @@ impl Side for Second {
                     }),
                 Call::Open(s) => second::open(
                     table,
+                    index,
                     second::Settings {
                         destination: s.destination,
                         vlan: s.vlan,
@@ -392,7 +497,8 @@ impl Side for Second {
                     },
                 )
                 .map(Answer::Opened),
-                Call::Close(slot) => second::close(table, slot).map(|()| Answer::Done),
+                Call::Close(slot) => second::close(table, index, slot).map(|()| Answer::Done),
+                Call::Rebuild => second::rebuild(table, index).map(|()| Answer::Done),
                 Call::Reset(slot) => second::reset(table, slot).map(|()| Answer::Done),
                 Call::Tick => second::tick(table).map(|t| Answer::Ticked {
                     resets: t.reset as u64,
@@ -408,7 +514,7 @@ impl Side for Second {
                     network,
                     count,
                     frames,
-                } => second::batch(table, network, count, frames, out).map(|done| {
+                } => second::batch(table, index, network, count, frames, out).map(|done| {
                     Answer::Batch(Box::new(BatchAnswer {
                         answers: done.answers.map(plain),
                         frames: done.frames,

@@ -1,9 +1,9 @@
 //! The harness for libFuzzer: an input is a run of calls, and each call is made on the compiled product and on the second
-//! program. Answers, whole tables, the senders' next numbers and whole outputs must be the same after each. The second program
-//! is built with the fuzzer's counters in it, so its branches guide the fuzzer.
+//! program. Answers, whole tables and indexes, the senders' next numbers and whole outputs must be the same after each. The second
+//! program is built with the fuzzer's counters in it, so its branches guide the fuzzer.
 //!
 //! An input is an event file (document 01, "Event file and the program `events`"), read as `events` reads it, so every event
-//! file is a seed. A first byte other than 1 is no end but the number of slots, and eleven kinds are added for what `events`
+//! file is a seed. A first byte other than 1 is no end but the number of slots, and fourteen kinds are added for what `events`
 //! can't reach:
 //!
 //! | kind | body |
@@ -19,8 +19,13 @@
 //! | 248 set a sender's next number | number 2 |
 //! | 249 from PRP | room 2, kind 1, frame |
 //! | 250 to PRP | room 2, network 1, kind 1, frame |
+//! | 251 rebuild the index | nothing more |
+//! | 252 lend another index | its places, so many as there are |
+//! | 253 change one place of the index | place 1, value 1 |
+//!
+//! The index is carried on from call to call. At first it is of zeros, as the slots are free.
 
-use compare::{Call, Product, Second, Settings, Side};
+use compare::{Call, Product, Second, Settings, Side, NOBODY};
 use nippitsun::{Counts, State, Stream};
 use second::event_file::kind;
 
@@ -35,6 +40,9 @@ const RESET_SENDER: u8 = 247;
 const SET_NEXT: u8 = 248;
 const FROM_PRP: u8 = 249;
 const TO_PRP: u8 = 250;
+const REBUILD: u8 = 251;
+const SET_INDEX: u8 = 252;
+const CHANGE_INDEX: u8 = 253;
 
 /// Bytes of a record.
 const RECORD: usize = std::mem::size_of::<Stream>();
@@ -45,8 +53,8 @@ const EVENTS_SLOTS: usize = 8;
 /// One slot more than a table may have, so that refusal 1 is met.
 const SLOTS_TRIED: usize = Stream::SLOTS_MOST + 1;
 
-/// The comparison takes this destination for one of more than six bytes. So no record has it here, nor one beyond it.
-const STAND_IN: [u8; 6] = [0xFF; 6];
+/// From here on the comparison takes destinations for ones of more than six bytes. So no record has such a one here.
+const STAND_INS: [u8; 6] = [NOBODY[0], NOBODY[1], 0, 0, 0, 0];
 
 fn from_bytes(b: &[u8; RECORD]) -> Stream {
     let two = |at: usize| u16::from_le_bytes([b[at], b[at + 1]]);
@@ -85,7 +93,7 @@ fn changed(s: Stream, place: usize, value: u8) -> Stream {
     from_bytes(&b)
 }
 
-/// What an open sets, but for the destination that is a stand-in.
+/// What an open sets, but for a destination that is a stand-in.
 fn settings(destination: [u8; 6], vlan: u16, rule: u8, window: u16, time: u16) -> Option<Settings> {
     let settings = Settings {
         destination,
@@ -94,7 +102,7 @@ fn settings(destination: [u8; 6], vlan: u16, rule: u8, window: u16, time: u16) -
         window,
         time,
     };
-    (destination != STAND_IN).then_some(settings)
+    (destination < STAND_INS).then_some(settings)
 }
 
 /// A body as the rooms of its outputs and the call; none, where `events` would find it bad and where it is no call.
@@ -139,6 +147,7 @@ fn call_of(body: &[u8]) -> Option<([usize; 2], Call<'_>)> {
             return Some((rooms, Call::Send { frame }));
         }
         [RESET_SENDER] => (0, Call::ResetSender),
+        [REBUILD] => (0, Call::Rebuild),
         [FROM_PRP, r0, r1, kind, ref frame @ ..] => (room(r0, r1), Call::FromPrp { frame, kind }),
         [TO_PRP, r0, r1, network, kind, ref frame @ ..] => {
             let call = Call::ToPrp {
@@ -163,8 +172,21 @@ fn written(product: &Product, slots: usize, body: &[u8]) -> Option<(usize, Strea
         }
         _ => return None,
     };
-    let known = record.dest < nippitsun::dest_of(STAND_IN);
+    let known = record.dest < nippitsun::dest_of(STAND_INS);
     (usize::from(slot) < slots && known).then_some((slot.into(), record))
+}
+
+/// A body that lends another index.
+fn index_of(product: &Product, body: &[u8]) -> Option<Vec<u8>> {
+    match *body {
+        [SET_INDEX, ref index @ ..] => Some(index.to_vec()),
+        [CHANGE_INDEX, place, value] => {
+            let mut index = product.index().to_vec();
+            *index.get_mut(usize::from(place))? = value;
+            Some(index)
+        }
+        _ => None,
+    }
 }
 
 /// As much of both outputs as a call may have.
@@ -196,6 +218,9 @@ fn run(input: &[u8]) {
         if let Some((slot, record)) = written(&product, slots, body) {
             product.set(slot, record);
             second.set(slot, record);
+        } else if let Some(index) = index_of(&product, body) {
+            product.set_index(&index);
+            second.set_index(&index);
         } else if let [SET_NEXT, high, low] = *body {
             let next = u16::from_be_bytes([high, low]);
             product.set_next(next);
@@ -207,6 +232,8 @@ fn run(input: &[u8]) {
             assert!(a == b, "{call:02x?}: answers {a:?} and {b:?}");
             let (a, b) = (product.next(), second.next());
             assert!(a == b, "{call:02x?}: next numbers {a} and {b}");
+            let (a, b) = (product.index(), second.index());
+            assert!(a == b, "{call:02x?}: indexes {a:02x?} and {b:02x?}");
             for slot in 0..slots {
                 let (a, b) = (product.record(slot), second.record(slot));
                 assert!(a == b, "{call:02x?}: slot {slot} is {a:?} and {b:?}");

@@ -1,4 +1,5 @@
-//! Up to 32 frames in one call. Document 02: order 3.
+//! Up to 32 frames in one call, as without the index. Document 02: order 3. The
+//! public call is that of order 9 (`index`).
 //!
 //! A batch is single arrivals made in turn, so that is what is written here:
 //! [`arrival`] itself decides each frame. What is left to do is to find the
@@ -118,7 +119,7 @@ fn one(
 ///
 /// Every length is followed before the first frame is looked at. Then each
 /// frame is answered in its place, and an 8 is the last answer.
-pub fn batch(
+pub(crate) fn batch(
     table: &mut [Stream],
     network: u8,
     count: usize,

@@ -1,5 +1,6 @@
 //! Runs an event file through the library. Document 01: "Event file and the
-//! program `events`". Kind 6 is of order 5 of document 02.
+//! program `events`". Kind 6 is of order 5 of document 02. The index of order 9
+//! shows in no line.
 
 use std::io::{self, ErrorKind, Read, Write};
 
@@ -38,10 +39,12 @@ pub enum Failure {
     Write(io::Error),
 }
 
-/// The table and the output buffer of one run.
+/// The table, its index and the output buffer of one run.
 pub struct Receiver {
     /// Eight slots, free at first.
     pub table: [Stream; SLOTS],
+    /// Beside the table. Only the calls change either, so that they agree.
+    index: [u8; Stream::INDEX_PLACES],
     output: [u8; Stream::MAX_FRAME],
 }
 
@@ -50,6 +53,8 @@ impl Receiver {
     pub fn new() -> Receiver {
         Receiver {
             table: [Stream::FREE; SLOTS],
+            // With all slots free, all places are empty.
+            index: [0; Stream::INDEX_PLACES],
             output: [0; Stream::MAX_FRAME],
         }
     }
@@ -86,7 +91,7 @@ impl Receiver {
                 };
                 self.open(number, settings, lines)
             }
-            [kind::CLOSE, slot] => match close(&mut self.table, usize::from(slot)) {
+            [kind::CLOSE, slot] => match close(&mut self.table, &mut self.index, slot.into()) {
                 Ok(()) => writeln!(lines, "{number} C ok"),
                 Err(refusal) => refused(lines, number, 'C', refusal),
             },
@@ -118,7 +123,7 @@ impl Receiver {
 
     /// An open of either kind.
     fn open<W: Write>(&mut self, number: u64, settings: Settings, lines: &mut W) -> io::Result<()> {
-        match open(&mut self.table, settings) {
+        match open(&mut self.table, &mut self.index, settings) {
             Ok(slot) => writeln!(lines, "{number} O {slot}"),
             Err(refusal) => refused(lines, number, 'O', refusal),
         }

@@ -2,7 +2,7 @@
 //! redundancy tag, a sender, and the turn from PRP lines and to them.
 //!
 //! This is a second implementation. It was written from document 01 ("Exact
-//! rules and what to build") and orders 1 to 7 of document 02 (README.md), so that its
+//! rules and what to build") and orders 1 to 9 of document 02 (README.md), so that its
 //! answers can be compared with those of the first one. Section names in the
 //! comments are those of document 01.
 
@@ -13,6 +13,7 @@ pub mod event_file;
 pub mod frame;
 pub mod generate;
 pub mod history;
+pub mod index;
 pub mod prp;
 pub mod random;
 pub mod sender;
@@ -20,15 +21,16 @@ pub mod stream;
 pub mod table;
 pub mod wrong;
 
-pub use batch::{batch, Batch};
+pub use batch::Batch;
 pub use frame::{take_tag, write_tag, Taken};
+pub use index::{agrees, batch, close, follow, mixed, open, own_place, rebuild};
 pub use prp::{from_prp, to_prp, Turned};
 pub use sender::{Sender, Sent};
 pub use stream::Stream;
-pub use table::{arrival, close, open, reset, tick, Arrival, Settings, Ticked, Verdict};
+pub use table::{arrival, reset, tick, Arrival, Settings, Ticked, Verdict};
 
 /// Why a call was refused. The values are the numbers of the table in
-/// "Calls and the order of checks", and those of orders 1, 3 and 7.
+/// "Calls and the order of checks", and those of orders 1, 3, 7 and 9.
 #[derive(Clone, Copy, Debug, PartialEq, Eq, Hash, PartialOrd, Ord)]
 #[repr(u8)]
 pub enum Refusal {
@@ -66,6 +68,8 @@ pub enum Refusal {
     /// There is no trailer of the set kind with a fitting size and a LAN of A
     /// or B.
     NoTrailer = 16,
+    /// The index has not 128 places or does not agree with the table.
+    BadIndex = 18,
 }
 
 impl Refusal {

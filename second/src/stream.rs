@@ -1,7 +1,8 @@
 //! The stream record, when it is lawful, and the decision on one record.
 //! Document 01: "Sizes", "The stream record", "Decisions". The size of a batch
 //! is that of order 3 of document 02; what is no loss is order 4's; the largest
-//! window and the history's words are order 5's.
+//! window and the history's words are order 5's, and the places of an index
+//! order 9's.
 
 use crate::history::{self, History};
 use crate::wrong::{self, rule};
@@ -76,6 +77,8 @@ impl Stream {
     pub const MAX_UNTAGGED: usize = 1994;
     /// Most frames in a batch.
     pub const MAX_BATCH: usize = 32;
+    /// Places in an index beside a table.
+    pub const INDEX_PLACES: usize = 128;
     /// Smallest window.
     pub const MIN_WINDOW: u16 = 2;
     /// Largest window.

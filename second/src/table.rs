@@ -1,5 +1,6 @@
 //! The calls on a table of streams. Document 01: "Calls and the order of
-//! checks". Document 02: orders 1 and 5.
+//! checks". Document 02: orders 1 and 5. Open and close stand here as without the
+//! index; the public ones are those of order 9 (`index`).
 //!
 //! Each call makes all its checks before it changes anything, so a refusal
 //! leaves every byte as it was.
@@ -142,9 +143,9 @@ pub fn arrival(
     })
 }
 
-/// Opens a stream in the lowest free slot and answers that slot. Refusals 1,
-/// 9, 10, 11 in this order.
-pub fn open(table: &mut [Stream], settings: Settings) -> Result<usize, Refusal> {
+/// Opens a stream in the lowest free slot and answers that slot, as without the
+/// index. Refusals 1, 9, 10, 11 in this order.
+pub(crate) fn open(table: &mut [Stream], settings: Settings) -> Result<usize, Refusal> {
     check_table(table)?;
     // The whole record is written, so nothing of a closed stream stays.
     let stream = Stream {
@@ -184,9 +185,9 @@ pub fn open(table: &mut [Stream], settings: Settings) -> Result<usize, Refusal> 
     Ok(slot)
 }
 
-/// Frees a slot. Its other fields stay, and a damaged record can be closed.
-/// Refusals 1, 12.
-pub fn close(table: &mut [Stream], slot: usize) -> Result<(), Refusal> {
+/// Frees a slot, as without the index. Its other fields stay, and a damaged
+/// record can be closed. Refusals 1, 12.
+pub(crate) fn close(table: &mut [Stream], slot: usize) -> Result<(), Refusal> {
     check_table(table)?;
     let stream = slot_in_use(table, slot)?;
     rule!((), CloseClears: *stream = Stream::FREE);

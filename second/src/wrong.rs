@@ -1,7 +1,7 @@
 //! Wrong variants of this program, each with one slip. A comparison with
 //! another program is only worth something if it finds them, so it is tried
 //! against each. Document 01 names some under "Errors that look right"; the
-//! others are slips that its text, or that of orders 1 to 8 of document 02, makes
+//! others are slips that its text, or that of orders 1 to 9 of document 02, makes
 //! easy.
 //!
 //! No variant is set at first. In the code a slip stands behind the right rule:
@@ -14,7 +14,7 @@ use crate::batch::LENGTH_BYTES;
 use crate::frame::{carries_tag, check_source, Header, TAG_MARK, VLAN_MARK};
 use crate::history::History;
 use crate::prp::Trailer;
-use crate::{arrival, Arrival, Refusal, Stream, Verdict};
+use crate::{arrival, table, Arrival, Refusal, Settings, Stream, Verdict};
 
 /// Where the slip can be seen.
 #[derive(Clone, Copy, Debug, PartialEq, Eq)]
@@ -23,8 +23,10 @@ pub enum Seen {
     Files,
     /// Only where calls are compared: the slip is in a counter, an output byte,
     /// the treatment of a damaged record or of a small output, in the tag
-    /// writer, in taking a tag out, in a batch, in a send or in a turn from PRP
-    /// or to PRP. `events` shows none of these.
+    /// writer, in taking a tag out, in a batch, in a send, in a turn from PRP or
+    /// to PRP, or in the index. `events` shows none of these. As to its own
+    /// index: it is always the rebuilt one, no two slots have one key, and no two
+    /// keys of `generate` share a place.
     CallsOnly,
 }
 
@@ -258,6 +260,12 @@ variants! {
     LastIsRogue, Files, "d = -(L - 1) is a rogue";
     FreshKnows65535, Files, "a fresh stream finds 65535, the anchor it has, a duplicate";
     LateKeepsTicks, Files, "a number before the anchor is handed up and renews no ticks";
+    CloseKeepsIndex, CallsOnly, "close leaves the index as it was, with a place that names the closed slot";
+    FollowStopsAtOther, CallsOnly, "following stops at a place that names a slot in use with another key";
+    FollowEndsAt127, CallsOnly, "following ends at the last place and does not go round the end";
+    SettingsBeforeIndex, CallsOnly, "in open refusal 9 comes before 18";
+    RefusedOpenRebuilds, CallsOnly, "an open refused with 9, 10 or 11 rebuilds the index";
+    BatchIndexUnchecked, CallsOnly, "a batch takes any index and never gives 18";
 }
 
 #[cfg(feature = "wrong")]
@@ -379,6 +387,15 @@ pub(crate) fn without_first_word(history: &History) -> History {
 pub(crate) fn close_lowest(table: &mut [Stream]) {
     if let Some(stream) = table.iter_mut().find(|stream| stream.is_in_use()) {
         stream.in_use = 0;
+    }
+}
+
+/// What an open is refused with, if 9 comes before this refusal. A table of no
+/// slots gives 9 for the settings alone.
+pub(crate) fn settings_before(settings: Settings, why: Refusal) -> Refusal {
+    match table::open(&mut [], settings) {
+        Err(Refusal::BadSetting) => Refusal::BadSetting,
+        _ => why,
     }
 }
 

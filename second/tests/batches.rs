@@ -5,7 +5,7 @@ mod common;
 
 use common::*;
 use second::random::Random;
-use second::{arrival, batch, Arrival, Batch, Refusal, Stream, Verdict};
+use second::{arrival, Arrival, Batch, Refusal, Stream, Verdict};
 
 /// What one frame of a batch is answered, and the mark of one not reached.
 type Answer = Option<Result<Arrival, Refusal>>;
@@ -313,6 +313,7 @@ fn input_behind_the_last_frame_is_ignored() {
 /// Each arrival has an output of its own, which is as long as its room.
 fn in_turn(
     table: &mut [Stream],
+    index: &[u8],
     network: u8,
     count: usize,
     input: &[u8],
@@ -322,6 +323,9 @@ fn in_turn(
     let refused = |number| (number, 0, [None; 32], 0);
     if table.len() > 64 {
         return refused(1);
+    }
+    if !agree(table, index) {
+        return refused(18);
     }
     if network != 0 && network != 1 {
         return refused(2);
@@ -400,11 +404,19 @@ fn random_batches_are_single_arrivals_made_in_turn() {
     let mut seen = Seen::default();
     for _ in 0..20_000 {
         let table = any_table(&mut random);
+        let index = any_index(&mut random, &table);
         let (network, count, input) = any_batch(&mut random);
         // What the frames take of an output that is large enough: a frame
         // handed up takes less than it took of the input.
         let mut ample = vec![0; input.len()];
-        let (.., all) = in_turn(&mut table.clone(), network, count, &input, &mut ample);
+        let (.., all) = in_turn(
+            &mut table.clone(),
+            &index,
+            network,
+            count,
+            &input,
+            &mut ample,
+        );
         let rooms = [
             0,
             1,
@@ -420,10 +432,10 @@ fn random_batches_are_single_arrivals_made_in_turn() {
         random.fill(&mut output);
         let (mut other, mut expected) = (table.clone(), output.clone());
         let (number, frames, answers, used) =
-            in_turn(&mut other, network, count, &input, &mut expected);
+            in_turn(&mut other, &index, network, count, &input, &mut expected);
 
         let (mut after, before) = (table.clone(), output.clone());
-        let answer = batch(&mut after, network, count, &input, &mut output);
+        let answer = second::batch(&mut after, &index, network, count, &input, &mut output);
         assert_eq!(after, other);
         assert_eq!(output, expected);
         assert_eq!(output[used..], before[used..]);
@@ -450,7 +462,7 @@ fn random_batches_are_single_arrivals_made_in_turn() {
             seen.note("less than two bytes left at the end", 0);
         }
     }
-    seen.all_met("batch", &[0, 1, 2, 15]);
+    seen.all_met("batch", &[0, 1, 18, 2, 15]);
     seen.all_met("frame", &[3, 4, 5, 14, 6, 7, 8]);
     let counts: Vec<u8> = (0..=32).collect();
     seen.all_met("frames", &counts);

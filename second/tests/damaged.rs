@@ -4,7 +4,7 @@
 mod common;
 
 use common::*;
-use second::{arrival, close, reset, tick, Stream, Ticked};
+use second::{arrival, reset, tick, Stream, Ticked};
 
 /// Name, record, and whether its settings are out of range.
 fn damaged() -> Vec<(&'static str, Stream, bool)> {

@@ -5,7 +5,7 @@
 mod common;
 
 use common::*;
-use second::{arrival, close, open, reset, tick, Stream, Ticked};
+use second::{arrival, reset, tick, Stream, Ticked};
 
 /// A vector stream with R = 3 that has just taken its first number.
 fn started(window: u16, first: u16) -> [Stream; 1] {

@@ -10,9 +10,7 @@ use std::collections::HashSet;
 use common::*;
 use second::random::Random;
 use second::wrong::Wrong;
-use second::{
-    arrival, batch, close, open, reset, tick, Arrival, Refusal, Settings, Stream, Verdict,
-};
+use second::{arrival, reset, tick, Arrival, Refusal, Settings, Stream, Verdict};
 
 /// The stream's destination. Other streams and frames have it with VLAN 6 only.
 const OWN: [u8; 6] = [2, 0, 0, 0, 0, 7];

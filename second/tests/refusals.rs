@@ -2,10 +2,10 @@
 //!
 //! The answer is compared with a list: each refusal number has its own
 //! condition, and the first number in the call's order whose condition holds
-//! must be the answer ("Calls and the order of checks", and orders 6 and 7 for
-//! sends and for turns from PRP and to PRP).
-//! A refused call must change no byte of table, sender and outputs; any other
-//! call only its own slot.
+//! must be the answer ("Calls and the order of checks", orders 6 and 7 for sends
+//! and for turns from PRP and to PRP, and order 9 for opens and closes).
+//! A refused call must change no byte of table, index, sender and outputs; any
+//! other call only its own slot, and opens and closes the index.
 
 mod common;
 
@@ -223,13 +223,16 @@ fn opens() {
             .iter()
             .any(|s| s.in_use != 0 && s.destination == wanted.destination && s.vlan == wanted.vlan);
         let free = (0..table.len()).find(|&slot| table[slot].in_use == 0);
+        let mut index = any_index(&mut random, &table);
+        let index_before = index.clone();
         let expected = first(&[
             (1, table.len() > 64),
+            (18, !agree(&table, &index)),
             (9, settings_bad(&wanted)),
             (10, taken),
             (11, free.is_none()),
         ]);
-        let answer = open(&mut table, settings);
+        let answer = open(&mut table, &mut index, settings);
         assert_eq!(number_of(answer), expected);
         seen.note("open", expected);
         match answer {
@@ -237,11 +240,12 @@ fn opens() {
                 assert_eq!(Some(slot), free);
                 assert_eq!(table[slot], wanted);
                 assert!(others_same(&before, &table, slot));
+                assert_eq!(index, rebuilt(&table));
             }
-            Err(_) => assert_eq!(table, before),
+            Err(_) => assert_eq!((table, index), (before, index_before)),
         }
     }
-    seen.all_met("open", &[0, 1, 9, 10, 11]);
+    seen.all_met("open", &[0, 1, 18, 9, 10, 11]);
 }
 
 #[test]
@@ -254,8 +258,11 @@ fn closes_and_resets() {
         let slot = random.pick(&[0, 1, 2, 4, 7, 8, 62, 63, 64, 65, 255, usize::MAX]);
         let absent = table.get(slot).map_or(true, |s| s.in_use == 0);
 
-        let expected = first(&[(1, table.len() > 64), (12, absent)]);
-        let answer = close(&mut table, slot);
+        let mut index = any_index(&mut random, &table);
+        let index_before = index.clone();
+        let bad_index = !agree(&table, &index);
+        let expected = first(&[(1, table.len() > 64), (18, bad_index), (12, absent)]);
+        let answer = close(&mut table, &mut index, slot);
         assert_eq!(number_of(answer), expected);
         seen.note("close", expected);
         if answer.is_ok() {
@@ -265,8 +272,9 @@ fn closes_and_resets() {
             };
             assert_eq!(table[slot], closed);
             assert!(others_same(&before, &table, slot));
+            assert_eq!(index, rebuilt(&table));
         } else {
-            assert_eq!(table, before);
+            assert_eq!((&table, index), (&before, index_before));
         }
 
         let mut table = before.clone();
@@ -292,7 +300,7 @@ fn closes_and_resets() {
             assert_eq!(table, before);
         }
     }
-    seen.all_met("close", &[0, 1, 12]);
+    seen.all_met("close", &[0, 1, 18, 12]);
     seen.all_met("reset", &[0, 1, 7, 12]);
 }
 

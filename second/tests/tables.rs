@@ -4,7 +4,7 @@
 mod common;
 
 use common::*;
-use second::{arrival, close, open, reset, tick, Settings, Stream, Ticked, Verdict};
+use second::{arrival, reset, tick, Settings, Stream, Ticked, Verdict};
 
 fn with_key(last: u8) -> Settings {
     Settings {

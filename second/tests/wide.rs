@@ -7,7 +7,7 @@ mod common;
 use common::*;
 use second::history::{any_marked, clear, is_marked, mark, marked_from, move_up, History};
 use second::random::Random;
-use second::{close, open, reset, tick, Stream};
+use second::{reset, tick, Stream};
 
 /// Windows at the ends of the words, and at the ends of the range.
 const WINDOWS: [u16; 16] = [

@@ -11,7 +11,7 @@ use common::*;
 use second::random::Random;
 use second::wrong::{self, Seen, Wrong, VARIANTS};
 use second::{
-    arrival, batch, close, from_prp, open, reset, take_tag, tick, to_prp, write_tag, Sender, Stream,
+    arrival, from_prp, rebuild, reset, take_tag, tick, to_prp, write_tag, Sender, Settings, Stream,
 };
 
 const DESTINATIONS: [[u8; 6]; 2] = [DESTINATION, [2, 0, 0, 0, 0, 2]];
@@ -86,6 +86,49 @@ fn calls(seed: u64) -> Vec<(String, Vec<Stream>, Vec<u8>)> {
     seen
 }
 
+/// Random calls that take an index: every answer, and table and index after each.
+/// The keys share places, at the end of the index too, and some slots a key.
+fn indexed(seed: u64) -> Vec<(String, Vec<Stream>, Vec<u8>)> {
+    let mut random = Random::new(seed);
+    let keys = [keys_at(127), keys_at(5)].concat();
+    let mut table: Vec<Stream> = (0..6)
+        .map(|_| {
+            let (destination, vlan) = random.pick(&keys);
+            any_stream(&mut random, &[destination], &[vlan])
+        })
+        .collect();
+    let mut index = any_index(&mut random, &table);
+    let mut seen = Vec::new();
+    for _ in 0..20 {
+        if random.chance(1, 3) {
+            index = any_index(&mut random, &table);
+        }
+        let (destination, vlan) = random.pick(&keys);
+        let answer = match random.below(4) {
+            0 => {
+                let settings = Settings {
+                    destination,
+                    vlan,
+                    ..settings(1, random.pick(&[1, 4, 4]), 2)
+                };
+                format!("{:?}", second::open(&mut table, &mut index, settings))
+            }
+            1 => {
+                let slot = random.below(7) as usize;
+                format!("{:?}", second::close(&mut table, &mut index, slot))
+            }
+            2 => {
+                let input = packed(&[tagged_to(destination, Some(vlan), 7)]);
+                let answer = second::batch(&mut table, &index, 0, 1, &input, &mut [0; 40]);
+                format!("{answer:?}")
+            }
+            _ => format!("{:?}", rebuild(&table, &mut index)),
+        };
+        seen.push((answer, table.clone(), index.clone()));
+    }
+    seen
+}
+
 /// Random sends: every answer, and the next number and both outputs after each.
 fn sends(seed: u64) -> Vec<(String, u16, [Vec<u8>; 2])> {
     let mut random = Random::new(seed);
@@ -144,9 +187,10 @@ fn turns(seed: u64) -> Vec<(String, Vec<u8>)> {
 fn every_variant_for_calls_is_seen_in_calls() {
     for variant in VARIANTS.iter().filter(|v| v.seen == Seen::CallsOnly) {
         let differs = (0..2000).any(|seed| {
-            let right = (calls(seed), sends(seed), turns(seed));
+            let all = || (calls(seed), indexed(seed), sends(seed), turns(seed));
+            let right = all();
             wrong::set(Some(variant.wrong));
-            let wrong = (calls(seed), sends(seed), turns(seed));
+            let wrong = all();
             wrong::set(None);
             right != wrong
         });

@@ -1,5 +1,6 @@
-//! Random calls on random tables and senders, given to the product and to the second program. After every call the answer, the
-//! whole table, the sender's next number and the whole outputs must be equal, and a refused call must have changed nothing.
+//! Random calls on random tables, indexes and senders, given to the product and to the second program. After every call the
+//! answer, the whole table, the whole index, the sender's next number and the whole outputs must be equal, and a refused call must
+//! have changed nothing.
 //!
 //!     calls                    the comparison, 4,000,000 calls, more sends in a row than there are numbers, and PRP frames
 //!                              turned into tagged ones and back
@@ -14,7 +15,7 @@
 
 use compare::cases::{self, Areas};
 use compare::{Answer, Call, Product, Second, Settings, Side};
-use nippitsun::archive::{BatchAnswer, PrpAnswer, FRAMES_MOST};
+use nippitsun::archive::{self, BatchAnswer, PrpAnswer, FRAMES_MOST};
 use nippitsun::{Counts, State, Stream};
 use second::random::Random;
 use second::wrong::{self, Seen as Shows, VARIANTS};
@@ -41,6 +42,10 @@ const WORDS: usize = 8;
 /// The first place behind all of them.
 const PLACES: u16 = Stream::WINDOW_MOST;
 
+/// Places of an index, and what an empty one has.
+const INDEX: usize = archive::PLACES;
+const EMPTY: u8 = 0;
+
 /// Batches have up to so many frames, more than are taken.
 const FRAMES_TRIED: u64 = 40;
 /// Bytes of input that a batch has at most. compare/replay.c has room for 65535.
@@ -55,7 +60,24 @@ const THERE_AND_BACK: u64 = 100_000;
 
 // ---- what is given
 
-/// Few destinations and ids, so that keys meet.
+/// Few destinations, so that keys meet, and meet in an index: with VLAN id 0 five have the last place for their own, two the one
+/// before it, two the first, and two place 64. The first three are groups, which are keys like others.
+const DESTINATIONS: [[u8; 6]; 12] = [
+    [3, 0, 0, 0, 3, 35],
+    [3, 0, 0, 0, 3, 122],
+    [3, 0, 0, 0, 0, 20],
+    [2, 0, 0, 0, 0, 40],
+    [2, 0, 0, 0, 0, 127],
+    [2, 0, 0, 0, 0, 214],
+    [2, 0, 0, 0, 0, 33],
+    [2, 0, 0, 0, 0, 120],
+    [2, 0, 0, 0, 1, 226],
+    [2, 0, 0, 0, 0, 87],
+    [2, 0, 0, 0, 0, 174],
+    [2, 0, 0, 0, 0, 1],
+];
+
+/// One of these, and one of few ids.
 fn key(random: &mut Random) -> ([u8; 6], u16) {
     let vlan = match random.below(16) {
         0..=8 => 0,
@@ -63,9 +85,7 @@ fn key(random: &mut Random) -> ([u8; 6], u16) {
         10 => 4095,
         _ => random.below(4) as u16,
     };
-    // Three of the destinations are groups, which are keys like others.
-    let last = random.below(12) as u8;
-    ([2 + u8::from(last < 3), 0, 0, 0, 0, last], vlan)
+    (random.pick(&DESTINATIONS), vlan)
 }
 
 fn counter(random: &mut Random) -> u64 {
@@ -284,7 +304,7 @@ fn damaged(random: &mut Random) -> Stream {
         }
         10 | 18..=25 => {}
         11 => s.state.history = any_history(random),
-        12 => s.dest |= random.bits() << 48,
+        12 => s.dest |= random.pick(&[1, 2, 0xFFFF]) << 48,
         13 => s.state.early = s.window,
         14 => s.state.early = s.window + 1 + random.below(8) as u16,
         15 => s.state.early = 65535,
@@ -328,10 +348,132 @@ fn table(random: &mut Random) -> Vec<Stream> {
         0 => 0,
         1 => 65,
         2 => 64,
-        3..=10 => 1 + random.below(6),
+        3..=13 => 1 + random.below(6),
         _ => random.below(66),
     };
-    (0..slots).map(|_| record(random)).collect()
+    let mut table: Vec<Stream> = (0..slots).map(|_| record(random)).collect();
+    // One slot in use, or one key alone.
+    match random.below(16) {
+        0 => table.iter_mut().skip(1).for_each(|s| s.used = 0),
+        1 => {
+            let (destination, vlan) = key(random);
+            for s in &mut table {
+                (s.dest, s.vlan) = (nippitsun::dest_of(destination), vlan);
+            }
+        }
+        _ => {}
+    }
+    table
+}
+
+/// The place of a record's key in an index, from which following starts.
+fn own_place(s: &Stream) -> usize {
+    (second::mixed(s.dest, s.vlan) >> 25) as usize
+}
+
+/// What a place has that names the slot.
+fn name(slot: usize) -> u8 {
+    slot as u8 + 1
+}
+
+/// The index that a rebuild makes of the table; zeros, where the table has too many slots.
+fn rebuilt(table: &[Stream]) -> Vec<u8> {
+    let mut index = vec![EMPTY; INDEX];
+    archive::rebuild(table, &mut index);
+    index
+}
+
+/// Of each key, the lowest slot in use with it.
+fn lowest(table: &[Stream]) -> Vec<usize> {
+    let is_lowest = |&slot: &usize| {
+        let s = &table[slot];
+        let mut lower = with_key(&table[..slot], s.dest, s.vlan);
+        s.is_used() && lower.next().is_none()
+    };
+    (0..table.len()).filter(is_lowest).collect()
+}
+
+/// A name that can stand in any place that no key needs: of the lowest slot with its key, of a free slot, or beyond the table.
+fn harmless(random: &mut Random, table: &[Stream], lowest: &[usize]) -> u8 {
+    if !lowest.is_empty() && random.chance(1, 3) {
+        return name(random.pick(lowest));
+    }
+    let slots = table.len() as u64;
+    let slot = random.below(slots + 1) as usize;
+    match table.get(slot) {
+        Some(s) if !s.is_used() => name(slot),
+        _ => (slots + 1 + random.below(255 - slots)) as u8,
+    }
+}
+
+/// An index that agrees with the table and is hardly ever the rebuilt one: of slots with one key it names the lowest alone, and
+/// following passes over names of other slots and beyond the table.
+fn agreeing(random: &mut Random, table: &[Stream]) -> Vec<u8> {
+    let mut index = vec![EMPTY; INDEX];
+    let mut lowest = lowest(table);
+    // In another order, and at their own places, near them, or anywhere.
+    if !lowest.is_empty() {
+        let first = random.below(lowest.len() as u64) as usize;
+        lowest.rotate_left(first);
+    }
+    let far = random.pick(&[1, 1, 1, 3, 3, 3, 3, INDEX as u64]);
+    for &slot in &lowest {
+        let mut place = (own_place(&table[slot]) + random.below(far) as usize) % INDEX;
+        while index[place] != EMPTY {
+            place = (place + 1) % INDEX;
+        }
+        index[place] = name(slot);
+    }
+    for &slot in &lowest {
+        let mut place = own_place(&table[slot]);
+        while index[place] != name(slot) {
+            if index[place] == EMPTY {
+                index[place] = harmless(random, table, &lowest);
+            }
+            place = (place + 1) % INDEX;
+        }
+    }
+    // The rest stays empty, or half of it, or nothing.
+    let filled = random.pick(&[0, 0, 1, 2]);
+    for place in &mut index {
+        if filled > 0 && *place == EMPTY && random.chance(filled, 2) {
+            *place = harmless(random, table, &lowest);
+        }
+    }
+    index
+}
+
+/// A place at which some key of the table is likely to be looked for.
+fn place_in(random: &mut Random, table: &[Stream]) -> usize {
+    let from = match table {
+        [] => random.below(INDEX as u64) as usize,
+        table => own_place(&random.pick(table)),
+    };
+    (from + random.below(4) as usize) % INDEX
+}
+
+/// An index beside the table. Most often it agrees.
+fn index(random: &mut Random, table: &[Stream]) -> Vec<u8> {
+    let mut index = if random.chance(1, 2) {
+        rebuilt(table)
+    } else {
+        agreeing(random, table)
+    };
+    let any_name = |random: &mut Random| random.below(table.len() as u64 + 2) as u8;
+    match random.below(32) {
+        0 | 1 => index[place_in(random, table)] = any_name(random),
+        2 => index.swap(place_in(random, table), place_in(random, table)),
+        3 => random.fill(&mut index),
+        4 => index.fill_with(|| any_name(random)),
+        5 => index.fill(EMPTY),
+        6..=8 => index.fill(name(0)),
+        9 => index.fill(any_name(random)),
+        10 => index.truncate(INDEX - 1),
+        11 => index.push(random.byte()),
+        12 => index.clear(),
+        _ => {}
+    }
+    index
 }
 
 /// Where the frames of calls are written.
@@ -680,24 +822,25 @@ fn next(random: &mut Random) -> u16 {
     random.pick(&[0, 1, 65534, 65535, 65535, any])
 }
 
-/// A call, and how many bytes its outputs should have.
+/// A call, and how many bytes its outputs should have. Its index stands beside it.
 fn call<'a>(
     random: &mut Random,
     pool: &[u8],
     table: &[Stream],
     f: &'a mut Frames,
 ) -> (Call<'a>, [usize; 2]) {
-    match random.below(51) {
+    match random.below(52) {
         0 => return batch(random, pool, table, f),
         1..=3 => return send(random, pool, table, &mut f.single),
         4..=6 => return turn(random, pool, table, &mut f.single),
+        7 => return (Call::Rebuild, [0, 0]),
         _ => {}
     }
     let f = &mut f.single;
     let kind = random.below(32);
     match kind {
-        19..=22 => return (Call::Open(settings(random)), [0, 0]),
-        23 => return (Call::Close(slot(random, table)), [0, 0]),
+        18..=21 => return (Call::Open(settings(random)), [0, 0]),
+        22 | 23 => return (Call::Close(slot(random, table)), [0, 0]),
         24 | 25 => return (Call::Reset(slot(random, table)), [0, 0]),
         26 | 27 => return (Call::Tick, [0, 0]),
         _ => {}
@@ -722,7 +865,7 @@ fn call<'a>(
 
 // ---- what came up
 
-const CALLS: [&str; 12] = [
+const CALLS: [&str; 13] = [
     "arrival",
     "open",
     "close",
@@ -735,22 +878,26 @@ const CALLS: [&str; 12] = [
     "reset of a sender",
     "from PRP",
     "to PRP",
+    "rebuild",
 ];
 /// The refusals that each call can give.
-const REFUSALS: [&[u8]; 12] = [
+const REFUSALS: [&[u8]; 13] = [
     &[1, 2, 3, 4, 5, 14, 6, 7, 8],
-    &[1, 9, 10, 11],
-    &[1, 12],
+    &[1, 18, 9, 10, 11],
+    &[1, 18, 12],
     &[1, 12, 7],
     &[1],
     &[3, 4, 5, 8],
     &[3, 4, 13, 14, 8],
-    &[1, 2, 15],
+    &[1, 18, 2, 15],
     &[3, 4, 13, 14, 8],
     &[],
     &[3, 4, 13, 16, 8],
     &[2, 3, 4, 5, 8],
+    &[1, 18],
 ];
+/// The lengths that an index may not have.
+const LENGTHS: [usize; 3] = [0, INDEX - 1, INDEX + 1];
 const COUNTERS: [&str; 8] = [
     "arrivals on network 0",
     "arrivals on network 1",
@@ -1439,10 +1586,227 @@ impl Histories {
     }
 }
 
+/// What there may be about an index that agrees.
+const AGREES: [&str; 11] = [
+    "the rebuilt index",
+    "another index",
+    "an index without an empty place",
+    "an index whose places all name slot 0",
+    "a higher slot with a key that is not named",
+    "a key followed over a name beyond the table",
+    "a key followed over the name of a free slot",
+    "a key followed over the name of another one",
+    "a key followed round the end",
+    "one own place of two keys",
+    "two keys that differ above the sixth byte alone",
+];
+/// What may be wrong with an index of 128 places.
+const DIFFERS: [&str; 4] = [
+    "a key that is not named",
+    "a key named behind an empty place alone",
+    "a higher slot found before the lowest",
+    "zeros",
+];
+/// The calls that ask for the agreement, with the refusals that come behind 18.
+const ASKING: [(usize, &[usize]); 3] = [(1, &[9, 10, 11]), (2, &[12]), (7, &[2, 15])];
+
+/// What must come up with the index that a call takes.
+#[derive(Default)]
+struct Indexes {
+    /// By the call, then [`AGREES`], where the call is not refused.
+    agrees: [[u64; 11]; 13],
+    /// By the call, then [`DIFFERS`], where the answer is 18.
+    differs: [[u64; 4]; 13],
+    /// By the call, then [`LENGTHS`]: where the answer is 18, and where it is 1.
+    lengths: [[u64; 3]; 13],
+    lengths_behind_1: [[u64; 3]; 13],
+    /// By the call, then the refusal that would have come behind 18.
+    before: [[u64; 19]; 13],
+    /// By the call, then its refusal, where the index is another than the rebuilt one.
+    left: [[u64; 19]; 13],
+    rebuilt_from_other: u64,
+    rebuilt_from_unlike: u64,
+    lower_closed: u64,
+    lower_closed_unnamed: u64,
+}
+
+/// Where following from a key leads, and what it passes.
+#[derive(Default)]
+struct Followed {
+    slot: Option<usize>,
+    round: bool,
+    beyond: bool,
+    free: bool,
+    other: bool,
+}
+
+fn followed(table: &[Stream], index: &[u8], key: &Stream) -> Followed {
+    let mut on = Followed::default();
+    let own = own_place(key);
+    for place in own..own + INDEX {
+        let slot = match index[place % INDEX] {
+            EMPTY => return on,
+            name => usize::from(name) - 1,
+        };
+        on.round |= place >= INDEX;
+        match table.get(slot) {
+            None => on.beyond = true,
+            Some(s) if !s.is_used() => on.free = true,
+            Some(s) if (s.dest, s.vlan) != (key.dest, key.vlan) => on.other = true,
+            Some(_) => {
+                on.slot = Some(slot);
+                return on;
+            }
+        }
+    }
+    on
+}
+
+impl Indexes {
+    /// A call that takes an index, its answer and what it started from.
+    fn note(&mut self, call: &Call, answer: &Answer, given: Areas) {
+        let kind = place(call);
+        let (table, index) = (given.table, given.index);
+        let refusal = match *answer {
+            Answer::Refused(n) => n,
+            _ => 0,
+        };
+        if let Some(length) = LENGTHS.iter().position(|&n| n == index.len()) {
+            match refusal {
+                1 => self.lengths_behind_1[kind][length] += 1,
+                _ => self.lengths[kind][length] += 1,
+            }
+        } else if refusal == 18 {
+            self.differs(kind, table, index);
+        }
+        match refusal {
+            1 => {}
+            // What the answer would have been.
+            18 => {
+                let told = Product::new(table).call(*call, [&mut [], &mut []]);
+                if let Answer::Refused(n) = told {
+                    self.before[kind][usize::from(n)] += 1;
+                }
+            }
+            0 => self.taken(call, table, index),
+            n => self.left[kind][usize::from(n)] += u64::from(index != rebuilt(table)),
+        }
+    }
+
+    /// Of 128 places, and refused with 18.
+    fn differs(&mut self, kind: usize, table: &[Stream], index: &[u8]) {
+        let seen = &mut self.differs[kind];
+        seen[3] += u64::from(index.iter().all(|&place| place == EMPTY));
+        let wrong = lowest(table).into_iter().find_map(|slot| {
+            let found = followed(table, index, &table[slot]).slot;
+            (found != Some(slot)).then_some((slot, found))
+        });
+        match wrong {
+            Some((_, Some(_))) => seen[2] += 1,
+            Some((slot, None)) => seen[usize::from(index.contains(&name(slot)))] += 1,
+            None => {}
+        }
+    }
+
+    /// Not refused.
+    fn taken(&mut self, call: &Call, table: &[Stream], index: &[u8]) {
+        let own = index == rebuilt(table);
+        let lowest = lowest(table);
+        if let Call::Rebuild = call {
+            let finds = |&slot: &usize| followed(table, index, &table[slot]).slot == Some(slot);
+            let agrees = lowest.iter().all(finds);
+            self.rebuilt_from_other += u64::from(agrees && !own);
+            self.rebuilt_from_unlike += u64::from(!agrees);
+            return;
+        }
+        // A slot in use behind another one with its key.
+        let is_higher = |slot: &usize| table[*slot].is_used() && !lowest.contains(slot);
+        let is_named = |slot: &usize| index.contains(&name(*slot));
+        if let Call::Close(closed) = *call {
+            let key = |slot: usize| (table[slot].dest, table[slot].vlan);
+            let behind = (closed + 1..table.len()).filter(|&slot| key(slot) == key(closed));
+            let mut higher = behind.filter(is_higher);
+            if let (true, Some(next)) = (lowest.contains(&closed), higher.next()) {
+                self.lower_closed += 1;
+                self.lower_closed_unnamed += u64::from(!is_named(&next));
+            }
+        }
+        let mut passed = Followed::default();
+        let mut places = [false; INDEX];
+        let (mut one_place, mut above) = (false, false);
+        for &slot in &lowest {
+            let s = &table[slot];
+            let on = followed(table, index, s);
+            passed.beyond |= on.beyond;
+            passed.free |= on.free;
+            passed.other |= on.other;
+            passed.round |= on.round;
+            one_place |= std::mem::replace(&mut places[own_place(s)], true);
+            let is_like = |&n: &usize| {
+                n != slot && table[n].vlan == s.vlan && (table[n].dest ^ s.dest) << 16 == 0
+            };
+            above |= s.dest >> 48 != 0 && lowest.iter().any(is_like);
+        }
+        let seen = [
+            own,
+            !own,
+            !index.contains(&EMPTY),
+            index.iter().all(|&place| place == name(0)) && !lowest.is_empty(),
+            // The rebuilt one names every slot in use.
+            !own && (0..table.len()).any(|slot| is_higher(&slot) && !is_named(&slot)),
+            passed.beyond,
+            passed.free,
+            passed.other,
+            passed.round,
+            one_place,
+            above,
+        ];
+        for (n, seen) in self.agrees[place(call)].iter_mut().zip(seen) {
+            *n += u64::from(seen);
+        }
+    }
+
+    fn list(&self, list: &mut Vec<(String, u64)>) {
+        for (kind, behind) in ASKING {
+            let mut add = |what: String, n| list.push((format!("{}: {}", CALLS[kind], what), n));
+            for (what, n) in AGREES.iter().zip(self.agrees[kind]) {
+                add(String::from(*what), n);
+            }
+            for (what, n) in DIFFERS.iter().zip(self.differs[kind]) {
+                add(format!("18 for {}", what), n);
+            }
+            for &n in behind {
+                add(format!("18 before {}", n), self.before[kind][n]);
+                let what = format!("{} leaves an index that is not the rebuilt one", n);
+                add(what, self.left[kind][n]);
+            }
+        }
+        for kind in [1, 2, 7, 12] {
+            for (place, length) in LENGTHS.iter().enumerate() {
+                for (n, seen) in [(18, self.lengths), (1, self.lengths_behind_1)] {
+                    let what = format!("{}: {} with {} places", CALLS[kind], n, length);
+                    list.push((what, seen[kind][place]));
+                }
+            }
+        }
+        for (what, n) in [
+            ("a rebuild of an index that agrees", self.rebuilt_from_other),
+            ("a rebuild of one that does not", self.rebuilt_from_unlike),
+            ("the lower of two slots closed", self.lower_closed),
+            (
+                "the lower of two slots closed, and the higher was not named",
+                self.lower_closed_unnamed,
+            ),
+        ] {
+            list.push((String::from(what), n));
+        }
+    }
+}
+
 /// How often each thing came up.
 struct Seen {
-    calls: [u64; 12],
-    refused: [[u64; 17]; 12],
+    calls: [u64; 13],
+    refused: [[u64; 19]; 13],
     /// By rule, then handed up, duplicate, rogue.
     verdicts: [[u64; 3]; 2],
     /// By window and difference, in vector streams without take-any.
@@ -1462,6 +1826,7 @@ struct Seen {
     prp: Prp,
     early: Early,
     histories: Histories,
+    indexes: Indexes,
 }
 
 /// The frames of a batch, as far as they stand whole in its input, and what stands behind them.
@@ -1503,6 +1868,7 @@ fn place(call: &Call) -> usize {
         Call::ResetSender => 9,
         Call::FromPrp { .. } => 10,
         Call::ToPrp { .. } => 11,
+        Call::Rebuild => 12,
     }
 }
 
@@ -1616,8 +1982,7 @@ impl Batches {
 
 /// Is this record in use and damaged?
 fn is_damaged(s: Stream) -> bool {
-    let told = Product::new(&[s]).call(Call::Tick, [&mut [], &mut []]);
-    matches!(told, Answer::Ticked { damaged: 1, .. })
+    archive::tick(&mut [s]).damaged == 1
 }
 
 /// Which of [`EARLY_FAULTS`] a record has that is damaged by its n alone.
@@ -1769,8 +2134,8 @@ fn is_older(number: u16, s: &Stream) -> bool {
 impl Seen {
     fn new() -> Seen {
         Seen {
-            calls: [0; 12],
-            refused: [[0; 17]; 12],
+            calls: [0; 13],
+            refused: [[0; 19]; 13],
             verdicts: [[0; 3]; 2],
             differences: BTreeMap::new(),
             take_any: 0,
@@ -1788,6 +2153,7 @@ impl Seen {
             prp: Prp::default(),
             early: Early::default(),
             histories: Histories::default(),
+            indexes: Indexes::default(),
         }
     }
 
@@ -1796,6 +2162,9 @@ impl Seen {
         let kind = place(call);
         self.sends.note(call, answer, given);
         self.prp.note(call, answer, given);
+        if call.takes_index() {
+            self.indexes.note(call, answer, given);
+        }
         let (before, after, room) = (given.table, left.table, given.outs[0].len());
         self.early.note(call, answer, before, after);
         self.histories.note(call, answer, before, after);
@@ -1860,8 +2229,8 @@ impl Seen {
             self.groups[2] += u64::from(kind == 5 && matches!(answer, Answer::Tag { .. }));
             self.groups[4] += u64::from((kind, answer) == (8, &Answer::Refused(13)));
         }
-        // A counter that falls has wrapped, but where an open wrote zeros.
-        if !matches!(call, Call::Open(_)) {
+        // A counter that falls has wrapped, but where an open wrote zeros. A refused call has changed none.
+        if !matches!(call, Call::Open(_)) && !matches!(answer, Answer::Refused(_)) {
             for (b, a) in before.iter().zip(after) {
                 if b.counts != a.counts {
                     for (n, (b, a)) in b.counts.all().iter().zip(a.counts.all()).enumerate() {
@@ -1930,6 +2299,7 @@ impl Seen {
         self.prp.list(&mut list);
         self.early.list(&mut list);
         self.histories.list(&mut list);
+        self.indexes.list(&mut list);
         for slots in [0, 1, 63, 64, 65] {
             list.push((format!("calls on {} slots", slots), self.slots[slots]));
         }
@@ -2140,7 +2510,10 @@ fn run(seed: u64, count: u64, mut kept: Option<&mut Vec<u8>>) -> Result<Seen, St
     random.fill(&mut pool);
     let mut seen = Seen::new();
     let (mut product, mut second) = (Product::new(&[]), Second::new(&[]));
-    let mut before = Vec::new();
+    // Table and index before a call.
+    let (mut before, mut index) = (Vec::new(), Vec::new());
+    // The table's owner has written to it since the index was made.
+    let mut index_is_old = false;
     let mut f = Frames {
         single: [0; 2100],
         packed: Vec::new(),
@@ -2150,6 +2523,7 @@ fn run(seed: u64, count: u64, mut kept: Option<&mut Vec<u8>>) -> Result<Seen, St
             before = table(&mut random);
             product = Product::new(&before);
             second = Second::new(&before);
+            index_is_old = false;
         }
         // Now and then the table's owner writes to a slot.
         if !before.is_empty() && random.chance(1, 4) {
@@ -2160,6 +2534,7 @@ fn run(seed: u64, count: u64, mut kept: Option<&mut Vec<u8>>) -> Result<Seen, St
             product.set(slot, s);
             second.set(slot, s);
             before[slot] = s;
+            index_is_old = true;
         }
         // And the sender's owner its next number.
         if random.chance(1, 32) {
@@ -2168,12 +2543,22 @@ fn run(seed: u64, count: u64, mut kept: Option<&mut Vec<u8>>) -> Result<Seen, St
             second.set_next(next);
         }
         let (call, rooms) = call(&mut random, &pool, &before, &mut f);
+        // Most often an old index is not lent. Another one is carried on from call to call, or is not.
+        if call.takes_index() && random.chance(if index_is_old { 15 } else { 4 }, 16) {
+            let lent = self::index(&mut random, &before);
+            product.set_index(&lent);
+            second.set_index(&lent);
+            index_is_old = false;
+        }
+        index.clear();
+        index.extend_from_slice(product.index());
         let starts = rooms.map(|room| {
             let from = random.below((pool.len() - room) as u64) as usize;
             &pool[from..from + room]
         });
         let given = Areas {
             table: &before,
+            index: &index,
             outs: starts,
             next: product.next(),
         };
@@ -2182,9 +2567,10 @@ fn run(seed: u64, count: u64, mut kept: Option<&mut Vec<u8>>) -> Result<Seen, St
             made(&mut product, call, &mut a),
             made(&mut second, call, &mut b),
         );
-        let after: Vec<Stream> = (0..before.len()).map(|slot| product.record(slot)).collect();
+        let after = product.records();
         let left = Areas {
-            table: &after,
+            table: after,
+            index: product.index(),
             outs: [&a[0], &a[1]],
             next: product.next(),
         };
@@ -2198,6 +2584,12 @@ fn run(seed: u64, count: u64, mut kept: Option<&mut Vec<u8>>) -> Result<Seen, St
                 after[slot],
                 second.record(slot),
                 before[slot]
+            ))
+        } else if left.index != second.index() {
+            Some(format!(
+                "the indexes: product {:x?}\nsecond {:x?}",
+                left.index,
+                second.index()
             ))
         } else if left.next != second.next() {
             Some(format!(
@@ -2218,12 +2610,13 @@ fn run(seed: u64, count: u64, mut kept: Option<&mut Vec<u8>>) -> Result<Seen, St
         };
         if let Some(wrong) = wrong {
             return Err(format!(
-                "DIFFERENT at seed {}, call {} (table of {} slots, outputs of {:?} bytes)\n{:x?}\nproduct {:?}, second {:?}\n{}",
+                "DIFFERENT at seed {}, call {} (table of {} slots, outputs of {:?} bytes)\n{:x?}\nindex {:x?}\nproduct {:?}, second {:?}\n{}",
                 seed,
                 case,
                 before.len(),
                 rooms,
                 call,
+                given.index,
                 x,
                 y,
                 wrong
@@ -2233,7 +2626,7 @@ fn run(seed: u64, count: u64, mut kept: Option<&mut Vec<u8>>) -> Result<Seen, St
         if let Some(kept) = kept.as_deref_mut() {
             cases::add(kept, call, given, &x, left);
         }
-        before = after;
+        before.copy_from_slice(after);
     }
     Ok(seen)
 }
@@ -2264,7 +2657,7 @@ fn compare(seed: u64, count: u64) -> Result<(), String> {
         n
     );
     println!(
-        "{} random calls: answers, tables, senders and outputs of product and second program equal",
+        "{} random calls: answers, tables, indexes, senders and outputs of product and second program equal",
         count
     );
     Ok(())

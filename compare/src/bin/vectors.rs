@@ -1,5 +1,5 @@
 //! A fixed list of calls that are run and not proved, with what each answers and changes: document 01, "Run but not proved",
-//! and the places where a slip is likely, orders 1 and 3 to 7 of document 02 among them.
+//! and the places where a slip is likely, orders 1, 3 to 7 and 9 of document 02 among them.
 //!
 //!     vectors product    the list on the compiled product
 //!     vectors second     the list on the second program
@@ -11,6 +11,7 @@
 
 use compare::cases::{self, Areas};
 use compare::{Answer, Call, Product, Second, Settings, Side};
+use nippitsun::archive::PLACES;
 use nippitsun::{dest_of, Counts, State, Stream};
 use std::fmt::Write as _;
 use std::io::{self, Write as _};
@@ -191,6 +192,47 @@ fn settings(rule: u8, window: u16, time: u16) -> Settings {
     }
 }
 
+/// A destination whose own place in an index is this one, where there is no VLAN tag: the first one, the second and so on.
+fn at_place(place: usize, nth: usize) -> [u8; 6] {
+    let all = (0..=u16::MAX).map(|n| {
+        let [high, low] = n.to_be_bytes();
+        [2, 0, 0, 0, high, low]
+    });
+    let there = |six: &[u8; 6]| second::own_place(*six, 0) == place;
+    all.filter(there).nth(nth).expect("each place has hundreds")
+}
+
+/// The running stream to another destination.
+fn running_to(destination: [u8; 6]) -> Stream {
+    Stream {
+        dest: dest_of(destination),
+        ..running()
+    }
+}
+
+fn settings_to(destination: [u8; 6]) -> Settings {
+    Settings {
+        destination,
+        ..settings(1, 4, 3)
+    }
+}
+
+/// A frame of 20 bytes to another destination.
+fn numbered_to(destination: [u8; 6], number: u16) -> Vec<u8> {
+    let mut f = frame(20, tagged(number));
+    f[..6].copy_from_slice(&destination);
+    f
+}
+
+/// An index of 128 places that has this in all places but these.
+fn index_of(rest: u8, places: &[(usize, u8)]) -> Vec<u8> {
+    let mut index = vec![rest; PLACES];
+    for &(place, name) in places {
+        index[place] = name;
+    }
+    index
+}
+
 /// A record's fields, each as it is shown. Two that differ are shown differently.
 fn fields(s: &Stream) -> Vec<(&'static str, String)> {
     let (state, counts) = (&s.state, &s.counts);
@@ -298,6 +340,29 @@ fn written(bytes: &[u8]) -> String {
     )
 }
 
+/// What became of an index: the places that changed, or where these are many, those that are not empty now.
+fn changed_places(before: &[u8], after: &[u8]) -> String {
+    let places = || before.iter().zip(after).enumerate();
+    let changed: Vec<String> = places()
+        .filter(|(_, (b, a))| b != a)
+        .map(|(place, (b, a))| format!("{} {}>{}", place, b, a))
+        .collect();
+    let named: Vec<String> = places()
+        .filter(|(_, (_, a))| **a != 0)
+        .map(|(place, (_, a))| format!("{} {}", place, a))
+        .collect();
+    let few = 8;
+    if changed.len() <= few {
+        format!("places {}", changed.join(", "))
+    } else if named.is_empty() {
+        String::from("all places empty")
+    } else if named.len() <= few {
+        format!("all places empty but {}", named.join(", "))
+    } else {
+        format!("index {}", written(after))
+    }
+}
+
 struct List<S> {
     side: S,
     slots: usize,
@@ -319,6 +384,12 @@ impl<S: Side> List<S> {
         (0..self.slots).map(|slot| self.side.record(slot)).collect()
     }
 
+    /// A table and an index beside it.
+    fn table_with(&mut self, records: &[Stream], index: &[u8]) {
+        self.table(records);
+        self.side.set_index(index);
+    }
+
     /// A table with one slot.
     fn one(&mut self, record: Stream) {
         self.table(&[record]);
@@ -332,6 +403,7 @@ impl<S: Side> List<S> {
     /// The same with two outputs.
     fn call_with(&mut self, what: &str, call: Call, rooms: [usize; 2]) {
         let (before, next) = (self.records(), self.side.next());
+        let index = self.side.index().to_vec();
         let blank = rooms.map(|room| vec![BLANK; room]);
         let mut outs = blank.clone();
         let [out, second_out] = &mut outs;
@@ -339,11 +411,13 @@ impl<S: Side> List<S> {
         let after = self.records();
         let given = Areas {
             table: &before,
+            index: &index,
             outs: [&blank[0], &blank[1]],
             next,
         };
         let left = Areas {
             table: &after,
+            index: self.side.index(),
             outs: [&outs[0], &outs[1]],
             next: self.side.next(),
         };
@@ -359,6 +433,9 @@ impl<S: Side> List<S> {
             if !changed.is_empty() {
                 changes.push(format!("slot {}: {}", slot, changed.join(", ")));
             }
+        }
+        if given.index != left.index {
+            changes.push(changed_places(given.index, left.index));
         }
         if given.next != left.next {
             changes.push(format!("next number {}>{}", given.next, left.next));
@@ -1407,6 +1484,280 @@ impl<S: Side> List<S> {
         }
     }
 
+    /// Each call that takes an index, from the same table and index: an open of a third key, a close of each of two slots, a batch
+    /// for each, and a rebuild.
+    fn index_calls(&mut self, what: &str, records: &[Stream], index: &[u8], keys: [[u8; 6]; 3]) {
+        let [first, second, third] = keys;
+        let frames = packed(&[numbered_to(first, 101), numbered_to(second, 102)]);
+        let batch = Call::Batch {
+            network: 0,
+            count: 2,
+            frames: &frames,
+        };
+        for (name, call) in [
+            ("open", Call::Open(settings_to(third))),
+            ("close slot 0", Call::Close(0)),
+            ("close slot 2", Call::Close(2)),
+            ("batch", batch),
+            ("rebuild", Call::Rebuild),
+        ] {
+            self.table_with(records, index);
+            self.call(&format!("{}: {}", what, name), call, 60);
+        }
+    }
+
+    fn indexes(&mut self) {
+        self.section("An index beside slots 0 and 2, slot 1 is free; both keys have place 127 for their own, and the key to open too");
+        let keys = [0, 1, 2].map(|nth| at_place(127, nth));
+        let [first, second, _] = keys;
+        let free = Stream {
+            used: 0,
+            ..running()
+        };
+        let records = [running_to(first), free, running_to(second)];
+        for (what, index) in [
+            ("the rebuilt one", index_of(0, &[(127, 1), (0, 3)])),
+            ("in the other order", index_of(0, &[(127, 3), (0, 1)])),
+            (
+                "over a name beyond the table",
+                index_of(0, &[(127, 4), (0, 1), (1, 3)]),
+            ),
+            (
+                "over names 65 and 255",
+                index_of(0, &[(127, 255), (0, 65), (1, 3), (2, 1)]),
+            ),
+            (
+                "over the name of a free slot",
+                index_of(0, &[(127, 2), (0, 2), (1, 1), (2, 3)]),
+            ),
+            (
+                "each named twice",
+                index_of(0, &[(127, 1), (0, 1), (1, 3), (2, 3)]),
+            ),
+            (
+                "no empty place, one name each",
+                index_of(2, &[(125, 1), (126, 3)]),
+            ),
+            (
+                "no empty place, all name slot 0 but one",
+                index_of(1, &[(64, 3)]),
+            ),
+            (
+                "other names behind the end",
+                index_of(0, &[(127, 1), (0, 3), (2, 3), (3, 2), (4, 9)]),
+            ),
+            ("zeros", index_of(0, &[])),
+            ("all name slot 0", index_of(1, &[])),
+            ("all name the free slot", index_of(2, &[])),
+            ("slot 2 is not named", index_of(0, &[(127, 1)])),
+            ("slot 0 is not named", index_of(0, &[(127, 3)])),
+            (
+                "an empty place before slot 2",
+                index_of(0, &[(127, 1), (1, 3)]),
+            ),
+            ("an empty own place", index_of(0, &[(0, 1), (1, 3)])),
+            (
+                "slot 2 before its own place",
+                index_of(0, &[(127, 1), (126, 3)]),
+            ),
+        ] {
+            self.index_calls(what, &records, &index, keys);
+        }
+        let rebuilt = index_of(0, &[(127, 1), (0, 3)]);
+        let long = [&rebuilt[..], &[0]].concat();
+        for index in [&rebuilt[..0], &rebuilt[..127], &long] {
+            let what = format!("{} places", index.len());
+            self.index_calls(&what, &records, index, keys);
+        }
+
+        self.section("An index carried on from call to call: keys whose own places are 126, 127 and 127, and slots that their owner wrote to");
+        let keys = [at_place(126, 0), at_place(127, 0), at_place(127, 1)];
+        self.table(&[Stream::default(); 3]);
+        for key in keys {
+            self.call("open", Call::Open(settings_to(key)), 0);
+        }
+        self.call("close slot 1", Call::Close(1), 0);
+        self.call("close slot 0", Call::Close(0), 0);
+        self.call("open", Call::Open(settings_to(keys[1])), 0);
+        let frames = packed(&keys.map(|key| numbered_to(key, 7)));
+        self.batch_here("one of each", 0, 3, &frames, 60);
+        let mut record = self.side.record(0);
+        record.vlan = 5;
+        self.side.set(0, record);
+        self.batch_here("slot 0 has VLAN 5 now", 0, 3, &frames, 60);
+        self.call("close slot 2", Call::Close(2), 0);
+        self.call("tick", Call::Tick, 0);
+        self.call("reset slot 0", Call::Reset(0), 0);
+        self.call("rebuild", Call::Rebuild, 0);
+        self.call("rebuild", Call::Rebuild, 0);
+        self.batch_here("the same", 0, 3, &frames, 60);
+        record.used = 0;
+        self.side.set(0, record);
+        self.call("close slot 2, slot 0 is free now", Call::Close(2), 0);
+        self.call("open", Call::Open(settings_to(keys[0])), 0);
+    }
+
+    fn shared_names(&mut self) {
+        self.section(
+            "An index beside slots 0 and 2 with one key, whose own place is 127; slot 1 is free",
+        );
+        let (key, other) = (at_place(127, 0), at_place(127, 1));
+        let free = Stream {
+            used: 0,
+            ..running()
+        };
+        let records = [running_to(key), free, running_to(key)];
+        for (what, index) in [
+            ("the rebuilt one", index_of(0, &[(127, 1), (0, 3)])),
+            ("the lower alone", index_of(0, &[(127, 1)])),
+            ("all name the lower", index_of(1, &[])),
+            ("the higher first", index_of(0, &[(127, 3), (0, 1)])),
+            ("the higher alone", index_of(0, &[(127, 3)])),
+            ("all name the higher", index_of(3, &[])),
+        ] {
+            self.index_calls(what, &records, &index, [key, key, other]);
+        }
+        for (what, index) in [
+            ("the lower alone", index_of(0, &[(127, 1)])),
+            ("all name the lower", index_of(1, &[])),
+        ] {
+            self.table_with(&records, &index);
+            self.call(&format!("{}: close the lower", what), Call::Close(0), 0);
+            let frames = packed(&[numbered_to(key, 101)]);
+            self.batch_here("the higher has it", 0, 1, &frames, 60);
+            self.call("open its key", Call::Open(settings_to(key)), 0);
+            self.call("open another", Call::Open(settings_to(other)), 0);
+            self.call("close the higher", Call::Close(2), 0);
+        }
+
+        self.section("An index beside slots 0 and 2 whose keys differ above the sixth byte alone; slot 1 is free");
+        let mut records = records;
+        records[0].dest |= 1 << 48;
+        for (what, index) in [
+            ("the rebuilt one", index_of(0, &[(127, 1), (0, 3)])),
+            ("in the other order", index_of(0, &[(127, 3), (0, 1)])),
+            ("slot 0 alone", index_of(0, &[(127, 1)])),
+            ("slot 2 alone", index_of(0, &[(127, 3)])),
+        ] {
+            self.index_calls(what, &records, &index, [key, key, other]);
+        }
+    }
+
+    fn index_tables(&mut self) {
+        let key = at_place(127, 0);
+        let frames = packed(&[numbered_to(key, 101)]);
+        let batch = Call::Batch {
+            network: 0,
+            count: 1,
+            frames: &frames,
+        };
+        let calls = [
+            ("open", Call::Open(settings_to(key))),
+            ("close slot 0", Call::Close(0)),
+            ("batch", batch),
+            ("rebuild", Call::Rebuild),
+        ];
+        for slots in [0, 1, 65] {
+            self.section(&format!("An index beside a table of free slots: {}", slots));
+            let free = vec![Stream::default(); slots];
+            for (what, index) in [
+                ("zeros", vec![0; PLACES]),
+                ("any bytes", filled(Vec::new(), PLACES)),
+                ("all name slot 0", vec![1; PLACES]),
+                ("127 places", vec![0; 127]),
+                ("129 places", vec![0; 129]),
+                ("0 places", Vec::new()),
+            ] {
+                for (name, call) in calls {
+                    self.table_with(&free, &index);
+                    self.call(&format!("{}: {}", what, name), call, 60);
+                }
+            }
+        }
+        for slots in [64, 65] {
+            self.section(&format!(
+                "An index beside {} slots, free but the last, which all places name",
+                slots
+            ));
+            let mut records = vec![Stream::default(); slots];
+            records[slots - 1] = running_to(key);
+            for (name, call) in [
+                ("open", Call::Open(settings_to(at_place(127, 1)))),
+                ("open its key", Call::Open(settings_to(key))),
+                ("close it", Call::Close(slots - 1)),
+                ("batch", batch),
+                ("rebuild", Call::Rebuild),
+            ] {
+                self.table_with(&records, &[slots as u8; PLACES]);
+                self.call(name, call, 60);
+            }
+        }
+        self.section("A full index at an open: 63 keys with the same own place in 64 slots, and all other places name slot 62");
+        let keys: Vec<[u8; 6]> = (0..64).map(|nth| at_place(100, nth)).collect();
+        let mut records: Vec<Stream> = keys.iter().map(|&key| running_to(key)).collect();
+        records[63].used = 0;
+        let mut full = vec![63; PLACES];
+        for (place, name) in full.iter_mut().zip(1..=62) {
+            *place = name;
+        }
+        self.table_with(&records, &full);
+        let frames = packed(&[0, 31, 62, 63].map(|n| numbered_to(keys[n], 101)));
+        self.batch_here("slots 0, 31, 62 and 63", 0, 4, &frames, 80);
+        self.call("open", Call::Open(settings_to(keys[63])), 0);
+        self.batch_here("the same on 1", 1, 4, &frames, 80);
+        self.call("open another", Call::Open(settings(1, 4, 3)), 0);
+        self.call("close slot 31", Call::Close(31), 0);
+        self.call("open it again", Call::Open(settings_to(keys[31])), 0);
+    }
+
+    fn index_order(&mut self) {
+        self.section("The order of checks with an index, on one stream in a full table: every place names it, no place does, and 127 places");
+        let calls = [
+            ("open with rule 3", Call::Open(settings(3, 4, 3))),
+            ("open with L = 513", Call::Open(settings(1, 513, 3))),
+            ("open its key", Call::Open(settings(1, 4, 3))),
+            ("open another", Call::Open(settings_to(GROUP))),
+            ("close slot 1", Call::Close(1)),
+            ("close slot 128", Call::Close(128)),
+        ];
+        let two = packed(&numbered(&[101, 102]));
+        let batches = [(2, 2), (255, 33), (0, 33), (1, 3)].map(|(network, count)| {
+            let what = format!("batch of {} of 2 frames on network {}", count, network);
+            let call = Call::Batch {
+                network,
+                count,
+                frames: &two,
+            };
+            (what, call)
+        });
+        for (what, index) in [
+            ("all name it", vec![1; PLACES]),
+            ("zeros", vec![0; PLACES]),
+            ("127 places", vec![1; 127]),
+        ] {
+            self.table_with(&[running()], &index);
+            for (name, call) in calls {
+                self.call(&format!("{}: {}", what, name), call, 60);
+            }
+            for (name, call) in &batches {
+                self.call(&format!("{}: {}", what, name), *call, 60);
+            }
+        }
+        self.section("The order of checks with an index, on 65 slots: no place names the stream, and 127 places");
+        for (what, index) in [("zeros", vec![0; PLACES]), ("127 places", vec![0; 127])] {
+            let mut records = vec![Stream::default(); 65];
+            records[0] = running();
+            self.table_with(&records, &index);
+            for (name, call) in calls {
+                self.call(&format!("{}: {}", what, name), call, 60);
+            }
+            for (name, call) in &batches {
+                self.call(&format!("{}: {}", what, name), *call, 60);
+            }
+            self.call(&format!("{}: rebuild", what), Call::Rebuild, 0);
+        }
+    }
+
     fn damage(&mut self) {
         self.section("Damaged records of every kind: each call on a table with that record alone");
         let state = |change: fn(&mut State)| {
@@ -1811,7 +2162,7 @@ fn run<S: Side>() -> List<S> {
         side: S::new(&[]),
         slots: 0,
         cases: Vec::new(),
-        lines: String::from("# A call, its answer, and all that it changed; A>B: the field was A and is B. A stream has L = 4 and R = 3 where nothing else is said. A history is shown by the words that it needs, the highest in front.\n"),
+        lines: String::from("# A call, its answer, and all that it changed; A>B: the field was A and is B. A stream has L = 4 and R = 3 where nothing else is said. A history is shown by the words that it needs, the highest in front. The index is the rebuilt one where nothing else is said, with its places from 0 to 127; 0 is an empty place, and k + 1 names slot k.\n"),
     };
     list.frames();
     list.other_frames();
@@ -1833,6 +2184,10 @@ fn run<S: Side>() -> List<S> {
     list.sends();
     list.prp_frames();
     list.prp_edges();
+    list.indexes();
+    list.shared_names();
+    list.index_tables();
+    list.index_order();
     list
 }
 

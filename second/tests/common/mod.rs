@@ -8,7 +8,7 @@ use std::panic::catch_unwind;
 use second::history::History;
 use second::random::Random;
 use second::wrong::{self, Wrong};
-use second::{arrival, Arrival, Refusal, Settings, Stream, Verdict};
+use second::{arrival, rebuild, Arrival, Batch, Refusal, Settings, Stream, Verdict};
 
 /// The destination most tests use.
 pub const DESTINATION: [u8; 6] = [2, 0, 0, 0, 0, 1];
@@ -187,6 +187,182 @@ pub fn arrive(table: &mut [Stream], number: u16) -> &'static str {
         }
         Err(refusal) => panic!("refused with {}", refusal.number()),
     }
+}
+
+/// The index that the library rebuilds from a table. A table of more than 64
+/// slots has none; the call that it goes to refuses that table anyhow.
+pub fn index_of(table: &[Stream]) -> [u8; 128] {
+    let mut index = [FILL; 128];
+    let _ = rebuild(table, &mut index);
+    index
+}
+
+/// An open with the index rebuilt for it, for tests that look at the table.
+pub fn open(table: &mut [Stream], settings: Settings) -> Result<usize, Refusal> {
+    let mut index = index_of(table);
+    second::open(table, &mut index, settings)
+}
+
+/// A close with the index rebuilt for it.
+pub fn close(table: &mut [Stream], slot: usize) -> Result<(), Refusal> {
+    let mut index = index_of(table);
+    second::close(table, &mut index, slot)
+}
+
+/// A batch with the index rebuilt for it.
+pub fn batch(
+    table: &mut [Stream],
+    network: u8,
+    count: usize,
+    frames: &[u8],
+    output: &mut [u8],
+) -> Result<Batch, Refusal> {
+    let index = index_of(table);
+    second::batch(table, &index, network, count, frames, output)
+}
+
+/// Destination and VLAN id.
+pub type Key = ([u8; 6], u16);
+
+/// A key's own place, by the formula as it is given, in numbers that never wrap.
+pub fn place_of((destination, vlan): Key) -> usize {
+    let mut number = 0u128;
+    for byte in destination {
+        number = number * 256 + u128::from(byte);
+    }
+    let low = number % (1 << 32);
+    let high = number / (1 << 20) % (1 << 32) + u128::from(vlan) * 65536;
+    let mixed = (low * 1234164911 + high * 557513737) % (1 << 32);
+    (mixed / (1 << 25)) as usize
+}
+
+/// Four keys with this own place.
+pub fn keys_at(place: usize) -> Vec<Key> {
+    (0..65536u32)
+        .map(|n| ([2, 0, 0, 0, (n / 256) as u8, n as u8], (n % 3) as u16))
+        .filter(|&key| place_of(key) == place)
+        .take(4)
+        .collect()
+}
+
+/// Is the slot in use with this key?
+fn has(stream: &Stream, key: Key) -> bool {
+    stream.in_use != 0 && (stream.destination, stream.vlan) == key
+}
+
+/// What following from the key finds in 128 places: the places in their order
+/// round the end, up to an empty one, and of those the first that names a slot
+/// in use with the key.
+pub fn followed(table: &[Stream], index: &[u8], key: Key) -> Option<usize> {
+    let own = place_of(key);
+    [&index[own..], &index[..own]]
+        .concat()
+        .into_iter()
+        .take_while(|&place| place != 0)
+        .map(|place| usize::from(place) - 1)
+        .find(|&slot| slot < table.len() && has(&table[slot], key))
+}
+
+/// What following from the key must find.
+pub fn lowest(table: &[Stream], key: Key) -> Option<usize> {
+    (0..table.len()).find(|&slot| has(&table[slot], key))
+}
+
+/// Do index and table agree, tried with the keys of all slots, free ones among
+/// them, and with some others?
+pub fn agree(table: &[Stream], index: &[u8]) -> bool {
+    let slots = table.iter().map(|s| (s.destination, s.vlan));
+    let others = DESTINATIONS
+        .into_iter()
+        .flat_map(|d| VLANS.map(|vlan| (d, vlan)));
+    let any = [([0; 6], 0), ([255; 6], 65535), ([3, 0, 0, 0, 0, 9], 7)];
+    index.len() == 128
+        && slots
+            .chain(others)
+            .chain(any)
+            .all(|key| followed(table, index, key) == lowest(table, key))
+}
+
+/// The index with these slots entered, in this order, each at the first empty
+/// place from its own on.
+pub fn entered(table: &[Stream], slots: &[usize]) -> Vec<u8> {
+    let mut index = vec![0; 128];
+    for &slot in slots {
+        let own = place_of((table[slot].destination, table[slot].vlan));
+        let round: Vec<usize> = (0..128).map(|step| (own + step) % 128).collect();
+        let place = round.into_iter().find(|&place| index[place] == 0).unwrap();
+        index[place] = slot as u8 + 1;
+    }
+    index
+}
+
+/// The slots in use, the lowest first.
+pub fn in_use(table: &[Stream]) -> Vec<usize> {
+    (0..table.len())
+        .filter(|&slot| table[slot].in_use != 0)
+        .collect()
+}
+
+/// What a rebuild must write.
+pub fn rebuilt(table: &[Stream]) -> Vec<u8> {
+    entered(table, &in_use(table))
+}
+
+/// An index with anything in it, often one that agrees with the table. The table
+/// may be one of more than 64 slots.
+pub fn any_index(random: &mut Random, table: &[Stream]) -> Vec<u8> {
+    let mut slots = in_use(table);
+    slots.truncate(64);
+    // Another order, which is right for slots with keys of their own.
+    if random.chance(1, 3) {
+        for at in 1..slots.len() {
+            slots.swap(at, random.below(at as u64 + 1) as usize);
+        }
+    }
+    // Only the lowest slot of each key, as an index may have it.
+    if random.chance(1, 3) {
+        slots.retain(|&slot| {
+            let key = (table[slot].destination, table[slot].vlan);
+            lowest(table, key) == Some(slot)
+        });
+    }
+    if random.chance(1, 12) {
+        // One is missing.
+        slots.pop();
+    }
+    let mut index = entered(table, &slots);
+    let any_name = |random: &mut Random| match random.below(4) {
+        0 => 0,
+        1 => random.byte(),
+        _ => random.below(table.len().min(254) as u64 + 1) as u8 + 1,
+    };
+    match random.below(8) {
+        // Names in the empty places: of slots beyond the table, free ones, or
+        // ones that have a place already.
+        0 | 1 => {
+            let (part, whole) = random.pick(&[(1, 8), (1, 2), (1, 1)]);
+            for place in index.iter_mut().filter(|place| **place == 0) {
+                if random.chance(part, whole) {
+                    *place = any_name(random).max(1);
+                }
+            }
+        }
+        // A few places changed.
+        2 => {
+            for _ in 0..random.pick(&[1, 1, 2, 9]) {
+                index[random.below(128) as usize] = any_name(random);
+            }
+        }
+        3 => match random.below(4) {
+            0 => index.resize(random.pick(&[0, 1, 64, 127, 129, 256]), 0),
+            1 => random.fill(&mut index),
+            // All places alike, slot 0 more often than others.
+            2 => index.fill(1),
+            _ => index.fill(any_name(random)),
+        },
+        _ => {}
+    }
+    index
 }
 
 /// The word for a verdict.

@@ -11,6 +11,8 @@ use crate::run::{Did, Run, OTHER_VLAN, OWN};
 pub struct Receiver<'a> {
     run: &'a Run,
     table: Vec<Stream>,
+    /// Beside the table, made once and then kept by the calls.
+    index: [u8; 128],
     own: Option<usize>,
     settings: Settings,
     output: Vec<u8>,
@@ -29,9 +31,11 @@ impl Receiver<'_> {
             vlan: run.vlan,
             ..running(Stream::VECTOR, 8, 9, 65535, 0xFF)
         };
+        let table = vec![other, closed, Stream::FREE];
         Receiver {
             run,
-            table: vec![other, closed, Stream::FREE],
+            index: index_of(&table),
+            table,
             own: None,
             settings: Settings {
                 destination: OWN,
@@ -59,10 +63,10 @@ impl Receiver<'_> {
                 let answer = reset(&mut self.table, slot);
                 return self.taken(answer);
             }
-            let answer = close(&mut self.table, slot);
+            let answer = close(&mut self.table, &mut self.index, slot);
             self.taken(answer);
         }
-        let answer = open(&mut self.table, self.settings);
+        let answer = open(&mut self.table, &mut self.index, self.settings);
         self.own = Some(self.taken(answer));
     }
 
@@ -101,7 +105,7 @@ impl Receiver<'_> {
             let room = random.pick(&[1996, 2050, self.output.len()]);
             let input = packed(&left[..count]);
             let output = &mut self.output[..room];
-            let done = batch(&mut self.table, network, count, &input, output);
+            let done = batch(&mut self.table, &self.index, network, count, &input, output);
             let done = self.taken(done);
             assert!(done.frames > 0, "{}: no room", self.run.name);
             let mut from = 0;
