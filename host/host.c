@@ -227,6 +227,7 @@ static const char *const refusals[] = {
     [NIPPITSUN_REFUSED_GROUP] = "group source address",
     [NIPPITSUN_REFUSED_BATCH] = "count above 32, or lengths that run past the buffer",
     [NIPPITSUN_REFUSED_TRAILER] = "no trailer of the set kind with a fitting size and a LAN of A or B",
+    [NIPPITSUN_REFUSED_INDEX] = "index not of 128 places or not in agreement with the table",
 };
 
 int is_refusal(unsigned number)

@@ -26,6 +26,7 @@ static const int64_t LAST_TURNS = 5000000000;
 
 static struct wishes wishes;
 static nippitsun_stream table[NIPPITSUN_SLOTS_MOST];
+static uint8_t places[NIPPITSUN_PLACES]; // the table's index: zeros, as no slot is in use, and then what the opens make of it
 static struct port ports[NETWORKS];
 static struct port_settings settings;
 static struct order order;
@@ -78,7 +79,11 @@ static void open_streams(void)
 {
     for (size_t i = 0; i < wishes.count; i++) {
         const struct settings *s = &wishes.streams[i];
-        nippitsun_open(table, NIPPITSUN_SLOTS_MOST, s->dest, s->vlan, s->rule, s->window, s->time);
+        uint8_t refusal = nippitsun_open(table, NIPPITSUN_SLOTS_MOST, places, sizeof places, s->dest, s->vlan, s->rule, s->window, s->time).refusal;
+        if (refusal == 0) continue;
+        // It was taken when the words were read, and only opens have changed this table and its index: the memory is damaged.
+        say("failed: refused (%u): %s", refusal, refusal_words(refusal));
+        exit(1);
     }
     watch_begin(&watches, order.time);
     report.listening = 1;

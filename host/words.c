@@ -69,7 +69,8 @@ static void list_outside(char list[256], const struct settings *s)
 static void open_stream(struct wishes *w, const char *text)
 {
     struct settings s = read_settings(text);
-    nippitsun_slot_answer a = nippitsun_open(w->table, NIPPITSUN_SLOTS_MOST, s.dest, s.vlan, s.rule, s.window, s.time);
+    nippitsun_slot_answer a =
+        nippitsun_open(w->table, NIPPITSUN_SLOTS_MOST, w->places, NIPPITSUN_PLACES, s.dest, s.vlan, s.rule, s.window, s.time);
     char outside[256] = "";
     if (a.refusal == NIPPITSUN_REFUSED_SETTING) list_outside(outside, &s);
     if (a.refusal != 0) refuse("open %s: %u, %s%s", text, a.refusal, refusal_words(a.refusal), outside);

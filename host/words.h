@@ -15,6 +15,7 @@ struct wishes {
     size_t count;
     // All of them opened: so the library's refusals are there before any port is opened, and the filter has its keys.
     nippitsun_stream table[NIPPITSUN_SLOTS_MOST];
+    uint8_t places[NIPPITSUN_PLACES]; // the index of that table
     uint16_t longest; // the largest R of all
     int64_t period, alarm, quiet; // quiet is 0 if it was not asked for
     uint64_t room, backlog;       // in kilobytes

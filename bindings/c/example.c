@@ -5,6 +5,7 @@
 #include <stdio.h>
 
 static nippitsun_stream table[8]; /* all zero: eight free slots */
+static uint8_t places[NIPPITSUN_PLACES]; /* the table's index; all zero: no slot is in use */
 static uint8_t out[NIPPITSUN_FRAME_MOST];
 
 static nippitsun_sender sender; /* all zero: its first frame gets the number 0 */
@@ -23,7 +24,7 @@ static void receive(uint8_t network, const uint8_t *frame, size_t bytes) {
 int main(void) {
     static const uint8_t destination[6] = {2, 0, 0, 0, 0, 1};
     /* VLAN 0, the vector rule, a window of 4 numbers, reset after 3 ticks with nothing handed up. */
-    nippitsun_slot_answer opened = nippitsun_open(table, 8, destination, 0, NIPPITSUN_RULE_VECTOR, 4, 3);
+    nippitsun_slot_answer opened = nippitsun_open(table, 8, places, sizeof places, destination, 0, NIPPITSUN_RULE_VECTOR, 4, 3);
     if (opened.refusal) return 1;
 
     /* The command as an ordinary frame, with no tag: destination, source, type, and what to do. */

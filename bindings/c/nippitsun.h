@@ -2,36 +2,36 @@
  * frames of PRP lines turned into tagged ones and back.
  *
  * The calls are the exported functions of the crates `port` and `port_*`, proved to do what document 01 says, with orders 1, 3,
- * 4, 5, 6 and 7 of document 02 (order 2 changes no answer). This header is written by hand: bindings/c/test.c holds it to the
+ * 4, 5, 6, 7 and 9 of document 02 (order 2 changes no answer). This header is written by hand: bindings/c/test.c holds it to the
  * compiled code, and bindings/check to the sources. C11 or C++11, x86-64; link with libport.a, which is called libnippitsun.a
  * once it is installed (docs/LINKING.md).
  *
  * What the caller owes. The proof takes it for granted, and no call can test it:
  *
- * - An area is a pointer and a number of ELEMENTS: records for a table, bytes for a frame, the frames of a batch and an output.
- *   So many are there, and a table is aligned for its records. The pointer may be NULL where the number is 0. The
+ * - An area is a pointer and a number of ELEMENTS: records for a table, bytes for an index, a frame, the frames of a batch and an
+ *   output. So many are there, and a table is aligned for its records. The pointer may be NULL where the number is 0. The
  *   destination of an open and a sender have no number: the six bytes, and the one sender, aligned for its field, are always
  *   there, and their pointers are never NULL.
- * - The areas of one call lie apart: no byte of the table, the sender, the frame or frames, the output or either of two, or the
- *   destination belongs to another.
- * - They are lent for the call alone. No call keeps a pointer, and nobody else reads a table, a sender or an output, or writes
- *   to any of the areas, while the call runs.
- * - So a table has one caller at a time. Two ports that share a table share a lock too, held for the whole call: the verdict
- *   and its marking are one call, and two calls at once could hand a command up twice. A sender has one caller at a time too:
- *   two calls at once could give two commands one number, and the receivers then hand up one of them.
+ * - The areas of one call lie apart: no byte of the table, the index, the sender, the frame or frames, the output or either of
+ *   two, or the destination belongs to another.
+ * - They are lent for the call alone. No call keeps a pointer, and nobody else reads a table, an index, a sender or an output, or
+ *   writes to any of the areas, while the call runs.
+ * - So a table has one caller at a time, and its index with it. Two ports that share a table share a lock too, held for the whole
+ *   call: the verdict and its marking are one call, and two calls at once could hand a command up twice. A sender has one caller
+ *   at a time too: two calls at once could give two commands one number, and the receivers then hand up one of them.
  *
  * Nothing else is asked for. Every value of every argument and every bit pattern of a record or a sender is taken, and a call
- * that can't do its work refuses: it answers a number of enum nippitsun_refusal and changes nothing, no record, counter, next
- * number or output byte. Every call ends, allocates nothing and keeps no state of its own. */
+ * that can't do its work refuses: it answers a number of enum nippitsun_refusal and changes nothing, no record, counter, place of
+ * an index, next number or output byte. Every call ends, allocates nothing and keeps no state of its own. */
 #ifndef NIPPITSUN_H
 #define NIPPITSUN_H
 
 #include <stddef.h>
 #include <stdint.h>
 
-#define NIPPITSUN_VERSION "0.11.0"
+#define NIPPITSUN_VERSION "0.12.0"
 #define NIPPITSUN_VERSION_MAJOR 0
-#define NIPPITSUN_VERSION_MINOR 11
+#define NIPPITSUN_VERSION_MINOR 12
 #define NIPPITSUN_VERSION_PATCH 0
 
 #ifdef __cplusplus
@@ -58,6 +58,7 @@ extern "C" {
 #define NIPPITSUN_VLAN_MOST 4094 /* the VLAN id in a key; 0 is a frame with no VLAN tag */
 #define NIPPITSUN_TAG_LENGTH 6   /* bytes of the redundancy tag */
 #define NIPPITSUN_FRAMES_MOST 32 /* frames in a batch (document 02, order 3); 0 is allowed */
+#define NIPPITSUN_PLACES 128     /* places of an index (document 02, order 9), for a table of any length */
 
 /* The rule of a stream. */
 enum nippitsun_rule {
@@ -81,7 +82,8 @@ enum nippitsun_verdict {
 };
 
 /* Why a call was refused (document 01, "Calls and the order of checks"; 14 is of order 1, 15 of order 3, 16 of order
- * 7). Where several hold, a call answers the first in its own order, which stands beside its declaration. */
+ * 7, 18 of order 9; 17 is never given). Where several hold, a call answers the first in its own order, which stands beside its
+ * declaration. */
 enum nippitsun_refusal {
     NIPPITSUN_REFUSED_NOT = 0,
     NIPPITSUN_REFUSED_TABLE = 1,    /* the table has more than 64 slots */
@@ -99,15 +101,17 @@ enum nippitsun_refusal {
     NIPPITSUN_REFUSED_TAGGED = 13,  /* the frame already carries F1C1 */
     NIPPITSUN_REFUSED_GROUP = 14,   /* group source address: the lowest bit of the first source byte is set */
     NIPPITSUN_REFUSED_BATCH = 15,   /* a batch: count above 32, or lengths that run past the buffer */
-    NIPPITSUN_REFUSED_TRAILER = 16  /* no trailer of the set kind with a fitting size and a LAN of A or B */
+    NIPPITSUN_REFUSED_TRAILER = 16, /* no trailer of the set kind with a fitting size and a LAN of A or B */
+    NIPPITSUN_REFUSED_INDEX = 18    /* index not of 128 places or not in agreement with the table; for a rebuild: the former */
 };
 
 /* ---- the stream record
  *
  * A table is an array of these, made and kept by the caller. All bytes zero is a table of free slots. The fields may be read
- * between two calls; a caller who writes to them may damage a record, which a call then refuses or a tick then counts. A
- * record has 152 bytes, and each of them belongs to a field; where each field stands is asserted at the end of this file. Since
- * 0.6.0 the history has eight words: a record that was kept from an earlier version is not to be lent. */
+ * between two calls; a caller who writes to them may damage a record, which a call then refuses or a tick then counts, and who
+ * writes to `dest`, `vlan` or `used` makes the index anew (below). A record has 152 bytes, and each of them belongs to a field;
+ * where each field stands is asserted at the end of this file. Since 0.6.0 the history has eight words: a record that was kept
+ * from an earlier version is not to be lent. */
 
 /* What an arrival and a tick change. */
 typedef struct nippitsun_state {
@@ -144,6 +148,25 @@ typedef struct nippitsun_stream {
     nippitsun_state state;
     nippitsun_counts counts;
 } nippitsun_stream;
+
+/* ---- the index (document 02, order 9)
+ *
+ * Beside each table the caller makes and keeps its index, NIPPITSUN_PLACES bytes, by which a key's slot is found without a look at
+ * every record. A byte is a place: 0 is empty, and k + 1 names slot k. nippitsun_open, nippitsun_close and nippitsun_batch take the
+ * index with its table; no other call on a table but nippitsun_rebuild does.
+ *
+ * Each key has a place of its own. Following goes on from there, round the end, over the places that do not name a slot in use
+ * with the key, until an empty one or all 128. Index and table agree when following from any key finds the lowest slot in use with
+ * it, or none if there is none. The three calls look at this before all else but the table's length, and answer 18 if it is not
+ * so. A good open and a good close leave the index that nippitsun_rebuild makes of the table. A batch only reads it, and no arrival,
+ * reset or tick changes whether the two agree. So who begins with an index in agreement and leaves the rest to the calls never gets
+ * 18, unless memory is damaged.
+ *
+ * - At the start: zeros in the table and in the index. An index of zeros agrees with a table of free slots, and with no other.
+ * - Any other table needs nippitsun_rebuild once before the three calls: one that was kept over a restart or read from a file, and
+ *   one whose `dest`, `vlan` or `used` the caller has written to. So the index need not be kept with the table.
+ * - nippitsun_rebuild mends a damaged index, too. It can't tell whether the table is sound: it takes any.
+ * - Nobody need know which place a key has, or write to an index by hand. */
 
 /* ---- the answers
  *
@@ -204,8 +227,9 @@ nippitsun_arrival_answer nippitsun_arrival(nippitsun_stream *NIPPITSUN_APART tab
                                            uint8_t *NIPPITSUN_APART out, size_t out_bytes);
 
 /* Several frames came in on a network: `count` of them, NIPPITSUN_FRAMES_MOST at most, in one buffer. Each stands behind its
- * length in two bytes, high byte first; what stands behind the last is ignored. Refusals 1, 2, 15: the call looks at no frame
- * then and changes nothing, and 0 stands in `frames` and in all answers. A count of 0 is a good call, and does nothing.
+ * length in two bytes, high byte first; what stands behind the last is ignored. Refusals 1, 18, 2, 15: the call looks at no frame
+ * then and changes nothing, and 0 stands in `frames` and in all answers. A count of 0 is a good call, and does nothing. The index
+ * is looked at once, before the first frame, and each frame's slot is found by it.
  *
  * Each frame is an arrival in its turn, with the same verdict, record, counters and refusal as if it had come alone, and its
  * answer stands in answers[] at its place. What is handed up is packed into the output from its start, in the order in which
@@ -222,17 +246,26 @@ nippitsun_arrival_answer nippitsun_arrival(nippitsun_stream *NIPPITSUN_APART tab
  * NIPPITSUN_FRAMES_MOST * (2 + NIPPITSUN_UNTAGGED_MOST) = 63872 bytes of output are always enough. With 1996 bytes, one such
  * frame, each call gets on by a frame at least. No byte of the output is one of the frames' buffer: no frame is handed up in
  * its own place. The answer has 784 bytes and comes back by value. */
-nippitsun_batch_answer nippitsun_batch(nippitsun_stream *NIPPITSUN_APART table, size_t slots, uint8_t network, size_t count,
+nippitsun_batch_answer nippitsun_batch(nippitsun_stream *NIPPITSUN_APART table, size_t slots,
+                                       const uint8_t *NIPPITSUN_APART index, size_t places, uint8_t network, size_t count,
                                        const uint8_t *NIPPITSUN_APART frames, size_t frames_bytes,
                                        uint8_t *NIPPITSUN_APART out, size_t out_bytes);
 
-/* Opens a stream: fills the lowest free slot with a fresh record, counters zero. Refusals 1, 9, 10, 11.
- * `dest` points to the destination's six bytes, as they stand in a frame. It is never NULL. */
-nippitsun_slot_answer nippitsun_open(nippitsun_stream *NIPPITSUN_APART table, size_t slots, const uint8_t *NIPPITSUN_APART dest,
-                                     uint16_t vlan, uint8_t rule, uint16_t window, uint16_t time);
+/* Opens a stream: fills the lowest free slot with a fresh record, counters zero, and makes the index anew. Refusals 1, 18, 9, 10,
+ * 11. `dest` points to the destination's six bytes, as they stand in a frame. It is never NULL. */
+nippitsun_slot_answer nippitsun_open(nippitsun_stream *NIPPITSUN_APART table, size_t slots, uint8_t *NIPPITSUN_APART index,
+                                     size_t places, const uint8_t *NIPPITSUN_APART dest, uint16_t vlan, uint8_t rule,
+                                     uint16_t window, uint16_t time);
 
-/* Closes a slot: it becomes free, and its other fields stay. A damaged record can be closed. Answers the refusal: 1, 12. */
-uint8_t nippitsun_close(nippitsun_stream *table, size_t slots, size_t slot);
+/* Closes a slot: it becomes free, its other fields stay, and the index is made anew. A damaged record can be closed. Answers the
+ * refusal: 1, 18, 12. */
+uint8_t nippitsun_close(nippitsun_stream *NIPPITSUN_APART table, size_t slots, uint8_t *NIPPITSUN_APART index, size_t places,
+                        size_t slot);
+
+/* Makes the index anew from any table, whatever stood in it before. The table is only read. Answers the refusal: 1, and 18 if the
+ * index is not of NIPPITSUN_PLACES places. */
+uint8_t nippitsun_rebuild(const nippitsun_stream *NIPPITSUN_APART table, size_t slots, uint8_t *NIPPITSUN_APART index,
+                          size_t places);
 
 /* Resets a stream: fresh state, and resets rises. This mends a damaged record whose settings are in range. Answers the
  * refusal: 1, 12, and 7 if the settings are out of range. */

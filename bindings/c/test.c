@@ -1,7 +1,8 @@
 /* Holds nippitsun.h to the compiled calls: every function, verdict and refusal number, and every field of a record in both
- * directions. A refused call must leave every byte of table, sender and outputs as it was, and answer 0 but for the number. A
- * batch must do what single arrivals in turn do, a send what the tag writer does, and a turn from PRP or to PRP what the tag
- * writer or reader does with the trailer off or on.
+ * directions. A refused call must leave every byte of table, index, sender and outputs as it was, and answer 0 but for the number.
+ * A batch must do what single arrivals in turn do, a send what the tag writer does, and a turn from PRP or to PRP what the tag
+ * writer or reader does with the trailer off or on. An open, a close and a batch must do with an index what a look at every record
+ * gives.
  *
  * All areas are blocks of the heap of their exact size, so that bindings/c/memcheck sees an access behind their end. */
 #include "nippitsun.h"
@@ -29,8 +30,9 @@ static void check(int holds, const char *what, int line) {
 
 static nippitsun_stream *table, *table_before;
 static nippitsun_sender *sender, sender_before;
+static uint8_t *lent_index, *index_before;
 static uint8_t *out, *out_before, *twin, *twin_before; /* the twin is a send's second output */
-static size_t slots, room, twin_room;
+static size_t slots, index_places, room, twin_room;
 
 static void *block(size_t bytes) { return bytes ? malloc(bytes) : NULL; }
 
@@ -63,6 +65,7 @@ static void make_area(uint8_t **area, uint8_t **before, size_t n, unsigned from)
     fill(*area, n, from);
 }
 
+static void make_index(size_t n) { make_area(&lent_index, &index_before, index_places = n, 90); }
 static void make_out(size_t n) { make_area(&out, &out_before, room = n, 201); }
 static void make_twin(size_t n) { make_area(&twin, &twin_before, twin_room = n, 77); }
 
@@ -82,11 +85,13 @@ static void make_sender(void) {
 static void begin(void) {
     copy(table_before, table, slots * sizeof *table);
     sender_before = *sender;
+    copy(index_before, lent_index, index_places);
     copy(out_before, out, room);
     copy(twin_before, twin, twin_room);
 }
 
 static int table_same(void) { return equal(table, table_before, slots * sizeof *table); }
+static int index_same(void) { return equal(lent_index, index_before, index_places); }
 
 static int same_from(size_t from, const uint8_t *area, const uint8_t *before, size_t n) {
     return from == n || equal(area + from, before + from, n - from);
@@ -101,13 +106,67 @@ static int others_same(size_t slot) {
     return 1;
 }
 
+/* ---- order 9 in its own words: what an open, a close and a batch must make of the table and the index that are lent */
+
+static size_t own_place(uint64_t dest, uint16_t vlan) {
+    uint32_t mixed = (uint32_t)dest * 1234164911u + ((uint32_t)(dest >> 20) + vlan * 65536u) * 557513737u;
+    return mixed >> 25;
+}
+
+/* The lowest slot in use with the key, or the number of slots. */
+static size_t searched(uint64_t dest, uint16_t vlan) {
+    size_t i = 0;
+    while (i < slots && !(table[i].used && table[i].dest == dest && table[i].vlan == vlan)) i++;
+    return i;
+}
+
+static size_t lowest_free(void) {
+    size_t i = 0;
+    while (i < slots && table[i].used) i++;
+    return i;
+}
+
+/* The same by following the index. */
+static size_t followed(uint64_t dest, uint16_t vlan) {
+    for (size_t n = 0; n < NIPPITSUN_PLACES; n++) {
+        size_t name = lent_index[(own_place(dest, vlan) + n) % NIPPITSUN_PLACES];
+        if (name == 0) return slots;
+        if (name <= slots && table[name - 1].used && table[name - 1].dest == dest && table[name - 1].vlan == vlan) return name - 1;
+    }
+    return slots;
+}
+
+/* A key that is not in use is never found by following, so the keys in use are all. */
+static int agrees(void) {
+    for (size_t i = 0; i < slots; i++)
+        if (table[i].used && followed(table[i].dest, table[i].vlan) != searched(table[i].dest, table[i].vlan)) return 0;
+    return 1;
+}
+
+static uint8_t unfit(void) {
+    if (slots > NIPPITSUN_SLOTS_MOST) return NIPPITSUN_REFUSED_TABLE;
+    return index_places == NIPPITSUN_PLACES && agrees() ? NIPPITSUN_REFUSED_NOT : NIPPITSUN_REFUSED_INDEX;
+}
+
+/* Is the index the rebuilt one? */
+static int is_rebuilt(void) {
+    uint8_t made[NIPPITSUN_PLACES] = {0};
+    for (size_t i = 0; i < slots; i++) {
+        size_t place = own_place(table[i].dest, table[i].vlan);
+        if (!table[i].used) continue;
+        while (made[place]) place = (place + 1) % NIPPITSUN_PLACES;
+        made[place] = (uint8_t)(i + 1);
+    }
+    return index_places == NIPPITSUN_PLACES && equal(lent_index, made, NIPPITSUN_PLACES);
+}
+
 /* ---- the calls. What is promised of every call is checked here. */
 
 static unsigned refused[256], verdicts[256];
 
 static void end(uint8_t refusal) {
     refused[refusal]++;
-    if (refusal) CHECK(table_same() && sender->next == sender_before.next && out_same_from(0) && twin_same_from(0));
+    if (refusal) CHECK(table_same() && index_same() && sender->next == sender_before.next && out_same_from(0) && twin_same_from(0));
 }
 
 static nippitsun_arrival_answer arrive(uint8_t network, const uint8_t *frame, size_t n) {
@@ -127,25 +186,60 @@ static nippitsun_arrival_answer arrive(uint8_t network, const uint8_t *frame, si
     return a;
 }
 
-static nippitsun_slot_answer opened(const uint8_t *six, uint16_t vlan, uint8_t rule, uint16_t window, uint16_t time) {
-    uint8_t *dest = block(6);
+static uint8_t rebuild(void) {
+    begin();
+    uint8_t refusal = nippitsun_rebuild(table, slots, lent_index, index_places);
+    end(refusal);
+    CHECK(refusal == (slots > NIPPITSUN_SLOTS_MOST           ? NIPPITSUN_REFUSED_TABLE
+                      : index_places != NIPPITSUN_PLACES ? NIPPITSUN_REFUSED_INDEX
+                                                         : NIPPITSUN_REFUSED_NOT));
+    CHECK(table_same() && (refusal || is_rebuilt()));
+    return refusal;
+}
+
+/* With the index as it is, here and below. */
+static nippitsun_slot_answer opened_so(const uint8_t *six, uint16_t vlan, uint8_t rule, uint16_t window, uint16_t time) {
+    uint8_t *dest = block(6), not_fit = unfit();
+    uint64_t key = 0;
+    for (size_t i = 0; i < 6; i++) key = key << 8 | six[i];
+    size_t holder = searched(key, vlan), free_slot = lowest_free();
     copy(dest, six, 6);
     begin();
-    nippitsun_slot_answer a = nippitsun_open(table, slots, dest, vlan, rule, window, time);
+    nippitsun_slot_answer a = nippitsun_open(table, slots, lent_index, index_places, dest, vlan, rule, window, time);
     end(a.refusal);
     CHECK(equal(dest, six, 6) && out_same_from(0));
     if (a.refusal) CHECK(a.slot == 0);
-    else CHECK(others_same(a.slot));
+    else CHECK(others_same(a.slot) && is_rebuilt() && a.slot == free_slot);
+    if (not_fit) CHECK(a.refusal == not_fit);
+    else if (a.refusal != NIPPITSUN_REFUSED_SETTING)
+        CHECK(a.refusal == (holder < slots         ? NIPPITSUN_REFUSED_TAKEN
+                            : free_slot == slots ? NIPPITSUN_REFUSED_FULL
+                                                 : NIPPITSUN_REFUSED_NOT));
     free(dest);
     return a;
 }
 
-static uint8_t closed(size_t slot) {
+static uint8_t closed_so(size_t slot) {
+    uint8_t not_fit = unfit();
     begin();
-    uint8_t refusal = nippitsun_close(table, slots, slot);
+    uint8_t refusal = nippitsun_close(table, slots, lent_index, index_places, slot);
     end(refusal);
     CHECK(others_same(slot));
+    if (not_fit) CHECK(refusal == not_fit);
+    else CHECK(refusal == (slot < slots && table_before[slot].used ? NIPPITSUN_REFUSED_NOT : NIPPITSUN_REFUSED_SLOT));
+    if (!refusal) CHECK(is_rebuilt());
     return refusal;
+}
+
+/* With an index made anew: most tests write to the table. */
+static nippitsun_slot_answer opened(const uint8_t *six, uint16_t vlan, uint8_t rule, uint16_t window, uint16_t time) {
+    rebuild();
+    return opened_so(six, vlan, rule, window, time);
+}
+
+static uint8_t closed(size_t slot) {
+    rebuild();
+    return closed_so(slot);
 }
 
 static uint8_t reset(size_t slot) {
@@ -432,13 +526,16 @@ static nippitsun_batch_answer in_turn(uint8_t network, size_t count, const uint8
     return b;
 }
 
-static nippitsun_batch_answer batched_from(uint8_t network, size_t count, const uint8_t *frames, size_t n) {
-    uint8_t *f = block(n);
+static nippitsun_batch_answer batched_so(uint8_t network, size_t count, const uint8_t *frames, size_t n) {
+    uint8_t *f = block(n), not_fit = unfit();
     copy(f, frames, n);
     begin();
-    nippitsun_batch_answer b = nippitsun_batch(table, slots, network, count, f, n, out, room), want = {.refusal = b.refusal};
+    nippitsun_batch_answer b = nippitsun_batch(table, slots, lent_index, index_places, network, count, f, n, out, room);
+    nippitsun_batch_answer want = {.refusal = b.refusal};
     end(b.refusal);
-    CHECK(equal(f, frames, n));
+    CHECK(equal(f, frames, n) && index_same());
+    if (not_fit) CHECK(b.refusal == not_fit);
+    else CHECK(b.refusal != NIPPITSUN_REFUSED_TABLE && b.refusal != NIPPITSUN_REFUSED_INDEX);
     if (b.refusal == NIPPITSUN_REFUSED_NOT) {
         want = in_turn(network, count, f);
         int tables = 1;
@@ -453,6 +550,11 @@ static nippitsun_batch_answer batched_from(uint8_t network, size_t count, const 
     CHECK(answers && b.frames == want.frames);
     free(f);
     return b;
+}
+
+static nippitsun_batch_answer batched_from(uint8_t network, size_t count, const uint8_t *frames, size_t n) {
+    rebuild();
+    return batched_so(network, count, frames, n);
 }
 
 /* The frames that are packed, and nothing behind them. */
@@ -1064,7 +1166,7 @@ static void batches(void) {
     b = batched_from(0, 1, packed, packed_bytes + 7);
     CHECK(b.frames == 1 && b.answers[0].verdict == NIPPITSUN_VERDICT_HANDED_UP && unreached_from(&b, 1));
 
-    /* 1, 2, 15, in this order and before any frame: the first is good each time. */
+    /* 1, 18, 2, 15, in this order and before any frame: the first is good each time (18 is in refused_by_index). */
     make_table(NIPPITSUN_SLOTS_MOST + 1);
     CHECK(batched_from(2, 33, packed, packed_bytes).refusal == NIPPITSUN_REFUSED_TABLE);
     one_running(100);
@@ -1138,6 +1240,293 @@ static void batches_in_turn(void) {
         else whole++;
     }
     CHECK(ended > 300 && whole > 300);
+}
+
+/* ---- the index (document 02, order 9) */
+
+/* The destination of the n-th key with no VLAN id that has this own place, and its six bytes. */
+static uint64_t dest_at(size_t place, size_t n) {
+    uint64_t dest = 0x020304050000;
+    for (;; dest++)
+        if (own_place(dest, 0) == place && n-- == 0) return dest;
+}
+
+static const uint8_t *six_of(uint64_t dest) {
+    static uint8_t six[6];
+    for (size_t i = 0; i < 6; i++) six[i] = (uint8_t)(dest >> 8 * (5 - i));
+    return six;
+}
+
+static nippitsun_stream running_to(uint64_t dest) {
+    nippitsun_stream s = running();
+    s.dest = dest;
+    return s;
+}
+
+static void all_places(uint8_t name) {
+    for (size_t i = 0; i < index_places; i++) lent_index[i] = name;
+}
+
+/* One frame to this destination, in a batch. The slot that has it, or the number of slots. */
+static size_t slot_by_batch(uint64_t dest) {
+    pack_none();
+    tagged(60, 0, 100);
+    memcpy(frame_bytes, six_of(dest), 6);
+    pack(frame_bytes, 60);
+    nippitsun_batch_answer b = batched_so(0, 1, packed, packed_bytes);
+    CHECK(b.refusal == 0 && b.frames == 1);
+    return b.answers[0].refusal == NIPPITSUN_REFUSED_UNKNOWN ? slots : b.answers[0].slot;
+}
+
+/* Calls with an index that is in agreement, and calls with one that is not: all three take it, or none. The good ones here leave
+ * the table but for a slot that is opened and closed again. */
+static void taken_or_refused(int fits) {
+    uint8_t want = fits ? NIPPITSUN_REFUSED_NOT : NIPPITSUN_REFUSED_INDEX, kept[NIPPITSUN_PLACES];
+    uint64_t other = dest_at(77, 9);
+    CHECK(unfit() == want && lowest_free() < slots && searched(other, 0) == slots);
+    copy(kept, lent_index, sizeof kept);
+    CHECK(batched_so(0, 0, NULL, 0).refusal == want);
+    nippitsun_slot_answer a = opened_so(six_of(other), 0, NIPPITSUN_RULE_VECTOR, 4, 3);
+    CHECK(a.refusal == want);
+    if (fits) CHECK(closed_so(a.slot) == 0);
+    copy(lent_index, kept, sizeof kept);
+    CHECK(closed_so(slots) == (fits ? NIPPITSUN_REFUSED_SLOT : NIPPITSUN_REFUSED_INDEX));
+}
+
+/* What a place may hold: names are passed over that are no slot's in use with the key, and an empty place ends the following. */
+static void named_places(void) {
+    uint64_t first = dest_at(120, 0), second = dest_at(120, 1), third = dest_at(3, 0);
+    make_out(100);
+    make_index(NIPPITSUN_PLACES);
+
+    /* Zeros agree with free slots alone, as they are in a table of zeros or of anything else. */
+    make_table(4);
+    all_places(0);
+    taken_or_refused(1);
+    table[2] = running_to(first);
+    taken_or_refused(0);
+    CHECK(arrive(0, tagged(60, 0, 1), 60).refusal == NIPPITSUN_REFUSED_UNKNOWN && reset(2) == 0 && ticked().refusal == 0);
+
+    /* A slot by the table's end, one far beyond it, a free one with the same key, one with another key. */
+    static const uint8_t passed_over[] = {5, 64, 65, 255, 2, 4};
+    table[1] = running_to(first);
+    table[1].used = 0;
+    table[3] = running_to(second);
+    for (size_t i = 0; i < sizeof passed_over; i++)
+        for (size_t many = 0; many < 20; many++) {
+            all_places(0);
+            for (size_t n = 0; n < many; n++) lent_index[(120 + n) % 128] = passed_over[i];
+            lent_index[(120 + many) % 128] = 3;
+            lent_index[(121 + many) % 128] = 4;
+            taken_or_refused(1);
+            CHECK(slot_by_batch(first) == 2 && slot_by_batch(second) == 3 && slot_by_batch(third) == slots);
+            lent_index[(120 + many) % 128] = passed_over[i]; /* in place of its name */
+            taken_or_refused(0);
+            lent_index[(120 + many) % 128] = 0; /* before its name */
+            lent_index[(122 + many) % 128] = 3;
+            taken_or_refused(0);
+        }
+
+    /* The last place of all is still reached, round the end, and the one before the own place is no nearer. */
+    table[3].used = 0;
+    all_places(200);
+    taken_or_refused(0);
+    lent_index[119] = 3;
+    taken_or_refused(1);
+    CHECK(slot_by_batch(first) == 2);
+    lent_index[118] = 0;
+    taken_or_refused(0);
+
+    /* All places name slot 0: in agreement if it is the only one in use, if none is, and if the others have its key. */
+    make_table(3);
+    all_places(1);
+    taken_or_refused(1);
+    table[0] = running_to(first);
+    table[0].used = 0x80;
+    taken_or_refused(1);
+    CHECK(slot_by_batch(first) == 0 && slot_by_batch(second) == slots);
+    table[1] = running_to(first);
+    taken_or_refused(1);
+    CHECK(slot_by_batch(first) == 0);
+    all_places(2); /* the higher of the two */
+    taken_or_refused(0);
+    all_places(1);
+    table[1].vlan = 5;
+    taken_or_refused(0);
+    table[1] = running_to(second);
+    taken_or_refused(0);
+
+    /* Keys that no frame has: a destination of more than 52 bits has the own place of its low 52, and is another key. */
+    table[0] = running_to(first | (uint64_t)1 << 52);
+    table[1] = running_to(first | (uint64_t)0xFFF << 52);
+    for (unsigned names = 0; names < 4; names++) {
+        all_places(0);
+        for (size_t n = 0; n < 2; n++)
+            if (names >> n & 1) lent_index[120 + n] = (uint8_t)(n + 1);
+        taken_or_refused(names == 3);
+    }
+    CHECK(rebuild() == 0 && lent_index[120] == 1 && lent_index[121] == 2 && slot_by_batch(first) == slots);
+}
+
+/* A good open and a good close leave the rebuilt index, whatever agreeing one they were lent. */
+static void index_made_anew(void) {
+    uint64_t first = dest_at(127, 0), second = dest_at(127, 1);
+    make_out(100);
+    make_index(NIPPITSUN_PLACES);
+
+    /* No place is empty and none names a free slot: the new one gets its place. */
+    make_table(2);
+    table[0] = running_to(first);
+    all_places(1);
+    CHECK(opened_so(six_of(second), 0, NIPPITSUN_RULE_VECTOR, 4, 3).slot == 1 && lent_index[127] == 1 && lent_index[0] == 2);
+    CHECK(slot_by_batch(first) == 0 && slot_by_batch(second) == 1);
+
+    /* Two slots with one key, and the index names the lower alone: when that is closed the higher is found. */
+    for (size_t lower = 0; lower < 3; lower++)
+        for (size_t higher = lower + 1; higher < 4; higher++) {
+            make_table(4);
+            table[lower] = table[higher] = running_to(first);
+            all_places(0);
+            lent_index[127] = (uint8_t)(lower + 1);
+            CHECK(slot_by_batch(first) == lower);
+            CHECK(closed_so(lower) == 0 && lent_index[127] == higher + 1 && lent_index[0] == 0);
+            CHECK(slot_by_batch(first) == higher);
+            CHECK(opened_so(six_of(first), 0, NIPPITSUN_RULE_VECTOR, 4, 3).refusal == NIPPITSUN_REFUSED_TAKEN);
+            CHECK(closed_so(higher) == 0 && slot_by_batch(first) == slots);
+            CHECK(opened_so(six_of(first), 0, NIPPITSUN_RULE_VECTOR, 4, 3).slot == 0);
+        }
+
+    /* 64 streams with one own place, from the last round to the first, found after each open and after each close. */
+    make_table(NIPPITSUN_SLOTS_MOST);
+    all_places(0);
+    for (size_t i = 0; i < slots; i++) {
+        CHECK(opened_so(six_of(dest_at(127, i)), 0, NIPPITSUN_RULE_VECTOR, 4, 3).slot == i);
+        CHECK(lent_index[(127 + i) % 128] == i + 1 && slot_by_batch(dest_at(127, i)) == i);
+    }
+    CHECK(opened_so(six_of(dest_at(127, 64)), 0, NIPPITSUN_RULE_VECTOR, 4, 3).refusal == NIPPITSUN_REFUSED_FULL);
+    for (size_t i = 0; i < slots; i += 3) CHECK(closed_so(i) == 0);
+    for (size_t i = 0; i < slots; i++) CHECK(slot_by_batch(dest_at(127, i)) == (i % 3 ? i : slots));
+    CHECK(opened_so(six_of(dest_at(127, 64)), 0, NIPPITSUN_RULE_VECTOR, 4, 3).slot == 0 && lent_index[127] == 1);
+
+    /* Of any table and whatever stood in the index. */
+    for (size_t n = 0; n <= NIPPITSUN_SLOTS_MOST; n++) {
+        make_table(n);
+        for (size_t i = 0; i < n; i++) table[i].used = (uint8_t)(below(3) ? below(256) : 0);
+        make_index(NIPPITSUN_PLACES);
+        CHECK(rebuild() == 0 && unfit() == 0);
+    }
+}
+
+/* 18 comes behind 1 and before all others, and no refusal changes a place: the index is in agreement, and is not the rebuilt one,
+ * so that an index made anew would show. */
+static void refused_by_index(void) {
+    static const size_t not_places[] = {0, 1, 64, 127, 129, 256};
+    uint64_t first = dest_at(9, 0), second = dest_at(9, 1);
+    make_out(100);
+
+    /* By the number of places, with all else wrong and with all else right. */
+    for (size_t i = 0; i < sizeof not_places / sizeof *not_places; i++)
+        for (size_t n = 0; n < 3; n++) {
+            make_index(not_places[i]);
+            all_places(0);
+            make_table(n);
+            CHECK(opened_so(running_dest, 65535, 9, 0, 0).refusal == NIPPITSUN_REFUSED_INDEX);
+            CHECK(opened_so(running_dest, 0, 1, 4, 3).refusal == NIPPITSUN_REFUSED_INDEX);
+            CHECK(closed_so(99) == NIPPITSUN_REFUSED_INDEX);
+            CHECK(batched_so(2, 33, packed, 1).refusal == NIPPITSUN_REFUSED_INDEX);
+            CHECK(batched_so(0, 0, NULL, 0).refusal == NIPPITSUN_REFUSED_INDEX);
+            CHECK(rebuild() == NIPPITSUN_REFUSED_INDEX);
+            make_table(NIPPITSUN_SLOTS_MOST + 1);
+            CHECK(opened_so(running_dest, 65535, 9, 0, 0).refusal == NIPPITSUN_REFUSED_TABLE);
+            CHECK(closed_so(99) == NIPPITSUN_REFUSED_TABLE && rebuild() == NIPPITSUN_REFUSED_TABLE);
+            CHECK(batched_so(2, 33, packed, 1).refusal == NIPPITSUN_REFUSED_TABLE);
+        }
+
+    /* By what it holds. */
+    make_index(NIPPITSUN_PLACES);
+    make_table(2);
+    table[0] = running_to(first);
+    all_places(0);
+    CHECK(opened_so(six_of(first), 65535, 9, 0, 0).refusal == NIPPITSUN_REFUSED_INDEX);
+    CHECK(opened_so(six_of(first), 0, 1, 4, 3).refusal == NIPPITSUN_REFUSED_INDEX);
+    CHECK(closed_so(99) == NIPPITSUN_REFUSED_INDEX && closed_so(0) == NIPPITSUN_REFUSED_INDEX);
+    CHECK(batched_so(2, 33, packed, 1).refusal == NIPPITSUN_REFUSED_INDEX);
+    CHECK(batched_so(0, 33, packed, 1).refusal == NIPPITSUN_REFUSED_INDEX);
+    make_table(NIPPITSUN_SLOTS_MOST + 1);
+    table[0] = running_to(first);
+    CHECK(opened_so(six_of(first), 65535, 9, 0, 0).refusal == NIPPITSUN_REFUSED_TABLE);
+    CHECK(closed_so(99) == NIPPITSUN_REFUSED_TABLE && batched_so(2, 33, packed, 1).refusal == NIPPITSUN_REFUSED_TABLE);
+
+    /* In a table of no slots any 128 places are in agreement. */
+    make_table(0);
+    make_index(NIPPITSUN_PLACES);
+    CHECK(opened_so(running_dest, 65535, 9, 0, 0).refusal == NIPPITSUN_REFUSED_SETTING);
+    CHECK(opened_so(running_dest, 0, 1, 4, 3).refusal == NIPPITSUN_REFUSED_FULL);
+    CHECK(closed_so(0) == NIPPITSUN_REFUSED_SLOT && batched_so(0, 0, NULL, 0).refusal == NIPPITSUN_REFUSED_NOT);
+
+    /* The others of each call, which leave an index that is not the rebuilt one. */
+    make_table(2);
+    table[0] = running_to(first);
+    table[1] = running_to(second);
+    all_places(255);
+    lent_index[40] = 1;
+    lent_index[77] = 2;
+    CHECK(unfit() == 0 && !is_rebuilt());
+    CHECK(opened_so(running_dest, 0, 3, 4, 3).refusal == NIPPITSUN_REFUSED_SETTING);
+    CHECK(opened_so(six_of(second), 0, 1, 4, 3).refusal == NIPPITSUN_REFUSED_TAKEN);
+    CHECK(opened_so(running_dest, 0, 1, 4, 3).refusal == NIPPITSUN_REFUSED_FULL);
+    CHECK(closed_so(2) == NIPPITSUN_REFUSED_SLOT && closed_so(SIZE_MAX) == NIPPITSUN_REFUSED_SLOT);
+    CHECK(batched_so(2, 33, packed, 1).refusal == NIPPITSUN_REFUSED_NETWORK);
+    CHECK(batched_so(0, 33, packed, 1).refusal == NIPPITSUN_REFUSED_BATCH);
+    CHECK(slot_by_batch(first) == 0 && slot_by_batch(second) == 1 && !is_rebuilt());
+    table[1].used = 0;
+    CHECK(closed_so(1) == NIPPITSUN_REFUSED_SLOT && !is_rebuilt());
+    CHECK(opened_so(six_of(second), 0, 1, 4, 3).slot == 1 && is_rebuilt());
+}
+
+/* Calls of all kinds with indexes of all kinds, each held to a look at every record. The keys are few, so that some slots have the
+ * same and many the same own place. */
+static void indexes_in_turn(void) {
+    static const size_t most[] = {3, 16, 64};
+    unsigned fit = 0, not_fit = 0, not_rebuilt = 0;
+    make_index(NIPPITSUN_PLACES);
+    for (size_t i = 0; i < 20000; i++) {
+        make_table(below((unsigned)most[below(3)] + 1));
+        make_out(200);
+        unsigned in_use = 1 + below(4), keys = 1 + below(40);
+        for (size_t s = 0; s < slots; s++) {
+            table[s] = running_to(0x020304050000 + below(keys));
+            table[s].vlan = (uint16_t)(below(2) * 5);
+            table[s].used = (uint8_t)(below(in_use + 1) ? 1 + below(255) : 0);
+        }
+        rebuild();
+        for (size_t n = below(3) * below(60); n > 0; n--) {
+            size_t place = below(NIPPITSUN_PLACES);
+            lent_index[place] = (uint8_t)below(below(3) ? (unsigned)slots + 2 : 256);
+        }
+        if (unfit()) not_fit++;
+        else fit++, not_rebuilt += !is_rebuilt();
+        uint64_t dest = 0x020304050000 + below(keys + 2);
+        switch (below(4)) {
+        case 0: opened_so(six_of(dest), (uint16_t)(below(2) * 5), NIPPITSUN_RULE_VECTOR, (uint16_t)(below(8) ? 4 : 1), 3); break;
+        case 1: closed_so(below((unsigned)slots + 2)); break;
+        default:
+            pack_none();
+            for (size_t n = below(8); n > 0; n--) {
+                tagged(60, (uint16_t)(below(2) * 5), (uint16_t)(95 + below(10)));
+                memcpy(frame_bytes, six_of(0x020304050000 + below(keys + 2)), 6);
+                pack(frame_bytes, 60);
+            }
+            batched_so((uint8_t)below(2), packed_count, packed, packed_bytes);
+        }
+        /* What takes no index changes no agreement. */
+        int agreed = agrees();
+        arrive(0, tagged(60, 0, 101), 60);
+        reset(below((unsigned)slots + 1));
+        ticked();
+        CHECK(agrees() == agreed);
+    }
+    CHECK(fit > 2000 && not_fit > 2000 && not_rebuilt > 1000);
 }
 
 /* ---- the sending side (document 02, order 6) */
@@ -1649,31 +2038,45 @@ static void lines_received(void) {
     }
 }
 
-/* 1 comes before anything else: a table of more than 64 slots is refused and not read, and an open's settings and a batch's
- * network, count and lengths are refused before the table is read, the first two before the frames are. And where one of a send's
- * outputs is too small the other is not touched, nor is the output of a turn that is refused. No contract can say that, so here the
- * table lies where a read or a store ends this program, and so do these frames and this output. */
+/* 1 comes before anything else: a table of more than 64 slots is refused and not read, nor is its index; and if the index is not
+ * of 128 places, neither is. A batch's network and count are refused before the frames are read. And where one of a send's outputs is
+ * too small the other is not touched, nor is the output of a turn that is refused. No contract can say that, so here the table and
+ * the index lie where a read or a store ends this program, and so do these frames and this output. */
 static void unread(void) {
     enum { no_access = 0, own_and_blank = 0x22 }; /* PROT_NONE; MAP_PRIVATE and MAP_ANONYMOUS, on Linux */
     static const size_t lengths[] = {65, 65 * sizeof(nippitsun_stream), 4160000, SIZE_MAX / sizeof(nippitsun_stream)};
+    static const size_t places_given[] = {0, 127, NIPPITSUN_PLACES, 129, SIZE_MAX};
     nippitsun_stream *t = mmap(NULL, 65536, no_access, own_and_blank, -1, 0);
+    uint8_t *x = mmap(NULL, 65536, no_access, own_and_blank, -1, 0);
     const uint8_t *frames = mmap(NULL, 65536, no_access, own_and_blank, -1, 0);
-    CHECK(t != (void *)-1 && frames != (void *)-1);
+    CHECK(t != (void *)-1 && x != (void *)-1 && frames != (void *)-1);
     make_out(100);
     for (size_t i = 0; i < sizeof lengths / sizeof *lengths; i++) {
         size_t n = lengths[i];
         CHECK(nippitsun_arrival(t, n, 0, tagged(60, 0, 1), 60, out, room).refusal == NIPPITSUN_REFUSED_TABLE);
-        CHECK(nippitsun_open(t, n, running_dest, 0, 1, 4, 3).refusal == NIPPITSUN_REFUSED_TABLE);
-        CHECK(nippitsun_close(t, n, 64) == NIPPITSUN_REFUSED_TABLE);
         CHECK(nippitsun_reset(t, n, 64) == NIPPITSUN_REFUSED_TABLE);
         CHECK(nippitsun_tick(t, n).refusal == NIPPITSUN_REFUSED_TABLE);
-        CHECK(nippitsun_batch(t, n, 2, 33, frames, 65536, out, room).refusal == NIPPITSUN_REFUSED_TABLE);
+        for (size_t k = 0; k < sizeof places_given / sizeof *places_given; k++) {
+            size_t places = places_given[k];
+            CHECK(nippitsun_open(t, n, x, places, running_dest, 0, 1, 4, 3).refusal == NIPPITSUN_REFUSED_TABLE);
+            CHECK(nippitsun_close(t, n, x, places, 64) == NIPPITSUN_REFUSED_TABLE);
+            CHECK(nippitsun_batch(t, n, x, places, 2, 33, frames, 65536, out, room).refusal == NIPPITSUN_REFUSED_TABLE);
+            CHECK(nippitsun_rebuild(t, n, x, places) == NIPPITSUN_REFUSED_TABLE);
+        }
     }
-    CHECK(nippitsun_batch(t, 64, 2, 33, frames, 65536, out, room).refusal == NIPPITSUN_REFUSED_NETWORK);
-    CHECK(nippitsun_batch(t, 64, 0, 33, frames, 65536, out, room).refusal == NIPPITSUN_REFUSED_BATCH);
-    CHECK(nippitsun_batch(t, 64, 0, 1, (uint8_t[]){0, 9}, 2, out, room).refusal == NIPPITSUN_REFUSED_BATCH);
-    CHECK(nippitsun_batch(t, 64, 0, 0, frames, 65536, out, room).refusal == NIPPITSUN_REFUSED_NOT);
-    CHECK(nippitsun_open(t, 64, running_dest, 0, 3, 4, 3).refusal == NIPPITSUN_REFUSED_SETTING);
+    for (size_t k = 0; k < sizeof places_given / sizeof *places_given; k++) {
+        size_t places = places_given[k];
+        if (places == NIPPITSUN_PLACES) continue;
+        CHECK(nippitsun_open(t, 64, x, places, running_dest, 0, 1, 4, 3).refusal == NIPPITSUN_REFUSED_INDEX);
+        CHECK(nippitsun_close(t, 64, x, places, 64) == NIPPITSUN_REFUSED_INDEX);
+        CHECK(nippitsun_batch(t, 64, x, places, 2, 33, frames, 65536, out, room).refusal == NIPPITSUN_REFUSED_INDEX);
+        CHECK(nippitsun_rebuild(t, 64, x, places) == NIPPITSUN_REFUSED_INDEX);
+    }
+    make_table(64);
+    make_index(NIPPITSUN_PLACES);
+    CHECK(nippitsun_batch(table, 64, lent_index, 128, 2, 33, frames, 65536, out, room).refusal == NIPPITSUN_REFUSED_NETWORK);
+    CHECK(nippitsun_batch(table, 64, lent_index, 128, 0, 33, frames, 65536, out, room).refusal == NIPPITSUN_REFUSED_BATCH);
+    CHECK(nippitsun_batch(table, 64, lent_index, 128, 0, 0, frames, 65536, out, room).refusal == NIPPITSUN_REFUSED_NOT);
     uint8_t *output = mmap(NULL, 65536, no_access, own_and_blank, -1, 0);
     CHECK(output != (void *)-1);
     make_sender();
@@ -1697,7 +2100,11 @@ static void unread(void) {
 static void nothing(void) {
     make_table(0);
     make_outs(0, 0);
-    CHECK(table == NULL && out == NULL && twin == NULL);
+    make_index(0);
+    CHECK(table == NULL && lent_index == NULL && out == NULL && twin == NULL);
+    CHECK(opened_so(running_dest, 0, 1, 4, 3).refusal == NIPPITSUN_REFUSED_INDEX && closed_so(0) == NIPPITSUN_REFUSED_INDEX);
+    CHECK(batched_so(0, 0, NULL, 0).refusal == NIPPITSUN_REFUSED_INDEX && rebuild() == NIPPITSUN_REFUSED_INDEX);
+    make_index(NIPPITSUN_PLACES);
     CHECK(arrive(0, NULL, 0).refusal == NIPPITSUN_REFUSED_SHORT);
     CHECK(arrive(0, tagged(60, 0, 1), 60).refusal == NIPPITSUN_REFUSED_UNKNOWN);
     CHECK(opened(running_dest, 0, 1, 4, 3).refusal == NIPPITSUN_REFUSED_FULL);
@@ -1736,6 +2143,7 @@ static void nothing(void) {
 
 int main(void) {
     make_sender();
+    make_index(NIPPITSUN_PLACES);
     arrivals();
     starts();
     places();
@@ -1747,6 +2155,10 @@ int main(void) {
     sources();
     batches();
     batches_in_turn();
+    named_places();
+    index_made_anew();
+    refused_by_index();
+    indexes_in_turn();
     sends();
     refused_sends();
     sends_in_turn();
@@ -1762,12 +2174,13 @@ int main(void) {
     unread();
     nothing();
     make_table(0);
+    make_index(0);
     make_outs(0, 0);
     free(sender);
-    for (int n = 1; n <= NIPPITSUN_REFUSED_TRAILER; n++) CHECK(refused[n] > 0);
+    for (int n = 1; n < 256; n++) CHECK((refused[n] > 0) == (n <= NIPPITSUN_REFUSED_TRAILER || n == NIPPITSUN_REFUSED_INDEX));
     for (int v = 1; v <= 3; v++) CHECK(verdicts[v] > 0);
-    printf("%u checks of the C calls, %u failed: every verdict, refusals 1 to %d, every field of a record, every number sent, "
+    printf("%u checks of the C calls, %u failed: every verdict, refusals 1 to %d and %d, every field of a record, every number sent, "
            "every trailer of PRP\n",
-           checks, failures, NIPPITSUN_REFUSED_TRAILER);
+           checks, failures, NIPPITSUN_REFUSED_TRAILER, NIPPITSUN_REFUSED_INDEX);
     return failures != 0;
 }

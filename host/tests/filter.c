@@ -212,11 +212,13 @@ static int try_line(const char *name, int prp, uint64_t frames)
 {
     // Keys that share destinations and ids, with the smallest and largest id, in a full table; then the same with holes.
     nippitsun_stream table[NIPPITSUN_SLOTS_MOST];
+    uint8_t places[NIPPITSUN_PLACES] = {0};
     memset(table, 0, sizeof table);
     for (unsigned i = 0; i < NIPPITSUN_SLOTS_MOST; i++) {
         uint8_t dest[ADDRESS] = {i % 3 == 0 ? 1 : 2, i % 2 ? 0x80 : 0, 0, 0, i % 5 == 0 ? 0xFF : 0, (uint8_t)(i / 8)};
         uint16_t vlan = (uint16_t[]){0, 1, 2, 100, 2048, 4093, 4094, 7}[i % 8];
-        nippitsun_slot_answer a = nippitsun_open(table, NIPPITSUN_SLOTS_MOST, dest, vlan, NIPPITSUN_RULE_VECTOR, 64, 65535);
+        nippitsun_slot_answer a =
+            nippitsun_open(table, NIPPITSUN_SLOTS_MOST, places, sizeof places, dest, vlan, NIPPITSUN_RULE_VECTOR, 64, 65535);
         if (a.refusal != 0) refuse("open %u: %u", i, a.refusal);
     }
     static struct sock_filter written[FILTER_MOST];
@@ -224,7 +226,7 @@ static int try_line(const char *name, int prp, uint64_t frames)
     uint64_t let[UINT8_MAX + 1] = {0}, stopped[UINT8_MAX + 1] = {0}, of_kernel = 0, long_ones = 0;
     for (int holes = 0; holes < 2; holes++) {
         for (unsigned i = 0; holes && i < NIPPITSUN_SLOTS_MOST; i++)
-            if (i % 3 != 1) nippitsun_close(table, NIPPITSUN_SLOTS_MOST, i);
+            if (i % 3 != 1 && nippitsun_close(table, NIPPITSUN_SLOTS_MOST, places, sizeof places, i) != 0) refuse("close %u", i);
         struct sock_fprog attach = {filter_write(written, table, prp), written};
         int pair[2];
         if (socketpair(AF_UNIX, SOCK_DGRAM, 0, pair) != 0) fail("socketpair");

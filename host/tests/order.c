@@ -145,6 +145,7 @@ static _Noreturn void wrong(const char *what)
 }
 
 static nippitsun_stream table[1];
+static uint8_t places[NIPPITSUN_PLACES];
 static int handed_up[INDICES];
 
 static void call_frame(int b, struct copy *c)
@@ -175,9 +176,11 @@ static void run(void)
     make_world();
     unsigned window = (unsigned)(spread / spacing + 2), time = (unsigned)(spread / period + (kind == MACHINE ? 3 : 2));
     memset(table, 0, sizeof table);
+    memset(places, 0, sizeof places);
     memset(handed_up, 0, sizeof handed_up);
     uint8_t dest[] = {2, 0, 0, 0, 0, 1};
-    if (nippitsun_open(table, 1, dest, 0, NIPPITSUN_RULE_VECTOR, (uint16_t)window, (uint16_t)time).refusal != 0) wrong("open");
+    if (nippitsun_open(table, 1, places, sizeof places, dest, 0, NIPPITSUN_RULE_VECTOR, (uint16_t)window, (uint16_t)time).refusal != 0)
+        wrong("open");
 
     struct order o;
     order_start(&o, period, now, ahead_at(now));

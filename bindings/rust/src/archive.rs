@@ -1,4 +1,4 @@
-//! The calls of the archive as they are: a table is a slice that the caller lends, and an answer has plain numbers.
+//! The calls of the archive as they are: a table and its index are slices that the caller lends, and an answer has plain numbers.
 //!
 //! [`Receiver`](crate::Receiver), [`Sender`], [`tag`](crate::tag) and [`prp`](crate::prp) say the same with Rust's own types, and
 //! are what a program needs.
@@ -92,6 +92,12 @@ pub struct PrpAnswer {
 /// Most frames in a batch.
 pub const FRAMES_MOST: usize = 32;
 
+/// Places of an index. A place is a byte: 0 is empty, and k + 1 names slot k.
+///
+/// An index of zeros agrees with a table of free slots. For any other table, and where a record's `dest`, `vlan` or `used` was
+/// written to, [`rebuild`] makes one; [`open`], [`close`] and [`batch`] refuse with 18 where table and index do not agree.
+pub const PLACES: usize = 128;
+
 /// The verdict handed up.
 pub const HANDED_UP: u8 = 1;
 /// The verdict duplicate.
@@ -121,6 +127,8 @@ extern "C" {
     fn nippitsun_batch(
         table: *mut Stream,
         table_len: usize,
+        index: *const u8,
+        index_len: usize,
         network: u8,
         count: usize,
         frames: *const u8,
@@ -131,13 +139,27 @@ extern "C" {
     fn nippitsun_open(
         table: *mut Stream,
         table_len: usize,
+        index: *mut u8,
+        index_len: usize,
         dest: *const [u8; 6],
         vlan: u16,
         rule: u8,
         window: u16,
         time: u16,
     ) -> SlotAnswer;
-    fn nippitsun_close(table: *mut Stream, table_len: usize, slot: usize) -> u8;
+    fn nippitsun_close(
+        table: *mut Stream,
+        table_len: usize,
+        index: *mut u8,
+        index_len: usize,
+        slot: usize,
+    ) -> u8;
+    fn nippitsun_rebuild(
+        table: *const Stream,
+        table_len: usize,
+        index: *mut u8,
+        index_len: usize,
+    ) -> u8;
     fn nippitsun_reset(table: *mut Stream, table_len: usize, slot: usize) -> u8;
     fn nippitsun_tick(table: *mut Stream, table_len: usize) -> TickAnswer;
     fn nippitsun_take_tag(
@@ -203,6 +225,7 @@ pub fn arrival(table: &mut [Stream], network: u8, frame: &[u8], out: &mut [u8]) 
 #[inline(always)]
 pub fn batch(
     table: &mut [Stream],
+    index: &[u8],
     network: u8,
     count: usize,
     frames: &[u8],
@@ -210,12 +233,14 @@ pub fn batch(
 ) -> BatchAnswer {
     let (table, table_len) = (table.as_mut_ptr(), table.len());
     let (out, out_len) = (out.as_mut_ptr(), out.len());
-    // SAFETY: three slices, two of them `&mut`, so they are whole and lie apart; they are borrowed until the call ends. Any
-    // `count` is taken.
+    // SAFETY: four slices, two of them `&mut`, so they are whole, and these two lie apart from all others; they are borrowed until
+    // the call ends. Any `count` is taken.
     unsafe {
         nippitsun_batch(
             table,
             table_len,
+            index.as_ptr(),
+            index.len(),
             network,
             count,
             frames.as_ptr(),
@@ -230,17 +255,21 @@ pub fn batch(
 #[inline(always)]
 pub fn open(
     table: &mut [Stream],
+    index: &mut [u8],
     dest: &[u8; 6],
     vlan: u16,
     rule: u8,
     window: u16,
     time: u16,
 ) -> SlotAnswer {
-    // SAFETY: the table is a `&mut` slice, so it is whole and no part of it is `dest`; both are borrowed until the call ends.
+    // SAFETY: table and index are `&mut` slices, so they are whole, lie apart, and no part of them is `dest`; all are borrowed
+    // until the call ends.
     unsafe {
         nippitsun_open(
             table.as_mut_ptr(),
             table.len(),
+            index.as_mut_ptr(),
+            index.len(),
             dest,
             vlan,
             rule,
@@ -252,9 +281,18 @@ pub fn open(
 
 /// Close. Answers the refusal, or 0.
 #[inline(always)]
-pub fn close(table: &mut [Stream], slot: usize) -> u8 {
-    // SAFETY: the table is a `&mut` slice, whole and borrowed until the call ends; any `slot` is taken.
-    unsafe { nippitsun_close(table.as_mut_ptr(), table.len(), slot) }
+pub fn close(table: &mut [Stream], index: &mut [u8], slot: usize) -> u8 {
+    let (table, table_len) = (table.as_mut_ptr(), table.len());
+    // SAFETY: two `&mut` slices, so they are whole and lie apart; they are borrowed until the call ends. Any `slot` is taken.
+    unsafe { nippitsun_close(table, table_len, index.as_mut_ptr(), index.len(), slot) }
+}
+
+/// Makes the index anew from any table. Answers the refusal, or 0.
+#[inline(always)]
+pub fn rebuild(table: &[Stream], index: &mut [u8]) -> u8 {
+    let (table, table_len) = (table.as_ptr(), table.len());
+    // SAFETY: two slices, one of them `&mut`, so they are whole and lie apart; they are borrowed until the call ends.
+    unsafe { nippitsun_rebuild(table, table_len, index.as_mut_ptr(), index.len()) }
 }
 
 /// Reset. Answers the refusal, or 0.

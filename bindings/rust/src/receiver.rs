@@ -1,6 +1,6 @@
-//! A receiver that owns its table.
+//! A receiver that owns its table and the index beside it.
 
-use crate::archive;
+use crate::archive::{self, PLACES};
 use crate::batch::Batch;
 use crate::record::{Counts, Stream};
 use crate::refusal::Refusal;
@@ -74,10 +74,13 @@ pub struct Ticked {
     pub damaged: u64,
 }
 
-/// A table of streams and the calls on it.
+/// A table of streams with its index, and the calls on both.
 ///
-/// The table belongs to the receiver, and every call takes `&mut self`: so a table has one caller at a time, as the proof
+/// They belong to the receiver, and every call takes `&mut self`: so a table has one caller at a time, as the proof
 /// assumes. Two ports that share a receiver share it by a [`Mutex`](std::sync::Mutex), locked for one call at a time.
+///
+/// The index, by which an open, a close and a batch find a key's slot, is the receiver's own concern. It is made anew before the
+/// next of these calls when the records were given or lent to be written to. So 18 is not given, unless memory is damaged.
 ///
 /// ```
 /// use nippitsun::{Receiver, Refusal, Settings, Stream, Verdict};
@@ -113,10 +116,29 @@ pub struct Ticked {
 /// assert_eq!(receiver.arrival(0, &reflected, &mut out), Err(Refusal::Group));
 /// # Ok::<(), Refusal>(())
 /// ```
-#[derive(Clone, Debug, Default, PartialEq, Eq)]
+#[derive(Clone, Debug)]
 pub struct Receiver {
     table: Vec<Stream>,
+    index: [u8; PLACES],
+    /// Somebody else may have written to the table since the index was made.
+    index_is_old: bool,
 }
+
+impl Default for Receiver {
+    /// With no slots.
+    fn default() -> Receiver {
+        Receiver::new(0)
+    }
+}
+
+/// By their records: the index follows from them.
+impl PartialEq for Receiver {
+    fn eq(&self, other: &Receiver) -> bool {
+        self.table == other.table
+    }
+}
+
+impl Eq for Receiver {}
 
 impl Receiver {
     /// A receiver with so many free slots. With more than [`Stream::SLOTS_MOST`] every call is refused.
@@ -146,7 +168,11 @@ impl Receiver {
     /// # Ok::<(), Refusal>(())
     /// ```
     pub fn from_records(records: Vec<Stream>) -> Receiver {
-        Receiver { table: records }
+        Receiver {
+            table: records,
+            index: [0; PLACES],
+            index_is_old: true,
+        }
     }
 
     /// The records, slot by slot.
@@ -154,9 +180,18 @@ impl Receiver {
         &self.table
     }
 
-    /// The records, to write to. Anything may be written; a record in use that is not lawful then is damaged.
+    /// The records, to write to. Anything may be written, keys too; a record in use that is not lawful then is damaged.
     pub fn records_mut(&mut self) -> &mut [Stream] {
+        self.index_is_old = true;
         &mut self.table
+    }
+
+    /// Makes the index anew if it may be old. A table of more than 64 slots has none, and the call itself refuses it.
+    fn renew_index(&mut self) {
+        if self.index_is_old {
+            archive::rebuild(&self.table, &mut self.index);
+            self.index_is_old = false;
+        }
     }
 
     /// The counters of a slot, free or in use; `None` beyond the table.
@@ -179,7 +214,7 @@ impl Receiver {
 
     /// Up to [`FRAMES_MOST`](archive::FRAMES_MOST) frames came in on a network. They stand in one buffer, each behind its length
     /// in two bytes, high byte first, as [`batch::Frames`](crate::batch::Frames) packs them; what stands behind the last is
-    /// ignored. Refusals 1, 2 and 15, before any frame is looked at: then nothing has changed.
+    /// ignored. Refusals 1, 18, 2 and 15, before any frame is looked at: then nothing has changed.
     ///
     /// Each frame is decided as a single arrival in its turn, and what is handed up is packed into the output in the same form.
     /// A frame that is refused is answered in its place and the rest go on; but 8, no room, ends the call, and the frames from
@@ -191,15 +226,18 @@ impl Receiver {
         frames: &[u8],
         out: &'o mut [u8],
     ) -> Result<Batch<'o>, Refusal> {
-        let told = archive::batch(&mut self.table, network, count, frames, out);
+        self.renew_index();
+        let told = archive::batch(&mut self.table, &self.index, network, count, frames, out);
         Refusal::check(told.refusal)?;
         Ok(Batch::new(told, out))
     }
 
-    /// Opens a stream in the lowest free slot and answers the slot. Refusals 1, 9, 10, 11 in this order.
+    /// Opens a stream in the lowest free slot and answers the slot. Refusals 1, 18, 9, 10, 11 in this order.
     pub fn open(&mut self, s: Settings) -> Result<usize, Refusal> {
+        self.renew_index();
         let a = archive::open(
             &mut self.table,
+            &mut self.index,
             &s.destination,
             s.vlan,
             s.rule,
@@ -210,9 +248,10 @@ impl Receiver {
         Ok(a.slot)
     }
 
-    /// Frees a slot. Its other fields stay, and a damaged record can be closed. Refusals 1, 12.
+    /// Frees a slot. Its other fields stay, and a damaged record can be closed. Refusals 1, 18, 12.
     pub fn close(&mut self, slot: usize) -> Result<(), Refusal> {
-        Refusal::check(archive::close(&mut self.table, slot))
+        self.renew_index();
+        Refusal::check(archive::close(&mut self.table, &mut self.index, slot))
     }
 
     /// Makes a stream fresh, which mends a damaged record. Refusals 1, 12, and 7 if its settings are out of range.

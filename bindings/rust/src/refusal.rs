@@ -5,7 +5,7 @@ use std::fmt;
 macro_rules! refusals {
     ($($(#[doc = $what:literal])+ $name:ident = $number:literal, $says:literal;)+) => {
         /// Why a call was refused (document 01, "Calls and the order of checks"; 14 is of order 1, 15 of order 3, 16 of order
-        /// 7). A refused call changes nothing.
+        /// 7, 18 of order 9; 17 is never given). A refused call changes nothing.
         #[derive(Clone, Copy, Debug, PartialEq, Eq, Hash, PartialOrd, Ord)]
         #[repr(u8)]
         pub enum Refusal {
@@ -67,6 +67,9 @@ refusals! {
     Batch = 15, "count above 32, or lengths that run past the buffer";
     /// There is no trailer of the set kind with a fitting size and a LAN of A or B.
     Trailer = 16, "no trailer of the set kind with a fitting size and a LAN of A or B";
+    /// The index has not 128 places or is not in agreement with the table. A [`Receiver`](crate::Receiver) lends its own, and
+    /// gives this only if its memory is damaged.
+    Index = 18, "index not of 128 places or not in agreement with the table";
 }
 
 impl Refusal {

@@ -2,6 +2,8 @@
 
 #[path = "calls/batch.rs"]
 mod batch;
+#[path = "calls/index.rs"]
+mod index;
 #[path = "calls/lines.rs"]
 mod lines;
 #[path = "calls/sender.rs"]
@@ -11,7 +13,8 @@ mod words;
 
 use nippitsun::prp::{self, Kind};
 use nippitsun::{
-    dest_of, tag, Arrival, Counts, Receiver, Refusal, Settings, State, Stream, Ticked, Verdict,
+    archive, dest_of, tag, Arrival, Counts, Receiver, Refusal, Settings, State, Stream, Ticked,
+    Verdict,
 };
 
 const FRESH: State = State {
@@ -351,6 +354,7 @@ fn every_refusal() {
     seen.push(tag::put(&group, 2, &mut []).err());
     seen.push(r.batch(1, 33, &[], &mut []).err());
     seen.push(prp::from(&group, Kind::Of2012, &mut []).err());
+    seen.push(Refusal::of_number(archive::rebuild(&[], &mut [0; 127])));
     assert_eq!(
         seen,
         Refusal::ALL.iter().map(|&n| Some(n)).collect::<Vec<_>>()
@@ -445,12 +449,12 @@ fn nothing_is_lent() {
 
 #[test]
 fn refusals_have_their_numbers_and_say_why() {
-    for (at, &refusal) in Refusal::ALL.iter().enumerate() {
-        assert_eq!(usize::from(refusal.number()), at + 1);
+    let numbers: Vec<u8> = Refusal::ALL.iter().map(|r| r.number()).collect();
+    assert_eq!(numbers, (1..=16).chain([18]).collect::<Vec<_>>());
+    for &refusal in Refusal::ALL {
         assert_eq!(Refusal::of_number(refusal.number()), Some(refusal));
     }
-    assert_eq!(Refusal::ALL.len(), 16);
-    for no_refusal in [0, 17, 18, 255] {
+    for no_refusal in [0, 17, 19, 255] {
         assert_eq!(Refusal::of_number(no_refusal), None);
     }
     let why: Box<dyn std::error::Error> = Box::new(Refusal::Room);

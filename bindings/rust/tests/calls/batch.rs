@@ -1,7 +1,7 @@
 //! A batch is its frames as single arrivals in turn: order 3's own words as a reference, and each case that is easily missed.
 
 use super::{from, running, settings, tagged, Dice};
-use nippitsun::archive::{self, ArrivalAnswer, BatchAnswer, FRAMES_MOST};
+use nippitsun::archive::{self, ArrivalAnswer, BatchAnswer, FRAMES_MOST, PLACES};
 use nippitsun::batch::{behind, Frames, ROOM_ENOUGH};
 use nippitsun::{Arrival, Receiver, Refusal, State, Stream, Verdict};
 
@@ -80,11 +80,18 @@ fn batch(
     (got.0, got.1, out)
 }
 
+/// The batch with plain numbers as its answer.
+fn told(r: &mut Receiver, network: u8, count: usize, frames: &[u8], out: &mut [u8]) -> BatchAnswer {
+    let mut index = [0; PLACES];
+    archive::rebuild(r.records(), &mut index);
+    archive::batch(r.records_mut(), &index, network, count, frames, out)
+}
+
 /// A batch that is refused changes nothing, and its answer is 0 but for the number.
 fn refused(r: &mut Receiver, network: u8, count: usize, frames: &[u8]) -> Refusal {
     let before = r.clone();
     let mut out = [0xA5; 100];
-    let told = archive::batch(r.records_mut(), network, count, frames, &mut out);
+    let told = told(r, network, count, frames, &mut out);
     let why = r.batch(network, count, frames, &mut out).err().unwrap();
     assert!(*r == before && out == [0xA5; 100]);
     let only = BatchAnswer {
@@ -337,7 +344,7 @@ fn the_rest_can_be_called_again() {
 #[test]
 fn not_reached_is_all_zero() {
     let buffer = packed(&[tagged(60, 101), tagged(60, 102), tagged(60, 103)]);
-    let told = archive::batch(receiver().records_mut(), 0, 3, &buffer, &mut [0; 60]);
+    let told = told(&mut receiver(), 0, 3, &buffer, &mut [0; 60]);
     assert_eq!((told.frames, told.refusal), (1, 0));
     assert_eq!(told.answers[1].refusal, 8);
     assert_eq!(told.answers[2..], [ArrivalAnswer::default(); 30]);
