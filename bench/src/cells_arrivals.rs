@@ -127,7 +127,7 @@ const ANCHOR: u16 = 65000;
 const PRIORITY: u16 = 0x2000;
 
 /// The frame that comes next.
-pub struct Coming {
+struct Coming {
     mix: Mix,
     streams: u8,
     stream: u8,
@@ -138,7 +138,7 @@ pub struct Coming {
 }
 
 impl Coming {
-    pub fn new(streams: u8, mix: Mix) -> Coming {
+    fn new(streams: u8, mix: Mix) -> Coming {
         Coming {
             mix,
             streams,
@@ -150,7 +150,7 @@ impl Coming {
     }
 
     /// A frame of the mix, but for what `write` puts into it.
-    pub fn shape(&self, size: usize) -> Vec<u8> {
+    fn shape(&self, size: usize) -> Vec<u8> {
         let mut f = frame(size, self.mix.keys.tagged(), true);
         f[..6].copy_from_slice(&[2, 0, 0, 0, 0, 0]);
         f
@@ -170,7 +170,7 @@ impl Coming {
 
     /// Writes the frame's key and number, and goes on to the next.
     #[inline(always)]
-    pub fn write(&mut self, f: &mut [u8]) {
+    fn write(&mut self, f: &mut [u8]) {
         let keys = self.mix.keys;
         f[5] = keys.last(self.stream);
         let mut at = 16;

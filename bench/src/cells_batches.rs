@@ -1,9 +1,44 @@
 //! The cells of a batch: one call, and as many single arrivals in turn. Every side sees the same frames on the same table, all
-//! new: the streams come in turn.
-use crate::cells::{hidden, Cell, Group, Work};
-use crate::cells_arrivals::{records, Coming, Sum, NEW};
-use crate::record::{ArrivalAnswer, BatchAnswer, Stream, FRAMES_MOST, HANDED_UP};
+//! new.
+use crate::cells::{frame, hidden, Cell, Group, Work};
+use crate::cells_arrivals::{records, Slots, Sum, NEW};
+use crate::compare::Dice;
+use crate::record::{ArrivalAnswer, BatchAnswer, Stream, FRAMES_MOST, HANDED_UP, PLACES};
 use crate::{plain, proved};
+
+/// What a cell is of.
+#[derive(Clone, Copy)]
+struct Load {
+    /// A batch has so many frames.
+    count: usize,
+    size: usize,
+    /// A power of 2.
+    streams: usize,
+    /// In each turn the streams come in another order, which no processor foresees.
+    random: bool,
+}
+
+/// So many frames come before the order is that of the first again.
+const ORDER: usize = 65536;
+
+impl Load {
+    /// The streams as they come, in whole turns.
+    fn order(&self) -> Vec<u8> {
+        let mut turn: Vec<u8> = (0..self.streams as u8).collect();
+        if !self.random {
+            return turn;
+        }
+        let mut dice = Dice::new();
+        let mut order = Vec::new();
+        while order.len() < ORDER {
+            for i in (1..turn.len()).rev() {
+                turn.swap(i, dice.below(i as u64 + 1) as usize);
+            }
+            order.extend_from_slice(&turn);
+        }
+        order
+    }
+}
 
 /// The largest batch, in whole pages.
 const PACKED: usize = 12 * 4096;
@@ -22,15 +57,20 @@ struct Traffic {
     room: Box<Room>,
     /// The first byte of the next batch.
     place: usize,
-    /// A batch has so many frames.
-    count: usize,
+    load: Load,
     /// A frame takes so many bytes with its length.
     step: usize,
-    coming: Coming,
+    order: Vec<u8>,
+    /// The place of the next frame's stream in the order.
+    turn: usize,
+    /// The number of this turn.
+    number: u16,
 }
 
 impl Traffic {
-    fn new(count: usize, size: usize, streams: u8) -> Traffic {
+    /// For streams as the first of the table.
+    fn new(load: Load, table: &Slots<Stream>) -> Traffic {
+        let first = &table.0[0];
         let mut t = Traffic {
             room: Box::new(Room {
                 ring: [0; PACKED],
@@ -38,15 +78,19 @@ impl Traffic {
                 out: [0; PACKED],
             }),
             place: 0,
-            count,
-            step: 2 + size,
-            coming: Coming::new(streams, NEW),
+            load,
+            step: 2 + load.size,
+            order: load.order(),
+            turn: 0,
+            number: first.state.anchor.wrapping_add(1),
         };
+        let mut shape = frame(load.size, false, true);
+        shape[..6].copy_from_slice(&first.dest.to_be_bytes()[2..]);
         for f in t.room.ring.chunks_exact_mut(t.step).take(FRAMES_MOST) {
-            f[..2].copy_from_slice(&(size as u16).to_be_bytes());
-            f[2..].copy_from_slice(&t.coming.shape(size));
+            f[..2].copy_from_slice(&(load.size as u16).to_be_bytes());
+            f[2..].copy_from_slice(&shape);
         }
-        for _ in 0..FRAMES_MOST / count {
+        for _ in 0..FRAMES_MOST / load.count {
             t.renew();
         }
         t
@@ -56,16 +100,24 @@ impl Traffic {
     #[inline(always)]
     fn next(&mut self) -> (&[u8], &mut [u8]) {
         let room = &mut *self.room;
-        let frames = &room.ring[self.place..self.place + self.count * self.step];
+        let frames = &room.ring[self.place..self.place + self.load.count * self.step];
         (frames, &mut room.out)
     }
 
     /// Writes the next batch to its place, and goes on to the next place.
     #[inline(always)]
     fn renew(&mut self) {
-        let end = self.place + self.count * self.step;
+        let end = self.place + self.load.count * self.step;
         for f in self.room.ring[self.place..end].chunks_exact_mut(self.step) {
-            self.coming.write(&mut f[2..]);
+            f[2 + 5] = self.order[self.turn];
+            f[2 + 16..][..2].copy_from_slice(&self.number.to_be_bytes());
+            self.turn += 1;
+            if self.turn & (self.load.streams - 1) == 0 {
+                self.number = self.number.wrapping_add(1);
+                if self.turn == self.order.len() {
+                    self.turn = 0;
+                }
+            }
         }
         self.place = if end == FRAMES_MOST * self.step {
             0
@@ -76,7 +128,7 @@ impl Traffic {
 
     /// The last byte of a batch that is handed up.
     fn last(&self) -> u64 {
-        self.room.out[self.count * (self.step - 6) - 1] as u64
+        self.room.out[self.load.count * (self.step - 6) - 1] as u64
     }
 }
 
@@ -111,21 +163,25 @@ pub fn in_turn<T>(
     count
 }
 
+/// The index begins with a page, as the table does.
+#[repr(align(4096))]
+struct Places([u8; PLACES]);
+
 fn batching(
-    call: impl Fn(&mut [Stream], u8, usize, &[u8], &mut [u8]) -> BatchAnswer + 'static,
-    count: usize,
-    size: usize,
-    streams: u8,
+    call: impl Fn(&mut [Stream], &[u8], u8, usize, &[u8], &mut [u8]) -> BatchAnswer + 'static,
+    load: Load,
 ) -> Work {
     let mut table = records(NEW);
-    let mut traffic = Traffic::new(count, size, streams);
+    let mut traffic = Traffic::new(load, &table);
+    let mut index = Box::new(Places([0; PLACES]));
+    proved::rebuild(&table.0[..load.streams], &mut index.0);
     Box::new(move |calls| {
-        let table = &mut table.0[..streams as usize];
-        let count = hidden(count);
+        let table = &mut table.0[..load.streams];
+        let count = hidden(load.count);
         let mut sum = 0u64;
         for _ in 0..calls {
             let (frames, out) = traffic.next();
-            let b = call(table, 0, count, frames, out);
+            let b = call(table, &index.0, 0, count, frames, out);
             for a in &b.answers[..count] {
                 sum = sum.wrapping_add(a.sum());
             }
@@ -136,12 +192,12 @@ fn batching(
     })
 }
 
-fn single(count: usize, size: usize, streams: u8) -> Work {
+fn single(load: Load) -> Work {
     let mut table = records(NEW);
-    let mut traffic = Traffic::new(count, size, streams);
+    let mut traffic = Traffic::new(load, &table);
     Box::new(move |calls| {
-        let table = &mut table.0[..streams as usize];
-        let count = hidden(count);
+        let table = &mut table.0[..load.streams];
+        let count = hidden(load.count);
         let mut sum = 0u64;
         for _ in 0..calls {
             let (frames, out) = traffic.next();
@@ -155,8 +211,8 @@ fn single(count: usize, size: usize, streams: u8) -> Work {
 }
 
 /// The frames written and nothing else: what the loop costs.
-fn writing(count: usize, size: usize, streams: u8) -> Work {
-    let mut traffic = Traffic::new(count, size, streams);
+fn writing(load: Load) -> Work {
+    let mut traffic = Traffic::new(load, &records(NEW));
     Box::new(move |calls| {
         for _ in 0..calls {
             traffic.renew();
@@ -165,22 +221,46 @@ fn writing(count: usize, size: usize, streams: u8) -> Work {
     })
 }
 
+fn cell(count: usize, size: usize, streams: usize, random: bool) -> Cell {
+    let load = Load {
+        count,
+        size,
+        streams,
+        random,
+    };
+    let order = if random { "random" } else { "turn" };
+    Cell {
+        name: format!("batch-{}-{}-{}-{}", count, size, streams, order),
+        each: count as u64,
+        works: vec![
+            batching(proved::batch, load),
+            batching(plain::batch, load),
+            single(load),
+            writing(load),
+        ],
+    }
+}
+
 pub fn batches() -> Group {
     let mut cells = Vec::new();
-    for count in [1, 8, FRAMES_MOST] {
-        for size in [64, 256, 1500] {
-            for streams in [1, 8, 64] {
-                cells.push(Cell {
-                    name: format!("batch-{}-{}-{}", count, size, streams),
-                    each: count as u64,
-                    works: vec![
-                        batching(proved::batch, count, size, streams),
-                        batching(plain::batch, count, size, streams),
-                        single(count, size, streams),
-                        writing(count, size, streams),
-                    ],
-                });
+    for count in [8, 16, FRAMES_MOST] {
+        for streams in [1, 8, 32, 64] {
+            cells.push(cell(count, 64, streams, false));
+            if streams > 1 {
+                cells.push(cell(count, 64, streams, true));
             }
+        }
+    }
+    for count in [8, FRAMES_MOST] {
+        for size in [256, 1500] {
+            for streams in [1, 8, 64] {
+                cells.push(cell(count, size, streams, false));
+            }
+        }
+    }
+    for size in [64, 256, 1500] {
+        for streams in [1, 8, 64] {
+            cells.push(cell(1, size, streams, false));
         }
     }
     Group {

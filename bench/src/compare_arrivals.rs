@@ -4,7 +4,8 @@ use crate::compare::{
     all_seen, early, history, individual, mark_behind, number, window, wrong, Dice,
 };
 use crate::record::{
-    ArrivalAnswer, Counts, SlotAnswer, State, Stream, TickAnswer, DUPLICATE, HANDED_UP, ROGUE,
+    ArrivalAnswer, Counts, SlotAnswer, State, Stream, TickAnswer, DUPLICATE, HANDED_UP, PLACES,
+    ROGUE,
 };
 use crate::{plain, proved};
 use second::{Arrival, Refusal, Settings, Verdict};
@@ -114,6 +115,7 @@ pub fn tables(dice: &mut Dice, case: u64) -> Result<Tables, String> {
         proved: vec![record_of(&free); slots],
         plain: vec![],
     };
+    let (mut of_second, mut of_proved) = ([0; PLACES], [0; PLACES]);
     for _ in 0..slots + slots / 4 {
         let destination = destination(dice);
         let window = match dice.below(16) {
@@ -131,21 +133,23 @@ pub fn tables(dice: &mut Dice, case: u64) -> Result<Tables, String> {
                 1 + dice.below(65535) as u16
             },
         };
-        let x = match second::open(&mut t.second, s) {
+        let x = match second::open(&mut t.second, &mut of_second, s) {
             Ok(slot) => SlotAnswer { slot, refusal: 0 },
             Err(why) => SlotAnswer {
                 slot: 0,
                 refusal: why.number(),
             },
         };
-        if x != proved::open(
+        let y = proved::open(
             &mut t.proved,
+            &mut of_proved,
             &destination,
             s.vlan,
             s.rule,
             s.window,
             s.reset_time,
-        ) {
+        );
+        if x != y || of_second != of_proved {
             return Err(wrong("an open", case));
         }
     }

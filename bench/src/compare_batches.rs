@@ -1,10 +1,10 @@
-//! Random batches on random tables: the archive's call, the plain one, and single calls in turn, of the archive and of the
-//! second program. Answers, every record field by field, and every output byte must be equal, and each answer must have come
-//! up.
+//! Random batches on random tables with indexes: the archive's call, the plain one, and single calls in turn, of the archive and
+//! of the second program, which also says whether an index agrees. Answers, every record field by field, and every output byte
+//! must be equal, and each answer must have come up.
 use crate::cells_batches::in_turn;
 use crate::compare::{all_seen, wrong, Dice};
 use crate::compare_arrivals::{answer_of, frame, stir, tables, Tables};
-use crate::record::{ArrivalAnswer, BatchAnswer, Stream, FRAMES_MOST};
+use crate::record::{ArrivalAnswer, BatchAnswer, FRAMES_MOST, PLACES};
 use crate::{plain, proved};
 
 /// How many batches one table sees.
@@ -50,10 +50,35 @@ fn packed(dice: &mut Dice, pool: &[u8], t: &Tables) -> (usize, Vec<u8>) {
     (count, all)
 }
 
-/// The table, the network or the lengths refuse the whole call.
-fn refused(t: &[Stream], network: u8, count: usize, mut frames: &[u8]) -> u8 {
+/// The rebuilt index, the same by both programs. Most often it stays so; else one place or all of them hold something else, two
+/// neighbours change their places, or there is one place more or fewer.
+fn index(dice: &mut Dice, t: &Tables, case: u64) -> Result<Vec<u8>, String> {
+    let mut index: Vec<u8> = (0..PLACES).map(|_| dice.next() as u8).collect();
+    let mut of_second = index.clone();
+    let told = second::rebuild(&t.second, &mut of_second).map_or_else(|why| why.number(), |_| 0);
+    if told != proved::rebuild(&t.proved, &mut index) || index != of_second {
+        return Err(wrong("a rebuild", case));
+    }
+    let place = dice.below(PLACES as u64) as usize;
+    let name = dice.below(t.second.len() as u64 + 3) as u8;
+    match dice.below(24) {
+        0 | 1 => index[place] = name,
+        2 => index.fill(name),
+        3 => index.push(0),
+        4 => index.truncate(PLACES - 1),
+        5..=8 => index.swap(place, (place + 1) % PLACES),
+        _ => {}
+    }
+    Ok(index)
+}
+
+/// The table, the index, the network or the lengths refuse the whole call.
+fn refused(t: &[second::Stream], index: &[u8], network: u8, count: usize, mut frames: &[u8]) -> u8 {
     if t.len() > 64 {
         return 1;
+    }
+    if !second::agrees(t, index) {
+        return 18;
     }
     if network > 1 {
         return 2;
@@ -83,6 +108,7 @@ pub fn batches(cases: u64) -> Result<u64, String> {
         for _ in 0..dice.below(4) {
             stir(&mut dice, &mut t);
         }
+        let index = index(&mut dice, &t, case)?;
         let (count, frames) = packed(&mut dice, &pool, &t);
         let network = if dice.one_in(30) {
             dice.next() as u8
@@ -99,10 +125,10 @@ pub fn batches(cases: u64) -> Result<u64, String> {
         let mut outs = [(); 4].map(|_| pool[from..from + room].to_vec());
         let [a, b, c, d] = &mut outs;
         let mut alone = t.proved.clone();
-        let x = proved::batch(&mut t.proved, network, count, &frames, a);
-        let y = plain::batch(&mut t.plain, network, count, &frames, b);
+        let x = proved::batch(&mut t.proved, &index, network, count, &frames, a);
+        let y = plain::batch(&mut t.plain, &index, network, count, &frames, b);
         let none = BatchAnswer {
-            refusal: refused(&alone, network, count, &frames),
+            refusal: refused(&t.second, &index, network, count, &frames),
             ..BatchAnswer::default()
         };
         let (mut z, mut w) = (none, none);
@@ -121,7 +147,7 @@ pub fn batches(cases: u64) -> Result<u64, String> {
             verdicts[e.verdict as usize] += 1;
         }
     }
-    all_seen("a batch's refusal", &calls, &[0, 1, 2, 15])?;
+    all_seen("a batch's refusal", &calls, &[0, 1, 2, 15, 18])?;
     all_seen(
         "a refusal in a batch",
         &refusals,

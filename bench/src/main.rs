@@ -65,7 +65,7 @@ fn compared() -> Result<(), String> {
     let arrivals = compare_arrivals::arrivals(400_000)?;
     println!("{} arrivals on random tables, beside two plain arrivals: answers, records and output bytes equal", arrivals);
     let batches = compare_batches::batches(40_000)?;
-    println!("{} batches on random tables, beside a plain batch and single calls in turn: answers, records and output bytes equal", batches);
+    println!("{} batches on random tables with indexes, beside a plain batch and single calls in turn: answers, records and output bytes equal", batches);
     Ok(())
 }
 

@@ -3,7 +3,7 @@
 //! which the answer comes back in registers.
 use crate::record::{
     ArrivalAnswer, BatchAnswer, Decided, PrpAnswer, Sender, Stream, TagAnswer, DAMAGED, DUPLICATE,
-    FRAMES_MOST, HANDED_UP, ROGUE,
+    FRAMES_MOST, HANDED_UP, PLACES, ROGUE,
 };
 
 const SLOTS_MOST: usize = 64;
@@ -26,6 +26,7 @@ const TAGGED: u8 = 13;
 const GROUP: u8 = 14;
 const BATCH: u8 = 15;
 const TRAILER: u8 = 16;
+const INDEX: u8 = 18;
 
 /// The first byte of the source; its lowest bit marks a group.
 const SOURCE: usize = 6;
@@ -595,34 +596,64 @@ pub fn arrival_at(
     if network > 1 {
         return not_taken(NETWORK);
     }
-    arrive(by_place, table, network, frame, out)
+    arrive(find, table, network, frame, out)
 }
 
-/// The search for a stream by its VLAN id and destination: its slot, and its record.
-type Search = fn(&mut [Stream], u16, u64) -> Option<(usize, &mut Stream)>;
-
-/// The faster one in a single arrival.
 #[inline(always)]
-fn by_place(table: &mut [Stream], vlan: u16, dest: u64) -> Option<(usize, &mut Stream)> {
-    let slot = table
-        .iter()
-        .position(|s| s.vlan == vlan && s.dest == dest && s.used != 0)?;
-    Some((slot, &mut table[slot]))
+fn has_key(s: &Stream, vlan: u16, dest: u64) -> bool {
+    s.vlan == vlan && s.dest == dest && s.used != 0
 }
 
-/// The faster one in a batch, where fewer registers are free.
+/// The slot of a stream by its VLAN id and destination.
 #[inline(always)]
-fn by_record(table: &mut [Stream], vlan: u16, dest: u64) -> Option<(usize, &mut Stream)> {
-    table
-        .iter_mut()
-        .enumerate()
-        .find(|(_, s)| s.vlan == vlan && s.dest == dest && s.used != 0)
+fn find(table: &[Stream], vlan: u16, dest: u64) -> Option<usize> {
+    table.iter().position(|s| has_key(s, vlan, dest))
+}
+
+type Index = [u8; PLACES];
+
+/// A key's own place: the highest seven bits of what mixes its bytes.
+#[inline(always)]
+fn home(vlan: u16, dest: u64) -> usize {
+    let high = ((dest >> 20) as u32).wrapping_add((vlan as u32) << 16);
+    let mixed = (dest as u32)
+        .wrapping_mul(1_234_164_911)
+        .wrapping_add(high.wrapping_mul(557_513_737));
+    (mixed >> 25) as usize
+}
+
+/// What the places hold from one on, round the end.
+#[inline(always)]
+fn names(index: &Index, from: usize) -> impl Iterator<Item = usize> + '_ {
+    let (before, behind) = index.split_at(from);
+    behind.iter().chain(before).map(|&name| name as usize)
+}
+
+/// The same by the index: places that name no slot in use with the key are passed over, until an empty one.
+#[inline(always)]
+fn follow(index: &Index, table: &[Stream], vlan: u16, dest: u64) -> Option<usize> {
+    names(index, home(vlan, dest))
+        .take_while(|&name| name != 0)
+        .map(|name| name - 1)
+        .find(|&slot| table.get(slot).map_or(false, |s| has_key(s, vlan, dest)))
+}
+
+/// Does following find the lowest slot in use with the key, from every key? It does if it finds none above a slot that has the
+/// key. Where lower names alone stand before a slot's, no key has to be compared: so it is in a rebuilt index.
+#[inline(always)]
+fn agrees(index: &Index, table: &[Stream]) -> bool {
+    table.iter().enumerate().all(|(slot, s)| {
+        s.used == 0
+            || names(index, home(s.vlan, s.dest)).find(|&name| name == 0 || name > slot)
+                == Some(slot + 1)
+            || follow(index, table, s.vlan, s.dest).map_or(false, |found| found <= slot)
+    })
 }
 
 /// The arrival behind 1 and 2, which a batch asks once.
 #[inline(always)]
 fn arrive(
-    search: Search,
+    slot_of: impl Fn(&[Stream], u16, u64) -> Option<usize>,
     table: &mut [Stream],
     network: u8,
     frame: &[u8],
@@ -659,10 +690,11 @@ fn arrive(
     } else {
         0
     };
-    let (slot, s) = match search(table, vlan, dest) {
-        Some(found) => found,
+    let slot = match slot_of(table, vlan, dest) {
+        Some(slot) => slot,
         None => return not_taken(UNKNOWN),
     };
+    let s = &mut table[slot];
     if !lawful(s) {
         return not_taken(HURT);
     }
@@ -710,10 +742,11 @@ fn runs_past(mut frames: &[u8], count: usize) -> bool {
     false
 }
 
-/// The batch, with the arrival above in its loop.
+/// The batch, with the arrival above in its loop. No frame changes a key, so the index is asked once.
 #[inline(never)]
 pub fn batch(
     table: &mut [Stream],
+    index: &[u8],
     network: u8,
     count: usize,
     mut frames: &[u8],
@@ -722,6 +755,11 @@ pub fn batch(
     if table.len() > SLOTS_MOST {
         return none_taken(TABLE);
     }
+    let index: &Index = match index.try_into() {
+        Ok(index) if agrees(index, table) => index,
+        _ => return none_taken(INDEX),
+    };
+    let slot_of = |t: &[Stream], vlan, dest| follow(index, t, vlan, dest);
     if network > 1 {
         return none_taken(NETWORK);
     }
@@ -735,7 +773,7 @@ pub fn batch(
         let (frame, behind) = frames[2..].split_at(word(frames, 0) as usize);
         frames = behind;
         let room = out[used..].get_mut(2..).unwrap_or(&mut []);
-        let a = arrive(by_record, table, network, frame, room);
+        let a = arrive(slot_of, table, network, frame, room);
         *answer = a;
         if a.refusal == ROOM {
             break;

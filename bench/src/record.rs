@@ -1,7 +1,7 @@
 //! The types that cross: those of the crate nippitsun, and what one decision answers.
 pub use nippitsun::archive::{
     ArrivalAnswer, BatchAnswer, PrpAnswer, SlotAnswer, TagAnswer, TickAnswer, DUPLICATE,
-    FRAMES_MOST, HANDED_UP, ROGUE,
+    FRAMES_MOST, HANDED_UP, PLACES, ROGUE,
 };
 pub use nippitsun::{Counts, Sender, State, Stream};
 

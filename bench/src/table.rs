@@ -197,23 +197,29 @@ fn of_arrivals(what: &str, rows: &[Row]) {
     println!();
 }
 
-/// What a batch's cell is called after: its frames, their size and the streams.
-fn batch_parts(name: &str) -> [usize; 3] {
-    let mut words = name.split('-').skip(1).map(|w| w.parse().unwrap());
-    std::array::from_fn(|_| words.next().unwrap())
+/// A batch's cell is called after its frames, their size, the streams and their order.
+fn frames_of(name: &str) -> usize {
+    name.split('-').nth(1).unwrap().parse().unwrap()
 }
 
 pub fn batches(rows: &[Row], aim: f64) {
-    println!("the batches         |      ns a frame      | instructions a frame |   batch to");
-    println!("frames size streams |  batch single  plain |  batch single  plain | single plain");
-    println!("--------------------+----------------------+----------------------+-------------");
+    println!(
+        "the batches                |      ns a frame      | instructions a frame |   batch to"
+    );
+    println!(
+        "frames size streams order  |  batch single  plain |  batch single  plain | single plain"
+    );
+    println!(
+        "---------------------------+----------------------+----------------------+-------------"
+    );
     for r in rows {
-        let [frames, size, streams] = batch_parts(&r.name);
+        let words: Vec<&str> = r.name.split('-').collect();
         println!(
-            "{:6} {:4} {:7} | {:6.1} {:6.1} {:6.1} | {:>6} {:>6} {:>6} | {:6.2} {:5.2}",
-            frames,
-            size,
-            streams,
+            "{:>6} {:>4} {:>7} {:6} | {:6.1} {:6.1} {:6.1} | {:>6} {:>6} {:>6} | {:6.2} {:5.2}",
+            words[1],
+            words[2],
+            words[3],
+            words[4],
             r.ns[PRODUCT],
             r.ns[SINGLE],
             r.ns[PLAIN],
@@ -225,12 +231,9 @@ pub fn batches(rows: &[Row], aim: f64) {
         );
     }
     println!();
-    println!("batch: the product's. single: as many single calls of the product. plain: the batch in Rust written for speed.");
-    for frames in [1, 8, 32] {
-        let of = || {
-            rows.iter()
-                .filter(move |r| batch_parts(&r.name)[0] == frames)
-        };
+    println!("batch: the product's. single: as many single calls of the product. plain: the batch in Rust written for speed, with the same index.");
+    for frames in [1, 8, 16, 32] {
+        let of = || rows.iter().filter(move |r| frames_of(&r.name) == frames);
         let (single, plain) = (ratios(of(), SINGLE), ratios(of(), PLAIN));
         if single.is_empty() {
             continue;
