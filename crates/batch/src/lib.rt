@@ -220,7 +220,7 @@ fn arrive_by(t: &mut [Stream], index: &[u8], network: u8, frame: &[u8], out: &mu
     let Asked::For(h, number) = q else {
         return calls::refused(q);
     };
-    let f = receiver::follow(t, index, h.dest, h.vlan);
+    let f = receiver::follow(t, index, h.dest, h.vlan, false);
     let Found::At(i) = f else {
         return calls::unknown();
     };

@@ -2,5 +2,5 @@
 pub mod Theorems
 -- What they rest on.
 mod Coded
-mod Heard
+pub mod Heard
 mod Runs

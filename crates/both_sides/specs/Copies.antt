@@ -8,7 +8,7 @@ use mathlib.Core.Option.{some}
 use mathlib.Core.List.{List, [], _∷_, _++_, map}
 use Rattle.record.specs.Words.{if_then_else_}
 use Rattle.calls.specs.Table.{Table}
-use Rattle.calls.specs.Calls.{Call, arriving, opening, closing, resetting, ticking}
+use Rattle.calls.specs.Calls.{Call, arriving, linking, opening, closing, resetting, ticking}
 use Rattle.demands.specs.Receiver.{Receiver}
 use Rattle.demands.specs.Seen.{Seen, arrived, tick, ended, nothing, seen, log, numbers}
 use Rattle.demands.specs.Demand3.{numberOf}
@@ -19,9 +19,10 @@ use Rattle.sender.specs.Runs.{Side, Pair, sent, nth, WithoutReset}
 
 -- ---- the frames that a stream heard
 
--- the frame of an arrival
+-- The frame of an arrival. (A virtual link reads no tag but the last byte: what it hears is no copy of a send, and it has none here.)
 abbrev pub frameOf : Call → List ℕ
 frameOf (arriving network f out) = f
+frameOf (linking network f out) = []
 frameOf (opening dest vlan rule window time) = []
 frameOf (closing i) = []
 frameOf (resetting i) = []

@@ -20,7 +20,7 @@ use Rattle.frame.specs.declared.Header.{Header}
 use Rattle.frame.proofs.Heads.{tag-of}
 use Rattle.stream.specs.Record.{lawful}
 use Rattle.stream.specs.Decisions.{up}
-use Rattle.calls.specs.Table.{Table, at, search, hasKey}
+use Rattle.calls.specs.Table.{Table, at, search, hears}
 use Rattle.calls.specs.Calls.{arriving, Act, refuse, arrive, opens, closes, resets, ticks, admitted, arrivalAt, arrival, checked, act, answer, Answer, writtenFor}
 use Rattle.calls.specs.Laws.{byFrame, TakeRefusesFrame, TakeRefusesAlike, TakeWritesAlike, GroupReachesNone, GroupRefused}
 use Rattle.calls.proofs.Admits.{admits, admits-all, admits-none}
@@ -50,7 +50,7 @@ module _ {n : ℕ} (b : byFrame n ≡ true) where
   not-by : {A : Type 0} (m : ℕ) → byFrame m ≡ false → _≡_ {A = Said A} (refused m) (refused n) → ⊥
   not-by m f e = let k : m ≡ n = cc in let z : true ≡ false = sym b ∙ ap byFrame (sym k) ∙ f in let y : _≡_ {A = ℕ} 0 1 = cc in omega arith
 
-  arrival-not : (t : Table) (i number network : ℕ) (f out : List ℕ) → answer t (arrivalAt t i number network f out) ≡ refused n → ⊥
+  arrival-not : (t : Table) (i number network : ℕ) (f out : List ℕ) → answer t (arrivalAt t i number network (length f - 6) (untagged f) out) ≡ refused n → ⊥
   unfolding arrivalAt answer
   arrival-not t i number network f out e = go (leb (length t) i) (lawful (at t i)) (ltb (length out) (length f - 6)) e
     where
@@ -87,7 +87,7 @@ take-refuses-frame t network f out n m k b = rw (past t network f out m k) (go (
 
 -- what an arrival says at a lawful record
 arrival-says : (t : Table) (i number network : ℕ) (f out : List ℕ) → i < length t → lawful (at t i) ≡ true
-    → answer t (arrivalAt t i number network f out) ≡ cond (ltb (length out) (length f - 6)) (refused ROOM) (answer t (arrive i number network (untagged f)))
+    → answer t (arrivalAt t i number network (length f - 6) (untagged f) out) ≡ cond (ltb (length out) (length f - 6)) (refused ROOM) (answer t (arrive i number network (untagged f)))
 unfolding arrivalAt answer
 arrival-says t i number network f out h l = simp (lt-leb (length t) i h, l) (go (ltb (length out) (length f - 6)))
   where
@@ -96,9 +96,9 @@ arrival-says t i number network f out h l = simp (lt-leb (length t) i h, l) (go 
     go false = refl
 
 -- the slot of a frame that was read
-slot-of : (t : Table) (f : List ℕ) (g : Tag) → readOf f ≡ answers g → search (hasKey (g .header .dest) (g .header .vlan)) t ≡ search (hasKey (destOf f) (vlanOf f)) t
+slot-of : (t : Table) (f : List ℕ) (g : Tag) → readOf f ≡ answers g → search (hears false (g .header .dest) (g .header .vlan)) t ≡ search (hears false (destOf f) (vlanOf f)) t
 unfolding headerOf
-slot-of t f g e = ap (λ (h : Header). search (hasKey (h .dest) (h .vlan)) t) (tag-of f g e .same)
+slot-of t f g e = ap (λ (h : Header). search (hears false (h .dest) (h .vlan)) t) (tag-of f g e .same)
 
 pub take-refuses-alike : TakeRefusesAlike
 unfolding takeTag takeFrom arrival answer

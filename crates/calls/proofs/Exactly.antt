@@ -19,8 +19,9 @@ use Rattle.frame.specs.Frame.{Tag, typeAt, isTagged, headShort, tagShort, heade
 use Rattle.frame.specs.Refusals.{tooLong, short, noTag}
 use Rattle.stream.specs.Record.{settled, damaged}
 use Rattle.stream.specs.Decisions.{verdict, expires}
-use Rattle.calls.specs.Table.{Table, at, search, someSlot, hasKey, isFree, count}
-use Rattle.calls.specs.Calls.{Call, arriving, opening, closing, resetting, ticking, Act, refuse, closes, admitted, arrivalAt, arrival, inUse, open-call, checked, act, answer, Answer, arrived, placed, done, swept, verdictWith}
+use Rattle.calls.specs.Table.{Table, at, search, someSlot, hears, isFree, count}
+use Rattle.calls.specs.Calls.{Call, arriving, linking, opening, closing, resetting, ticking, Act, refuse, closes, admitted, arrivalAt, arrival, linkArrival, inUse, open-call, checked, act, answer, Answer, arrived, placed, done, swept, verdictWith}
+use Rattle.frame.specs.Link.{Link, linkOf, lastByte, butLast}
 use Rattle.calls.specs.Refusals.{some, manySlots, noNetwork, checksOf, RefusedExactly}
 use Rattle.calls.proofs.Search.{some-cons}
 
@@ -91,13 +92,29 @@ arrival-cond t network f out false n x = refl
 
 -- its answer where it is not refused
 abbrev slotFor : Table → List ℕ → ℕ
-slotFor t f = search (hasKey (destOf f) (vlanOf f)) t
+slotFor t f = search (hears false (destOf f) (vlanOf f)) t
 
 arrival-says : (t : Table) (network : ℕ) (f out : List ℕ)
     → answer t (act t (arriving network f out))
     ≡ firstOf (checksOf t (arriving network f out)) (arrived (slotFor t f) (numberIn f) (verdictWith (length (untagged f)) (verdict (at t (slotFor t f)) (numberIn f))))
 unfolding act checked admitted arrival arrivalAt answer checksOf firstOf headerOf
 arrival-says t network f out = simp (answer-cond, read-first, admitted-cond, arrival-cond, no-network, no-stream)
+
+-- an arrival of a virtual link
+link-cond : (t : Table) (network : ℕ) (f out : List ℕ) (b : Bool) (n : ℕ) (x : Said Link)
+    → answer t (linkArrival t network f out (cond b (refused n) x)) ≡ cond b (refused n) (answer t (linkArrival t network f out x))
+unfolding answer linkArrival
+link-cond t network f out true n x = refl
+link-cond t network f out false n x = refl
+
+abbrev linkFor : Table → List ℕ → ℕ
+linkFor t f = search (hears true (destOf f) 0) t
+
+link-says : (t : Table) (network : ℕ) (f out : List ℕ)
+    → answer t (act t (linking network f out))
+    ≡ firstOf (checksOf t (linking network f out)) (arrived (linkFor t f) (lastByte f) (verdictWith (length (butLast f)) (verdict (at t (linkFor t f)) (lastByte f))))
+unfolding act checked linkArrival linkOf arrivalAt answer checksOf firstOf
+link-says t network f out = simp (answer-cond, link-cond, no-network, no-stream)
 
 module _ (t : Table) where
   open-says : (dest : List ℕ) (vlan rule window time : ℕ)
@@ -133,6 +150,7 @@ exactly t c n a e = (λ h. first-exactly Answer (checksOf t c) a n .0 (sym e ∙
 
 pub refused-exactly : RefusedExactly
 refused-exactly t (arriving network f out) n = exactly t _ n _ (arrival-says t network f out)
+refused-exactly t (linking network f out) n = exactly t _ n _ (link-says t network f out)
 refused-exactly t (opening dest vlan rule window time) n = exactly t _ n _ (open-says t dest vlan rule window time)
 refused-exactly t (closing i) n = exactly t _ n _ (close-says t i)
 refused-exactly t (resetting i) n = exactly t _ n _ (reset-says t i)

@@ -118,9 +118,13 @@ judge-granted s number room {w} {j} e g = go (lawful s) room refl g
 
 -- ---- place
 
-pub seen-made : (f free : Found) {b : Bool} → b ≡ isAt f → record { taken = b; free = free } ≡ seenAs f free
+pub seen-here : (f link free : Found) → isAt f ≡ true → record { taken = true; free = free } ≡ seenAs f link free
 unfolding seenAs
-seen-made f free e i = record { taken = e i; free = free }
+seen-here f link free e = simp e
+
+pub seen-there : (f link free : Found) {b : Bool} → isAt f ≡ false → b ≡ isAt link → record { taken = b; free = free } ≡ seenAs f link free
+unfolding seenAs
+seen-there f link free n e = simp (n, e)
 
 module _ (slots : ℕ) (v : Survey) (s : Stream) where
   pub place-taken : v .taken ≡ true → notPlaced slots s TAKEN ≡ placingOf slots v s

@@ -2,7 +2,7 @@
 -- table and every input. Assumes nothing.
 use Prim.Native.Nat.{ℕ, _-_}
 use mathlib.Core.Path.{_≡_}
-use mathlib.Core.Bool.{Bool, _&&_, not}
+use mathlib.Core.Bool.{Bool, true, false, _&&_, not}
 use mathlib.Core.List.{List, [], map}
 use lib.Dec.{ltb, leb}
 use lib.ListN.{length, set}
@@ -17,11 +17,13 @@ use Rattle.frame.specs.Frame.{Tag, destOf, groupSource, readOf, untagged}
 use Rattle.stream.specs.Record.{settled, lawful, damaged, opened, closed}
 use Rattle.stream.specs.Decisions.{verdict, decided, reset, expires, ticked}
 use Rattle.stream.specs.Decisions as decisions
-use Rattle.calls.specs.Table.{Table, at, search, someSlot, hasKey, isFree, count}
+use Rattle.calls.specs.Table.{Table, at, search, someSlot, hasKey, hears, isFree, count}
+use Rattle.frame.specs.Link.{Link, linkOf, butLast}
 
 -- The calls, with what the caller passes or lends beside the table.
 pub data Call : Type 0 where
   arriving : (network : ℕ) (frame out : List ℕ) → Call
+  linking : (network : ℕ) (frame out : List ℕ) → Call  -- an arrival of a virtual link (order 10)
   opening : (dest : List ℕ) (vlan rule window time : ℕ) → Call  -- the destination's six bytes
   closing : (slot : ℕ) → Call
   resetting : (slot : ℕ) → Call
@@ -44,19 +46,25 @@ unfoldable pub admitted : (frame : List ℕ) → Said Tag → Said Tag
 admitted f (refused n) = refused n
 admitted f (answers g) = if groupSource f then refused GROUP else answers g
 
--- The lowest slot with the key is taken. 8 is given when the output holds fewer than length - 6 bytes, for every arrival that
--- gets this far, even a duplicate.
-unfoldable pub arrivalAt : (t : Table) (slot number network : ℕ) (frame out : List ℕ) → Act
-arrivalAt t i number network f out =
+-- The lowest slot with the key is taken. 8 is given when the output holds fewer than `need` bytes, for every arrival that gets
+-- this far, even a duplicate. `bare` is what is handed up.
+unfoldable pub arrivalAt : (t : Table) (slot number network need : ℕ) (bare out : List ℕ) → Act
+arrivalAt t i number network need bare out =
     if leb (length t) i then refuse UNKNOWN
     else if not (lawful (at t i)) then refuse DAMAGED
-    else if ltb (length out) (length f - 6) then refuse ROOM
-    else arrive i number network (untagged f)
+    else if ltb (length out) need then refuse ROOM
+    else arrive i number network bare
 
 unfoldable pub arrival : (t : Table) (network : ℕ) (frame out : List ℕ) → Said Tag → Act
 arrival t network f out (refused n) = refuse n
 arrival t network f out (answers g) =
-    arrivalAt t (search (hasKey (g .header .dest) (g .header .vlan)) t) (g .number) network f out
+    arrivalAt t (search (hears false (g .header .dest) (g .header .vlan)) t) (g .number) network (length f - 6) (untagged f) out
+
+-- An arrival of a virtual link: 1, 2, 3, 4, 14, 6, 7, 8 (fewer than length - 1 bytes).
+unfoldable pub linkArrival : (t : Table) (network : ℕ) (frame out : List ℕ) → Said Link → Act
+linkArrival t network f out (refused n) = refuse n
+linkArrival t network f out (answers g) =
+    arrivalAt t (search (hears true (g .dest) 0) t) (g .number) network (length f - 1) (butLast f) out
 
 -- a slot within the table and in use
 unfoldable pub inUse : Table → (slot : ℕ) → Bool
@@ -73,6 +81,7 @@ open-call t s =
 -- Each call, once 1 is passed.
 unfoldable pub checked : Table → Call → Act
 checked t (arriving network f out) = if ltb 1 network then refuse NETWORK else arrival t network f out (admitted f (readOf f))
+checked t (linking network f out) = if ltb 1 network then refuse NETWORK else linkArrival t network f out (linkOf f)
 checked t (opening dest vlan rule window time) = open-call t (opened (destOf dest) vlan rule window time)
 -- Close: 1, 12. A damaged record can be closed.
 checked t (closing i) = if inUse t i then closes i else refuse SLOT
@@ -125,8 +134,8 @@ answer t (closes i) = answers done
 answer t (resets i) = answers done
 answer t ticks = answers (swept (count expires t) (count damaged t))
 
--- Handed up writes the frame without its tag to the start of the output; bytes after it keep their values. Duplicate and
--- rogue write nothing.
+-- Handed up writes the frame without its tag (a virtual link's without its last byte) to the start of the output; bytes after it
+-- keep their values. Duplicate and rogue write nothing.
 abbrev pub writtenFor : decisions.Verdict → (bare out : List ℕ) → List ℕ
 writtenFor decisions.up bare out = overlay bare out
 writtenFor decisions.duplicate bare out = out
@@ -135,6 +144,7 @@ writtenFor decisions.rogue bare out = out
 -- the output buffer that a call is lent: an arrival's; the others have none
 abbrev pub outOf : Call → List ℕ
 outOf (arriving network f out) = out
+outOf (linking network f out) = out
 outOf (opening dest vlan rule window time) = []
 outOf (closing i) = []
 outOf (resetting i) = []

@@ -11,7 +11,7 @@ use Rattle.refusal.specs.Numbers.{SHORT, UNTAGGED, ROOM, GROUP}
 use Rattle.record.specs.Sizes.{vectorRule}
 use Rattle.frame.specs.Frame.{destOf, vlanOf, untagged}
 use Rattle.stream.specs.Record.{lawful, damaged, opened}
-use Rattle.calls.specs.Table.{Table, blank, at, search, someSlot, hasKey, isFree}
+use Rattle.calls.specs.Table.{Table, blank, at, search, someSlot, hears, isFree}
 use Rattle.calls.specs.Calls.{Call, arriving, opening, resetting, ticking, arrive, opens, resets, act, after, answer, Answer, arrived, placed, swept, handedUp, duplicate}
 use Rattle.calls.specs.Laws.{forSlot}
 
@@ -66,19 +66,19 @@ abbrev pub filled : Table
 filled = after eight (act eight (opening dest 0 vectorRule 4 3))
 
 abbrev pub slotFor : Table → ℕ
-slotFor t = search (hasKey (destOf frame) (vlanOf frame)) t
+slotFor t = search (hears false (destOf frame) (vlanOf frame)) t
 
 abbrev pub FreeMet : Type 0
 FreeMet =
     ((j : ℕ) → damaged (at eight j) ≡ false)
-    × (someSlot isFree eight ≡ true) × (someSlot (hasKey (destOf frame) (vlanOf frame)) eight ≡ false)
+    × (someSlot isFree eight ≡ true) × (someSlot (hears false (destOf frame) (vlanOf frame)) eight ≡ false)
     × (act eight (opening dest 0 vectorRule 4 3) ≡ opens 0 (opened (destOf dest) 0 vectorRule 4 3))
     × (forSlot (opens 0 (opened (destOf dest) 0 vectorRule 4 3)) 1 ≡ false)
 
 -- and by the table after it: its stream is found and lawful, an arrival gets through, a reset too, and others are refused.
 abbrev pub FilledMet : Type 0
 FilledMet =
-    (someSlot (hasKey (destOf frame) (vlanOf frame)) filled ≡ true) × (lawful (at filled (slotFor filled)) ≡ true)
+    (someSlot (hears false (destOf frame) (vlanOf frame)) filled ≡ true) × (lawful (at filled (slotFor filled)) ≡ true)
     × (act filled (arriving 0 frame buffer) ≡ arrive 0 7 0 (untagged frame))
     × (act filled (resetting 0) ≡ resets 0)
     × (answer filled (act filled (arriving 0 dest buffer)) ≡ refused SHORT)

@@ -17,7 +17,7 @@ use Rattle.frame.specs.Frame.{Tag, destOf, groupSource, vlanOf, readOf, writeOf
 use Rattle.frame.specs.TagCalls.{takeTag}
 use Rattle.stream.specs.Record.{lawful, damaged}
 use Rattle.stream.specs.Decisions.{up}
-use Rattle.calls.specs.Table.{Table, at, search, someSlot, hasKey, isFree}
+use Rattle.calls.specs.Table.{Table, at, search, someSlot, hears, isFree}
 use Rattle.calls.specs.Calls.{Call, arriving, Act, refuse, arrive, opens, closes, resets, ticks, act, after, answer, output, outOf, writtenFor, handedUp, arrived, Result, Meets}
 use Rattle.calls.specs.Said.{saidArrival, saidOpened, saidDone, saidSwept}
 use Rattle.calls.specs.Steps.{saidAsked}
@@ -106,7 +106,7 @@ TakeRefusesFrame =
 abbrev pub TakeRefusesAlike : Type 0
 TakeRefusesAlike =
     (t : Table) (network : ℕ) (f out : List ℕ) (n : ℕ) → length t ≤ slotsMost → network ≤ 1 → groupSource f ≡ false
-    → someSlot (hasKey (destOf f) (vlanOf f)) t ≡ true → lawful (at t (search (hasKey (destOf f) (vlanOf f)) t)) ≡ true
+    → someSlot (hears false (destOf f) (vlanOf f)) t ≡ true → lawful (at t (search (hears false (destOf f) (vlanOf f)) t)) ≡ true
     → (answer t (act t (arriving network f out)) ≡ refused n) ↔ (takeTag f out .said ≡ refused n)
 
 -- and for an arrival that is not refused, taking the tag out "answers number and length and writes as handed up does".
@@ -135,7 +135,7 @@ abbrev pub HalvesFit : Type 0
 HalvesFit =
     (t : Table) (network : ℕ) (f : List ℕ) (number : ℕ) (g out : List ℕ) (i : ℕ)
     → length t ≤ slotsMost → network ≤ 1 → number < 65536 → writeOf f number ≡ answers g
-    → someSlot (hasKey (destOf f) (vlanOf f)) t ≡ true → i ≡ search (hasKey (destOf f) (vlanOf f)) t
+    → someSlot (hears false (destOf f) (vlanOf f)) t ≡ true → i ≡ search (hears false (destOf f) (vlanOf f)) t
     → lawful (at t i) ≡ true → yes (at t i .state .any) ≡ true → length f ≤ length out
     → (answer t (act t (arriving network g out)) ≡ answers (arrived i number (handedUp (length f))))
     × (output t out (act t (arriving network g out)) ≡ overlay f out)

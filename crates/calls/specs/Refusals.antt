@@ -4,7 +4,7 @@
 use Prim.Native.Nat.{ℕ, _-_}
 use mathlib.Core.Path.{_≡_}
 use mathlib.Core.Logic.{_↔_}
-use mathlib.Core.Bool.{Bool, false, _||_, not}
+use mathlib.Core.Bool.{Bool, true, false, _||_, not}
 use mathlib.Core.List.{List, [], _∷_}
 use lib.Dec.{eqb, ltb, leb}
 use lib.ListN.{length}
@@ -16,8 +16,9 @@ use Rattle.record.specs.declared.Stream.{Stream}
 use Rattle.frame.specs.Frame.{destOf, groupSource, vlanOf}
 use Rattle.frame.specs.Refusals.{tooLong, short, noTag, tooSmall}
 use Rattle.stream.specs.Record.{settled, lawful, opened}
-use Rattle.calls.specs.Table.{Table, at, search, hasKey, isFree}
-use Rattle.calls.specs.Calls.{Call, arriving, opening, closing, resetting, ticking, act, answer}
+use Rattle.calls.specs.Table.{Table, at, search, hasKey, hears, isFree}
+use Rattle.frame.specs.Link.{linkLeast}
+use Rattle.calls.specs.Calls.{Call, arriving, linking, opening, closing, resetting, ticking, act, answer}
 
 -- some record of a table passes the test: said without the search that the calls go by
 unfoldable pub some : (Stream → Bool) → Table → Bool
@@ -32,13 +33,13 @@ manySlots t = ltb slotsMost (length t)
 abbrev pub noNetwork : (network : ℕ) → Bool
 noNetwork n = not (eqb n 0 || eqb n 1)
 
--- 6: no slot in use has the key
-abbrev pub noStream : (dest vlan : ℕ) → Table → Bool
-noStream dest vlan t = not (some (hasKey dest vlan) t)
+-- 6: no slot in use has the key, of those that the call looks at
+abbrev pub noStream : (link : Bool) (dest vlan : ℕ) → Table → Bool
+noStream link dest vlan t = not (some (hears link dest vlan) t)
 
 -- 7: the record is damaged: that of the lowest slot with the key
-abbrev pub damagedAt : (dest vlan : ℕ) → Table → Bool
-damagedAt dest vlan t = not (lawful (at t (search (hasKey dest vlan) t)))
+abbrev pub damagedAt : (link : Bool) (dest vlan : ℕ) → Table → Bool
+damagedAt link dest vlan t = not (lawful (at t (search (hears link dest vlan) t)))
 
 -- 7, for the reset call: its settings are out of range
 abbrev pub unsettledAt : (slot : ℕ) → Table → Bool
@@ -69,9 +70,19 @@ checksOf t (arriving network f out) =
     ∷ record { number = SHORT; holds = short f }
     ∷ record { number = UNTAGGED; holds = noTag f }
     ∷ record { number = GROUP; holds = groupSource f }
-    ∷ record { number = UNKNOWN; holds = noStream (destOf f) (vlanOf f) t }
-    ∷ record { number = DAMAGED; holds = damagedAt (destOf f) (vlanOf f) t }
+    ∷ record { number = UNKNOWN; holds = noStream false (destOf f) (vlanOf f) t }
+    ∷ record { number = DAMAGED; holds = damagedAt false (destOf f) (vlanOf f) t }
     ∷ record { number = ROOM; holds = tooSmall (length f - 6) out }
+    ∷ []
+checksOf t (linking network f out) =
+    record { number = TABLE; holds = manySlots t }
+    ∷ record { number = NETWORK; holds = noNetwork network }
+    ∷ record { number = LONG; holds = tooLong frameMost f }
+    ∷ record { number = SHORT; holds = ltb (length f) linkLeast }
+    ∷ record { number = GROUP; holds = groupSource f }
+    ∷ record { number = UNKNOWN; holds = noStream true (destOf f) 0 t }
+    ∷ record { number = DAMAGED; holds = damagedAt true (destOf f) 0 t }
+    ∷ record { number = ROOM; holds = tooSmall (length f - 1) out }
     ∷ []
 checksOf t (opening dest vlan rule window time) =
     record { number = TABLE; holds = manySlots t }

@@ -1,8 +1,8 @@
--- Document 01, "Calls and the order of checks", and document 02, order 1: the same calls in the steps that the code takes,
+-- Document 01, "Calls and the order of checks", and document 02, orders 1 and 10: the same calls in the steps that the code takes,
 -- each on values alone. The laws of `proofs/` put the steps together and show that they come to what `Calls` says. Assumes
 -- nothing.
-use Prim.Native.Nat.{ℕ, _-_}
-use mathlib.Core.Bool.{Bool, true, false, _&&_, not}
+use Prim.Native.Nat.{ℕ}
+use mathlib.Core.Bool.{Bool, true, false, _&&_, _||_, not}
 use mathlib.Core.List.{List}
 use lib.Dec.{ltb, leb}
 use lib.ListN.{length}
@@ -13,7 +13,9 @@ use Rattle.record.specs.declared.Stream.{Stream}
 use Rattle.record.specs.Words.{if_then_else_, yes}
 use Rattle.record.specs.Sizes.{slotsMost}
 use Rattle.frame.specs.Frame.{Tag, readOf}
-use Rattle.frame.specs.TagCalls.{writtenWithout}
+use Rattle.frame.specs.Link.{Link, linkOf}
+use Rattle.frame.specs.declared.LinkRead.{LinkRead}
+use Rattle.frame.specs.declared.LinkRead.the-variants as links
 use Rattle.stream.specs.Record.{settled, lawful, closed}
 use Rattle.stream.specs.Decisions.{reset}
 use Rattle.stream.specs.Steps.{weighed, recordAfter}
@@ -52,9 +54,20 @@ abbrev pub refusalIn : Asked → ℕ
 refusalIn (asks.Refused n) = n
 refusalIn (asks.For h number) = 0
 
--- The output holds length - 6 bytes.
-abbrev pub hasRoom : (frame out : List ℕ) → Bool
-hasRoom f out = leb (length f - 6) (length out)
+-- The same of a virtual link's: 1 to 4 and 14.
+unfoldable pub linkAsked : (slots network : ℕ) (frame : List ℕ) → Said Link
+linkAsked slots network f =
+    if ltb slotsMost slots then refused TABLE
+    else if ltb 1 network then refused NETWORK
+    else linkOf f
+
+abbrev pub linkRefusal : LinkRead → ℕ
+linkRefusal (links.Refused n) = n
+linkRefusal (links.Link dest number) = 0
+
+-- The output holds the bytes that an arrival needs.
+abbrev pub hasRoom : (need : ℕ) (out : List ℕ) → Bool
+hasRoom need out = leb need (length out)
 
 -- What the first step of the decision found: 7 where there is no verdict.
 abbrev pub judgedAs : Weighed → Judged
@@ -81,28 +94,29 @@ abbrev pub recordOf : Stream → (network : ℕ) → Judged → Stream
 recordOf s network j = recordAfter s network (weighedIn j)
 
 -- The answer.
-abbrev pub finished : Judged → (slot number : ℕ) (frame : List ℕ) → Said Answer
-finished (judges.Refused n) slot number f = refused n
-finished (judges.HandedUp m) slot number f = answers (arrived slot number (handedUp (length f - 6)))
-finished judges.Duplicate slot number f = answers (arrived slot number duplicate)
-finished judges.Rogue slot number f = answers (arrived slot number rogue)
+abbrev pub finished : Judged → (slot number length : ℕ) → Said Answer
+finished (judges.Refused n) slot number l = refused n
+finished (judges.HandedUp m) slot number l = answers (arrived slot number (handedUp l))
+finished judges.Duplicate slot number l = answers (arrived slot number duplicate)
+finished judges.Rogue slot number l = answers (arrived slot number rogue)
 
--- The output bytes: handed up writes the frame without the tag at its type field, and nothing else writes.
-abbrev pub bytesOf : Judged → (place : ℕ) (frame out : List ℕ) → List ℕ
-bytesOf (judges.Refused n) o f out = out
-bytesOf (judges.HandedUp m) o f out = writtenWithout f o out
-bytesOf judges.Duplicate o f out = out
-bytesOf judges.Rogue o f out = out
+-- The output bytes: those that handed up leaves, and nothing else writes.
+abbrev pub bytesOf : Judged → (written out : List ℕ) → List ℕ
+bytesOf (judges.Refused n) w out = out
+bytesOf (judges.HandedUp m) w out = w
+bytesOf judges.Duplicate w out = out
+bytesOf judges.Rogue w out = out
 
 -- ---- open, close and reset, once 1 (and of an open also 9) is passed: the answer, and what is stored in which slot
 
--- What an open has to know (`surveyed` of Table), by a search for its key and one for a free slot.
+-- What an open has to know (`surveyed` of Table), by the searches for its key, among the virtual links and among the rest, and one for
+-- a free slot.
 unfoldable pub isAt : Found → Bool
 isAt (found.At i) = true
 isAt found.Nothing = false
 
-unfoldable pub seenAs : (key free : Found) → Survey
-seenAs f free = record { taken = isAt f; free = free }
+unfoldable pub seenAs : (key link free : Found) → Survey
+seenAs f l free = record { taken = isAt f || isAt l; free = free }
 
 -- an open that filled a slot, and a close that freed one
 unfoldable pub isOpened : Opened → Bool

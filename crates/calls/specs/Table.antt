@@ -1,12 +1,13 @@
 -- Document 01, "The stream record" and "Calls and the order of checks": a table of streams and the search in it.
 -- Assumes nothing.
 use Prim.Native.Nat.{ℕ, zero, suc, _+_}
-use mathlib.Core.Bool.{Bool, _&&_, not}
+use mathlib.Core.Bool.{Bool, _&&_, not, Bool·beq}
 use mathlib.Core.List.{List, [], _∷_}
 use lib.Dec.{eqb, ltb}
 use lib.ListN.{getD, length}
 use Rattle.record.specs.declared.Stream.{Stream}
 use Rattle.record.specs.Words.{if_then_else_, yes}
+use Rattle.record.specs.Sizes.{linkRule}
 use Rattle.stream.specs.History.{empty}
 use Rattle.calls.specs.declared.Found.{Found}
 use Rattle.calls.specs.declared.Found.the-variants.{At, Nothing}
@@ -53,6 +54,15 @@ count p (s ∷ t) = (if p s then 1 else 0) + count p t
 -- a slot in use that has the key
 unfoldable pub hasKey : (dest vlan : ℕ) → Stream → Bool
 hasKey dest vlan s = yes (s .used) && eqb (s .dest) dest && eqb (s .vlan) vlan
+
+-- a virtual link (order 10)
+unfoldable pub ofLinks : Stream → Bool
+ofLinks s = eqb (s .rule) linkRule
+
+-- "Its arrivals are a call of their own, which looks only at rule 3; the other arrival calls look only at the rest": a slot in
+-- use that has the key and is a virtual link, or is none
+unfoldable pub hears : (link : Bool) (dest vlan : ℕ) → Stream → Bool
+hears link dest vlan s = hasKey dest vlan s && Bool·beq (ofLinks s) link
 
 -- a free slot
 unfoldable pub isFree : Stream → Bool

@@ -13,6 +13,7 @@ ghost use lib.ListN.{length};
 ghost use Rattle.refusal.specs.Checks.Said.{refused};
 ghost use Rattle.refusal.specs.Numbers.{DAMAGED, ROOM, UNKNOWN};
 ghost use Rattle.record.specs.Words.{if_then_else_};
+ghost use Rattle.frame.specs.TagCalls.{writtenWithout};
 ghost use Rattle.calls.specs.Said.{saidArrival};
 ghost use Rattle.calls.specs.Steps.{saidAsked, asked, refusalIn, hasRoom, judgedAs, judged, finished, bytesOf};
 
@@ -55,7 +56,7 @@ pub fn unknown() -> Answer
 
 // Does the output hold the frame without a tag?
 pub fn fits(frame: &[u8], out: &[u8]) -> bool
-    ensures { λ r. ⌜ r ≡ hasRoom (now (frame .entry)) (now (out .entry)) ⌝ }
+    ensures { λ r. ⌜ r ≡ hasRoom (length (now (frame .entry)) - 6) (now (out .entry)) ⌝ }
 {
     bare_length(frame) <= out.len()
 }
@@ -118,8 +119,8 @@ pub fn finish(
     frame: &[u8],
     out: &mut [u8],
 ) -> Answer
-    ensures { λ r. ⌜ saidArrival r ≡ finished j slot number (now (frame .entry)) ⌝ }
-    ensures { λ _. ⌜ now (out .exit) ≡ bytesOf j at (now (frame .entry)) (now (out .entry)) ⌝ }
+    ensures { λ r. ⌜ saidArrival r ≡ finished j slot number (length (now (frame .entry)) - 6) ⌝ }
+    ensures { λ _. ⌜ now (out .exit) ≡ bytesOf j (writtenWithout (now (frame .entry)) at (now (out .entry))) (now (out .entry)) ⌝ }
 {
     match j {
         Judged::Refused(n) => Answer::Refused(n),

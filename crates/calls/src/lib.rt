@@ -1,6 +1,7 @@
 // The by-value part of each call on a table: what it answers, what it stores, what it writes (document 01, "Calls and the
-// order of checks", and document 02, order 1). The walks over the table are in the crate `receiver`.
+// order of checks", and document 02, orders 1 and 10). The walks over the table are in the crate `receiver`.
 mod arrival;
+mod link;
 mod slot;
 mod told;
 
@@ -11,6 +12,10 @@ pub use arrival::judge;
 pub use arrival::refused;
 pub use arrival::unknown;
 use frame::Header;
+pub use link::ask_link;
+pub use link::finish_link;
+pub use link::fits_link;
+pub use link::refused_link;
 use record::Counts;
 use record::State;
 use record::Stream;
@@ -25,7 +30,7 @@ use stream::Marks;
 pub use told::tell_arrival;
 ghost use mathlib.Core.Path.{_≡_};
 ghost use Rattle.calls.specs.Ticks.{noSums, visited};
-ghost use Rattle.calls.specs.Table.{blank, hasKey};
+ghost use Rattle.calls.specs.Table.{blank, hears};
 
 // What an arrival was found to be.
 pub enum Verdict {
@@ -103,15 +108,22 @@ pub struct Change {
     pub stream: Stream,
 }
 
-// Is this a slot in use that has the key? The VLAN id is compared first (document 02, order 2): on the customer's lines it
-// differs most often.
-pub fn has_key(s: Stream, dest: u64, vlan: u16) -> bool
-    ensures { λ r. ⌜ r ≡ hasKey dest vlan s ⌝ }
+// Is this a slot in use that has the key, and is a virtual link, or is none (document 02, order 10)? Of one that is none the VLAN
+// id is compared first (order 2): on the customer's lines it differs most often. Whether it is in use is asked last, behind the
+// rule: with the two the other way round the compiler asks both of every slot that is passed (docs/SPEED.md).
+pub fn hears(s: Stream, dest: u64, vlan: u16, link: bool) -> bool
+    ensures { λ r. ⌜ r ≡ hears link dest vlan s ⌝ }
 {
+    if link {
+        return link::hears_links(s, dest, vlan);
+    }
     if s.vlan != vlan {
         return false;
     }
     if s.dest != dest {
+        return false;
+    }
+    if s.rule == Stream::LINK_RULE {
         return false;
     }
     s.used != 0

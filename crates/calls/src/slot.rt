@@ -31,11 +31,15 @@ fn is_at(f: Found) -> bool
     }
 }
 
-// What an open has to know: the search for its key found a slot or none, and the lowest free slot.
-pub fn seen(f: Found, free: Found) -> Survey
-    ensures { λ r. ⌜ r ≡ seenAs f free ⌝ }
+// What an open has to know: the searches for its key, among the virtual links and among the rest, found a slot or none, and the
+// lowest free slot.
+pub fn seen(f: Found, link: Found, free: Found) -> Survey
+    ensures { λ r. ⌜ r ≡ seenAs f link free ⌝ }
 {
-    let taken = is_at(f);
+    if is_at(f) {
+        return Survey { taken: true, free };
+    }
+    let taken = is_at(link);
     Survey { taken, free }
 }
 

@@ -28,6 +28,7 @@ use Rattle.demands.proofs.Stepping.{seen-as-calls}
 use Rattle.delays.specs.Line.{Event, came, ticked as beat-at, indices}
 use Rattle.delays.specs.Forgetting.{leftAfter, forgetting, allNearSince}
 use Rattle.delays.specs.OnceEach.{kinds, kindOf, DecidesAcross}
+use Rattle.delays.proofs.Vectors.{vector-fits}
 
 -- A record side by side with what is left and what was handed up.
 record Kept (l r left : ℕ) (hs : List ℕ) (s : Stream) : Type 0 where
@@ -94,7 +95,7 @@ module _ (l r : ℕ) (least : windowLeast ≤ l) (most : l ≤ windowMost) where
       let d : v ≡ judged l hs x = e ∙ ap (verdict s) y ∙ a .same in
       let f = across m ss u (leftAfter l r left hs x) (remembered l hs x) es
       (rw (g, y) (record {
-        law = law (decided-lawful s (numberOf x) w (unlaw (k .law)));
+        law = law (decided-lawful s (numberOf x) w (vector-fits s (numberOf x) (k .rule)) (unlaw (k .law)));
         rule = k .rule;
         window = k .window;
         time = k .time;

@@ -21,3 +21,4 @@ mod LeastWindow
 pub mod ByNumber
 pub mod Losing
 pub mod Computing
+pub mod Vectors

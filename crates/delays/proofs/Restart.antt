@@ -26,6 +26,7 @@ use Rattle.demands.proofs.Stepping.{steps-are-calls, seen-as-calls}
 use Rattle.delays.specs.Formulas.{span}
 use Rattle.delays.specs.Line.{Known, least, most, J, Event, came, ticked, indices, kept, Keeps, frequent}
 use Rattle.delays.specs.OnceEach.{kinds, kindOf, Sees, OnceEach, copiesBy, Silence, OnceEachRestarted}
+use Rattle.delays.proofs.Vectors.{vector-fits}
 
 -- For cases that cannot be: from them `cc` shows that 0 is 1.
 none-is-one : _≡_ {A = ℕ} 0 1 → ⊥
@@ -119,40 +120,40 @@ module _ (often q r : ℕ) where
 
   -- Through a run: what it sees, with its times, until a copy comes more than R tau behind q.
   over : (s : Stream) (es : List Seen) (u : Stream) (ps : List Event) (now latest x a : ℕ)
-      → Law s → s .time ≡ r → Trace s es u → kinds es ≡ map kindOf ps
+      → s .rule ≡ vectorRule → Law s → s .time ≡ r → Trace s es u → kinds es ≡ map kindOf ps
       → copiesBy now q ps ≡ true → frequent often latest (ps ++ came x a ∷ []) ≡ true
       → latest ≤ now + often → Soon (s .state .remaining) latest → q + often * r < a
       → Over s u
   unfolding kinds copiesBy frequent
-  over s [] u [] now latest x a l t m o c f b w late =
+  over s [] u [] now latest x a vec l t m o c f b w late =
       let p = simp tests at f in
       rw m (record { same = same-all s; law = l; none = soon-last (s .state .remaining) latest a (rw t at (l .rest)) w (p .0) late })
-  over s [] u (p ∷ ps) now latest x a l t m o c f b w late = absurd (none-is-one cc)
-  over s (arrived n v ∷ es) u [] now latest x a l t m o c f b w late = absurd (none-is-one cc)
+  over s [] u (p ∷ ps) now latest x a vec l t m o c f b w late = absurd (none-is-one cc)
+  over s (arrived n v ∷ es) u [] now latest x a vec l t m o c f b w late = absurd (none-is-one cc)
   -- A copy comes at q or sooner, and so did the tick before it: so nothing is asked of whether it is handed up.
-  over s (arrived n v ∷ es) u (came y d ∷ ps) now latest x a l t (m, (e, (g, k)), rest) o c f b w late =
+  over s (arrived n v ∷ es) u (came y d ∷ ps) now latest x a vec l t (m, (e, (g, k)), rest) o c f b w late =
       let p = simp tests at c in
       let h = simp tests at f in
       let z = same-decided s n g in
       along s m (rw k z)
-      (over m es u ps d latest x a (rw k (law (decided-lawful s n g (unlaw l)))) (rw k (z .time ∙ t)) rest (tail-eq-of-cons-eq o)
+      (over m es u ps d latest x a (rw k (z .rule ∙ vec)) (rw k (law (decided-lawful s n g (vector-fits s n vec) (unlaw l)))) (rw k (z .time ∙ t)) rest (tail-eq-of-cons-eq o)
       (p .1) (h .1) (omega (arith, p .0 .0)) (soon-first (m .state .remaining) latest (omega (arith, p .0 .0, p .0 .1))) late)
-  over s (arrived n v ∷ es) u (ticked d ∷ ps) now latest x a l t m o c f b w late = absurd (none-is-one cc)
-  over s (tick v ∷ es) u [] now latest x a l t m o c f b w late = absurd (none-is-one cc)
-  over s (tick v ∷ es) u (came y d ∷ ps) now latest x a l t m o c f b w late = absurd (none-is-one cc)
-  over s (tick v ∷ es) u (ticked d ∷ ps) now latest x a l t (m, (e, k), rest) o c f b w late =
+  over s (arrived n v ∷ es) u (ticked d ∷ ps) now latest x a vec l t m o c f b w late = absurd (none-is-one cc)
+  over s (tick v ∷ es) u [] now latest x a vec l t m o c f b w late = absurd (none-is-one cc)
+  over s (tick v ∷ es) u (came y d ∷ ps) now latest x a vec l t m o c f b w late = absurd (none-is-one cc)
+  over s (tick v ∷ es) u (ticked d ∷ ps) now latest x a vec l t (m, (e, k), rest) o c f b w late =
       let p = simp tests at c in
       let h = simp tests at f in
       let z = on-tick s l in
       along s m (rw k (z .same))
-      (over m es u ps d (d + often) x a (rw k (z .law)) (rw k (z .same .time ∙ t)) rest (tail-eq-of-cons-eq o)
+      (over m es u ps d (d + often) x a (rw k (z .same .rule ∙ vec)) (rw k (z .law)) (rw k (z .same .time ∙ t)) rest (tail-eq-of-cons-eq o)
       (p .1) (h .1) (omega arith)
       (soon-tick (s .state .remaining) (m .state .remaining) latest d (rw t at (l .rest)) (rw k (z .less)) (h .0) w) late)
-  over s (ended ∷ es) u [] now latest x a l t m o c f b w late = absurd (none-is-one cc)
-  over s (ended ∷ es) u (came y d ∷ ps) now latest x a l t m o c f b w late = absurd (none-is-one cc)
-  over s (ended ∷ es) u (ticked d ∷ ps) now latest x a l t m o c f b w late = absurd (none-is-one cc)
-  over s (nothing ∷ es) u ps now latest x a l t m o c f b w late =
-      over s es u ps now latest x a l t (rw (m .1 (l .used)) at (m .2)) o c f b w late
+  over s (ended ∷ es) u [] now latest x a vec l t m o c f b w late = absurd (none-is-one cc)
+  over s (ended ∷ es) u (came y d ∷ ps) now latest x a vec l t m o c f b w late = absurd (none-is-one cc)
+  over s (ended ∷ es) u (ticked d ∷ ps) now latest x a vec l t m o c f b w late = absurd (none-is-one cc)
+  over s (nothing ∷ es) u ps now latest x a vec l t m o c f b w late =
+      over s es u ps now latest x a vec l t (rw (m .1 (l .used)) at (m .2)) o c f b w late
 
 -- ---- fresh after a silence
 
@@ -188,7 +189,7 @@ after-silence k start last x a was t i old s b c =
     let z = s .begun in
     renews (s .vector)
     (over (k .tauMost) q (at t i .time) (at t i) (log theReceiver i t old) (at (run theReceiver t old) i) was start (start + k .tauMost) x a
-    (law (s .lawful)) refl (traced t i old (inside t i (s .lawful))) (s .order) (s .over) (s .ticks) (omega arith)
+    (s .vector) (law (s .lawful)) refl (traced t i old (inside t i (s .lawful))) (s .order) (s .over) (s .ticks) (omega arith)
     (soon-first (k .tauMost) q (at t i .time) (at t i .state .remaining) (start + k .tauMost) (omega arith))
     (behind k last (at t i .time) x a b c))
 

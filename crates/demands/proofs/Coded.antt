@@ -8,6 +8,7 @@ use Rattle.frame.proofs.write_tag.{ended as writeEnded}
 use Rattle.frame.proofs.write_tag.Met as write
 use Rattle.frame.proofs.write_tag.Symbol.{routine as writeCode}
 use Rattle.receiver.proofs.arrival.Met as arrival
+use Rattle.receiver.proofs.link_arrival.Met as link-arrival
 use Rattle.receiver.proofs.open.Met as open-stream
 use Rattle.receiver.proofs.close.Met as close
 use Rattle.receiver.proofs.rebuild.Met as rebuild
@@ -20,6 +21,7 @@ use Rattle.demands.proofs.Follows.{outcome}
 pub code-meets : CodeMeets
 code-meets M 𝓤 H 𝓜 𝓖 𝓡 = record {
   arrival = arrival.met 𝓤 H 𝓜 𝓖 𝓡;
+  link-arrival = link-arrival.met 𝓤 H 𝓜 𝓖 𝓡;
   open-stream = open-stream.met 𝓤 H 𝓜 𝓖 𝓡;
   close = close.met 𝓤 H 𝓜 𝓖 𝓡;
   rebuild = rebuild.met 𝓤 H 𝓜 𝓖 𝓡;

@@ -8,7 +8,7 @@ use Rattle.refusal.specs.Checks.Said.{refused}
 use Rattle.refusal.specs.Numbers.{INDEX}
 use Rattle.record.specs.Sizes.{slotsMost}
 use Rattle.calls.specs.Table.{Table}
-use Rattle.calls.specs.Calls.{Call, refuse, arriving, opening, closing, resetting, ticking, act, after, answer, output, outOf, Result}
+use Rattle.calls.specs.Calls.{Call, refuse, arriving, linking, opening, closing, resetting, ticking, act, after, answer, output, outOf, Result}
 use Rattle.index.specs.Index.{Index, indexed}
 use Rattle.index.specs.Indexed.{guarded, indexAfter, rebuiltBy, MeetsIndexed}
 use Rattle.receiver.proofs.Closing.{close-stores, no-output}
@@ -71,6 +71,7 @@ module _ (ix : Index) (t : Table) (c : Call) (jx : Index) (r : Result) (m : Meet
 plain : (ix : Index) (t : Table) (s : Step) (g : Got) (jx : Index) → drops ix t s ≡ false → EnsuredBy ix t s g jx → EnsuredStep t s g × (jx ≡ indexBy ix t s)
 unfolding drops indexBy
 plain ix t (single (arriving network f out)) (result r) jx e m = m
+plain ix t (single (linking network f out)) (result r) jx e m = m
 plain ix t (single (opening dest vlan rule window time)) (result r) jx e (m, o) =
     let w : r .output ≡ output t [] (act t (opening dest vlan rule window time)) = o ∙ sym (no-output t (open-stores t dest vlan rule window time)) in
     let f = fits ix t (opening dest vlan rule window time) jx r m e in
@@ -82,6 +83,7 @@ plain ix t (single (closing i)) (result r) jx e (m, o) =
 plain ix t (single (resetting i)) (result r) jx e m = m
 plain ix t (single ticking) (result r) jx e m = m
 plain ix t (single (arriving network f out)) (told a rows bytes) jx e m = absurd m
+plain ix t (single (linking network f out)) (told a rows bytes) jx e m = absurd m
 plain ix t (single (opening dest vlan rule window time)) (told a rows bytes) jx e m = absurd m
 plain ix t (single (closing i)) (told a rows bytes) jx e m = absurd m
 plain ix t (single (resetting i)) (told a rows bytes) jx e m = absurd m
@@ -94,6 +96,7 @@ plain ix t (batch b) (told a rows bytes) jx e (m, k) =
 pub left-out-claim-nothing : LeftOutClaimNothing
 unfolding drops bundle
 left-out-claim-nothing ix t (single (arriving network f out)) g jx e m = absurd (false≢true e)
+left-out-claim-nothing ix t (single (linking network f out)) g jx e m = absurd (false≢true e)
 left-out-claim-nothing ix t (single (opening dest vlan rule window time)) (result r) jx e (m, o) = leaves ix t (opening dest vlan rule window time) jx r m e o
 left-out-claim-nothing ix t (single (closing i)) (result r) jx e (m, o) = leaves ix t (closing i) jx r m e o
 left-out-claim-nothing ix t (single (opening dest vlan rule window time)) (told a rows bytes) jx e m = absurd m

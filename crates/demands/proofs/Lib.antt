@@ -26,6 +26,7 @@ pub mod Wrong
 -- What they rest on.
 pub mod Moves
 pub mod Slot
+mod Forward
 mod Gap
 mod Wrap
 pub mod Handed

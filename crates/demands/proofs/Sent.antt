@@ -14,14 +14,16 @@ use Rattle.record.specs.declared.Stream.{Stream}
 use Rattle.record.specs.Words.{if_then_else_}
 use Rattle.record.specs.Sizes.{slotsMost}
 use Rattle.frame.specs.Frame.{Tag, destOf, readOf, untagged}
+use Rattle.frame.specs.Link.{Link, linkOf, butLast}
 use Rattle.stream.specs.Record.{settled, lawful, opened}
 use Rattle.stream.specs.Decisions.{verdict}
-use Rattle.calls.specs.Table.{Table, at, search, someSlot, hasKey, isFree}
-use Rattle.calls.specs.Calls.{Call, arriving, opening, closing, resetting, ticking, Act, refuse, arrive, admitted, arrivalAt, arrival, inUse, open-call, checked, act, answer, verdictWith}
+use Rattle.calls.specs.Table.{Table, at, search, someSlot, hasKey, hears, isFree}
+use Rattle.calls.specs.Calls.{Call, arriving, linking, opening, closing, resetting, ticking, Act, refuse, arrive, admitted, arrivalAt, arrival, linkArrival, inUse, open-call, checked, act, answer, Answer, Result, verdictWith}
+use Rattle.calls.specs.Calls as calls
 use Rattle.demands.specs.Receiver.{Receiver, MeetsContract, theReceiver}
-use Rattle.demands.specs.Seen.{Seen, arrived, tick, ended, nothing, told, answered, seenOf, seen, log, numbers}
+use Rattle.demands.specs.Seen.{Seen, arrived, tick, ended, nothing, told, heard, answered, seenOf, seen, log, numbers}
 use Rattle.demands.specs.Unlimited.{elem}
-use Rattle.demands.specs.Missed.{numberFor, arrivalOf, turnedAway, arrivals, refusedArrivals, SeenOrRefused, refusals, RefusedWith}
+use Rattle.demands.specs.Missed.{ifLowest, numberFor, linkNumberFor, arrivalOf, turnedAway, arrivals, refusedArrivals, SeenOrRefused, refusals, RefusedWith}
 use Rattle.demands.proofs.Alike.{carried}
 use Rattle.demands.proofs.Slot.{resultOf}
 
@@ -45,31 +47,43 @@ module _ (i : ℕ) (t : Table) where
   unfolding answer seenOf numbers
   not-sent k e = record { fits = refl; refuses = λ number n s r. absurd (nil≢cons (sym e ∙ s)) }
 
-  module _ (network : ℕ) (f out : List ℕ) where
-    arrives : (g : Tag) (w : ℕ) (bare : List ℕ) → admitted f (readOf f) ≡ answers g
-        → ltb (search (hasKey (g .header .dest) (g .header .vlan)) t) (length t) ≡ true
-        → Tells (arriving network f out) (arrive (search (hasKey (g .header .dest) (g .header .vlan)) t) (g .number) w bare)
-    unfolding answer seenOf answered numbers numberFor someSlot
-    arrives g w bare e b = record {
-      fits = go (eqb (search (hasKey (g .header .dest) (g .header .vlan)) t) i) refl;
-      refuses = λ number n s r. absurd (let z : _≡_ {A = ℕ} 0 1 = cc in omega arith);
+  -- an arrival of either family
+  module _ (c : Call) (h : (r : Result) (a : Answer) → answered i t c r a ≡ heard i a) (key : Stream → Bool) (n : ℕ) (e : arrivalOf i t c ≡ ifLowest i t key n) where
+    arrives : (w : ℕ) (bare : List ℕ) → ltb (search key t) (length t) ≡ true → Tells c (arrive (search key t) n w bare)
+    unfolding answer seenOf numbers someSlot
+    arrives w bare b = record {
+      fits = rw (e, h (resultOf t c (arrive (search key t) n w bare)) (calls.arrived (search key t) n v)) (go (eqb (search key t) i) refl);
+      refuses = λ number m s r. absurd (let z : _≡_ {A = ℕ} 0 1 = cc in omega arith);
     }
       where
-        go : (v : Bool) → eqb (search (hasKey (g .header .dest) (g .header .vlan)) t) i ≡ v
-            → numberFor i t (admitted f (readOf f))
-            ≡ numbers ((if eqb (search (hasKey (g .header .dest) (g .header .vlan)) t) i then arrived (g .number) (told (verdictWith (length bare) (verdict (at t (search (hasKey (g .header .dest) (g .header .vlan)) t)) (g .number)))) else nothing) ∷ []) ++ []
-        go true q = rw (e, b, q)
-        go false q = rw (e, b, q)
+        v : calls.Verdict
+        v = verdictWith (length bare) (verdict (at t (search key t)) n)
 
-    arrival-tells : (r : Said Tag) → admitted f (readOf f) ≡ r → Tells (arriving network f out) (arrival t network f out r)
-    unfolding arrival arrivalAt elem numberFor someSlot
-    arrival-tells (refused n) e = not-sent n (rw e)
-    arrival-tells (answers g) e =
-        let j : ℕ = search (hasKey (g .header .dest) (g .header .vlan)) t in
+        go : (x : Bool) → eqb (search key t) i ≡ x → ifLowest i t key n ≡ numbers ((if eqb (search key t) i then arrived n (told v) else nothing) ∷ []) ++ []
+        go true q = rw (b, q)
+        go false q = rw (b, q)
+
+    slot-tells : (network need : ℕ) (bare out : List ℕ) → Tells c (arrivalAt t (search key t) n network need bare out)
+    unfolding arrivalAt elem someSlot
+    slot-tells network need bare out =
+        let j : ℕ = search key t in
         branch (leb (length t) j) (λ q. not-sent UNKNOWN (rw (e, le-ltb j (length t) (leb-true (length t) j q)))) (λ q.
         branch (not (lawful (at t j))) (λ _. of-four DAMAGED refl) (λ _.
-        branch (ltb (length out) (length f - 6)) (λ _. of-four ROOM refl) (λ _.
-        arrives g network (untagged f) e (lt-ltb j (length t) (omega (arith, leb-false (length t) j q))))))
+        branch (ltb (length out) need) (λ _. of-four ROOM refl) (λ _.
+        arrives network bare (lt-ltb j (length t) (omega (arith, leb-false (length t) j q))))))
+
+  module _ (network : ℕ) (f out : List ℕ) where
+    arrival-tells : (r : Said Tag) → admitted f (readOf f) ≡ r → Tells (arriving network f out) (arrival t network f out r)
+    unfolding arrival answered numberFor
+    arrival-tells (refused n) e = not-sent n (rw e)
+    arrival-tells (answers g) e =
+        slot-tells (arriving network f out) (λ r a. refl) (hears false (g .header .dest) (g .header .vlan)) (g .number) (rw e) network (length f - 6) (untagged f) out
+
+    link-tells : (r : Said Link) → linkOf f ≡ r → Tells (linking network f out) (linkArrival t network f out r)
+    unfolding linkArrival answered linkNumberFor
+    link-tells (refused n) e = not-sent n (rw e)
+    link-tells (answers g) e =
+        slot-tells (linking network f out) (λ r a. refl) (hears true (g .dest) 0) (g .number) (rw e) network (length f - 1) (butLast f) out
 
   -- A close or a reset is no arrival, whichever slot it is for.
   unheard : (b : Bool) → _≡_ {A = List ℕ} [] (numbers ((if b then ended else nothing) ∷ []) ++ [])
@@ -82,6 +96,8 @@ module _ (i : ℕ) (t : Table) where
   unfolding checked open-call answer seenOf answered numbers elem
   checked-tells (arriving network f out) =
       branch (ltb 1 network) (λ _. of-four NETWORK refl) (λ _. arrival-tells network f out (admitted f (readOf f)) refl)
+  checked-tells (linking network f out) =
+      branch (ltb 1 network) (λ _. of-four NETWORK refl) (λ _. link-tells network f out (linkOf f) refl)
   checked-tells (opening dest vlan rule window time) =
       let s : Stream = opened (destOf dest) vlan rule window time in
       branch (not (settled s)) (λ _. not-sent SETTING refl) (λ _.

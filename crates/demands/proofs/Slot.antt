@@ -1,5 +1,5 @@
 -- A call moves each record of the table as its slot sees it, and leaves every other as it is. Assumes nothing.
-use Prim.Native.Nat.{ℕ, _-_, _<_}
+use Prim.Native.Nat.{ℕ, _<_}
 use mathlib.Core.Path.{_≡_, refl, ap, sym, _∙_}
 use mathlib.Core.Bool.{Bool, true, false, not, false≢true}
 use mathlib.Core.List.{List, [], _∷_}
@@ -13,17 +13,19 @@ use Rattle.refusal.specs.Numbers.{TABLE, NETWORK, UNKNOWN, DAMAGED, ROOM, SETTI
 use Rattle.record.specs.declared.Stream.{Stream}
 use Rattle.record.specs.Words.{if_then_else_, yes}
 use Rattle.record.specs.Sizes.{slotsMost}
-use Rattle.frame.specs.Frame.{Tag, destOf, untagged}
+use Rattle.frame.specs.Frame.{Tag, destOf}
+use Rattle.frame.specs.Link.{Link}
 use Rattle.stream.specs.Record.{settled, lawful, opened}
 use Rattle.stream.specs.Decisions.{Verdict, up, duplicate, rogue, verdict, decided}
 use Rattle.stream.proofs.Logic.{not-iff}
 use Rattle.calls.specs.Table.{Table, at, search, someSlot, hasKey, isFree}
-use Rattle.calls.specs.Calls.{Call, arriving, opening, closing, resetting, ticking, Act, refuse, arrive, opens, closes, resets, ticks, arrivalAt, arrival, inUse, open-call, checked, act, after, answer, output, outOf, Result, verdictWith}
+use Rattle.calls.specs.Calls.{Call, arriving, linking, opening, closing, resetting, ticking, Act, refuse, arrive, opens, closes, resets, ticks, arrivalAt, arrival, linkArrival, inUse, open-call, checked, act, after, answer, output, outOf, Answer, Result, verdictWith}
+use Rattle.calls.specs.Calls as calls
 use Rattle.calls.proofs.Kept.{length-kept, other}
 use Rattle.calls.proofs.Lowest.{lowest-found}
 use Rattle.calls.proofs.Sound.{at-ticked}
 use Rattle.demands.specs.Receiver.{theReceiver, run}
-use Rattle.demands.specs.Seen.{arrived, ended, nothing, told, answered, seenOf, seen, log}
+use Rattle.demands.specs.Seen.{arrived, ended, nothing, told, heard, answered, seenOf, seen, log}
 use Rattle.demands.proofs.Moves.{Moves, Trace}
 
 pub at-set : (t : Table) (i : ℕ) (u : Stream) → i < length t → at (set t i u) i ≡ u
@@ -51,9 +53,10 @@ module _ (i : ℕ) (t : Table) (within : i < length t) where
   unfolding answer after seenOf
   refuses n = record { moves = λ u. refl }
 
-  arrives : (network : ℕ) (f out : List ℕ) (j n w : ℕ) (bare : List ℕ) → Sound (arriving network f out) (arrive j n w bare)
-  unfolding answer after seenOf answered
-  arrives network f out j n w bare = record { moves = go (eqb j i) refl }
+  -- an arrival of either family, which the stream sees as the answer tells
+  arrives : (c : Call) → ((r : Result) (a : Answer) → answered i t c r a ≡ heard i a) → (j n w : ℕ) (bare : List ℕ) → Sound c (arrive j n w bare)
+  unfolding answer after seenOf
+  arrives c h j n w bare = record { moves = rw (h (resultOf t c (arrive j n w bare)) (calls.arrived j n (verdictWith (length bare) (verdict (at t j) n)))) (go (eqb j i) refl) }
     where
       go : (v : Bool) → eqb j i ≡ v
           → Moves (at t i) (if eqb j i then arrived n (told (verdictWith (length bare) (verdict (at t j) n))) else nothing)
@@ -94,15 +97,23 @@ module _ (i : ℕ) (t : Table) (within : i < length t) where
   ages = record { moves = (refl, at-ticked t i) }
 
   -- the checks, in their order
-  arrival-sound : (network : ℕ) (f out : List ℕ) (r : Said Tag) → Sound (arriving network f out) (arrival t network f out r)
-  unfolding arrival arrivalAt
-  arrival-sound network f out (refused n) = refuses n
-  arrival-sound network f out (answers g) =
-      let j : ℕ = search (hasKey (g .header .dest) (g .header .vlan)) t in
+  slot-sound : (c : Call) → ((r : Result) (a : Answer) → answered i t c r a ≡ heard i a) → (j n network need : ℕ) (bare out : List ℕ) → Sound c (arrivalAt t j n network need bare out)
+  unfolding arrivalAt
+  slot-sound c h j n network need bare out =
       branch (leb (length t) j) (λ e. refuses UNKNOWN) (λ e.
       branch (not (lawful (at t j))) (λ e. refuses DAMAGED) (λ e.
-      branch (ltb (length out) (length f - 6)) (λ e. refuses ROOM) (λ e.
-      arrives network f out j (g .number) network (untagged f))))
+      branch (ltb (length out) need) (λ e. refuses ROOM) (λ e.
+      arrives c h j n network bare)))
+
+  arrival-sound : (network : ℕ) (f out : List ℕ) (r : Said Tag) → Sound (arriving network f out) (arrival t network f out r)
+  unfolding arrival answered
+  arrival-sound network f out (refused n) = refuses n
+  arrival-sound network f out (answers g) = slot-sound (arriving network f out) (λ r a. refl) _ _ _ _ _ _
+
+  link-sound : (network : ℕ) (f out : List ℕ) (r : Said Link) → Sound (linking network f out) (linkArrival t network f out r)
+  unfolding linkArrival answered
+  link-sound network f out (refused n) = refuses n
+  link-sound network f out (answers g) = slot-sound (linking network f out) (λ r a. refl) _ _ _ _ _ _
 
   open-sound : (dest : List ℕ) (vlan rule window time : ℕ) (s : Stream) → Sound (opening dest vlan rule window time) (open-call t s)
   unfolding open-call
@@ -116,6 +127,8 @@ module _ (i : ℕ) (t : Table) (within : i < length t) where
   unfolding checked
   checked-sound (arriving network f out) =
       branch (ltb 1 network) (λ e. refuses NETWORK) (λ e. arrival-sound network f out _)
+  checked-sound (linking network f out) =
+      branch (ltb 1 network) (λ e. refuses NETWORK) (λ e. link-sound network f out _)
   checked-sound (opening dest vlan rule window time) =
       open-sound dest vlan rule window time (opened (destOf dest) vlan rule window time)
   checked-sound (closing j) = branch (inUse t j) (λ e. shuts j) (λ e. refuses SLOT)

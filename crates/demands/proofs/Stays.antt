@@ -1,14 +1,18 @@
 -- Order 9: a program that begins with an index in agreement is never refused with 18. Assumes nothing.
-use Prim.Native.Nat.{ℕ, _≤_, _<_}
+use Prim.Native.Nat.{ℕ, _-_, _≤_, _<_}
 use mathlib.Core.Path.{_≡_, refl, ap, sym, _∙_, subst}
 use mathlib.Core.Bool.{Bool, true, false, _&&_, not}
 use mathlib.Core.List.{List, [], _∷_}
-use lib.Dec.{ltb}
+use lib.Dec.{ltb, leb}
 use lib.ListN.{length}
+use Rattle.refusal.specs.Checks.{Said}
+use Rattle.refusal.specs.Checks.Said.{refused, answers}
+use Rattle.record.specs.Words.{if_then_else_}
 use Rattle.record.specs.Sizes.{slotsMost}
-use Rattle.stream.specs.Record.{settled}
-use Rattle.calls.specs.Table.{Table, at}
-use Rattle.calls.specs.Calls.{Call, Act, refuse, resets, ticks, arriving, opening, closing, resetting, ticking, act, checked, inUse, after}
+use Rattle.frame.specs.Link.{Link, linkOf, butLast}
+use Rattle.stream.specs.Record.{settled, lawful}
+use Rattle.calls.specs.Table.{Table, at, search, hears}
+use Rattle.calls.specs.Calls.{Call, Act, refuse, arrive, resets, ticks, arriving, linking, opening, closing, resetting, ticking, act, checked, arrivalAt, linkArrival, inUse, after}
 use native.Mathlib.Decide.{decLt}
 use native.Mathlib.Omega.{arith}
 use borrow.Author.Tests.{lt-ltb, le-ltb, eq-eqb}
@@ -36,14 +40,32 @@ as-long t c {n} l = subst (λ (m : ℕ). m ≤ n) (sym (length-kept t c)) l
 
 data Plain : Act → Type 0 where
   refuses : (n : ℕ) → Plain (refuse n)
+  comes : (i number network : ℕ) (bare : List ℕ) → Plain (arrive i number network bare)
   renews : (i : ℕ) → Plain (resets i)
   ages : Plain ticks
 
 same : (ix : Index) (t : Table) {a : Act} → Plain a → indexAfter ix t a ≡ ix
 unfolding indexAfter
 same ix t (refuses n) = refl
+same ix t (comes i number network bare) = refl
 same ix t (renews i) = refl
 same ix t ages = refl
+
+module _ (t : Table) (network : ℕ) (f out : List ℕ) where
+  branch : (b : Bool) {x y : Act} → Plain x → Plain y → Plain (if b then x else y)
+  branch true p q = p
+  branch false p q = q
+
+  said-plain : (r : Said Link) → Plain (linkArrival t network f out r)
+  unfolding linkArrival arrivalAt
+  said-plain (refused n) = refuses n
+  said-plain (answers g) =
+      let i : ℕ = search (hears true (g .dest) 0) t in
+      branch (leb (length t) i) (refuses _) (branch (not (lawful (at t i))) (refuses _) (branch (ltb (length out) (length f - 1)) (refuses _) (comes i (g .number) network (butLast f))))
+
+  plain-link : Plain (act t (linking network f out))
+  unfolding act checked
+  plain-link = branch (ltb slotsMost (length t)) (refuses _) (branch (ltb 1 network) (refuses _) (said-plain (linkOf f)))
 
 plain-reset : (t : Table) (i : ℕ) → Plain (act t (resetting i))
 unfolding act checked
@@ -69,6 +91,7 @@ plainly-fit ix t c p (l, h) = (as-long t c l, ap (λ (x : Index). indexed x (aft
 stays-fit : (ix : Index) (t : Table) (s : Step) → Agreed ix t → Agreed (indexBy ix t s) (tableOf theMachine t s)
 unfolding indexBy tableOf theMachine theReceiver
 stays-fit ix t (single (arriving network f out)) g = arrived-good ix t network f out g
+stays-fit ix t (single (linking network f out)) g = plainly-fit ix t (linking network f out) (plain-link t network f out) g
 stays-fit ix t (single (opening dest vlan rule window time)) (l, h) = (as-long t _ l, both ix t (act t (opening dest vlan rule window time)) l h)
 stays-fit ix t (single (closing i)) (l, h) = (as-long t _ l, both ix t (act t (closing i)) l h)
 stays-fit ix t (single (resetting i)) g = plainly-fit ix t (resetting i) (plain-reset t i) g
@@ -95,6 +118,7 @@ fine ix t (long l) = rw (lt-ltb slotsMost (length t) l) refl
 none-dropped : (ix : Index) (t : Table) (s : Step) → Fine ix t → drops ix t s ≡ false
 unfolding drops
 none-dropped ix t (single (arriving network f out)) g = refl
+none-dropped ix t (single (linking network f out)) g = refl
 none-dropped ix t (single (opening dest vlan rule window time)) g = fine ix t g
 none-dropped ix t (single (closing i)) g = fine ix t g
 none-dropped ix t (single (resetting i)) g = refl

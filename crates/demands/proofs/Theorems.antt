@@ -5,7 +5,7 @@ use Rattle.demands.specs.Theorems.{Demands, StepDemands, Theorems}
 use Rattle.demands.proofs.Alike.{the-receiver-meets, runs-coincide}
 use Rattle.demands.proofs.Coded.{code-meets}
 use Rattle.demands.proofs.One.{demand-1, demand-1-tags}
-use Rattle.demands.proofs.Told.{arrivals-recovered}
+use Rattle.demands.proofs.Told.{arrivals-recovered, links-recovered}
 use Rattle.demands.proofs.Three.{demand-3, fresh-decides}
 use Rattle.demands.proofs.After.{never-twice, unlimited-never-twice, opened-decides, restart-gets-through, counts-once, resets-seen}
 use Rattle.demands.proofs.Absent.{lost-for-good}
@@ -27,6 +27,7 @@ demands m = record {
   demand-2 = m;
   demand-3 = demand-3 m;
   arrivals-recovered = arrivals-recovered m;
+  links-recovered = links-recovered m;
   fresh-decides = fresh-decides m;
   opened-decides = opened-decides m;
   never-twice = never-twice m;

@@ -20,11 +20,13 @@ use Rattle.frame.proofs.take_tag.{ended as takeEnded}
 use Rattle.frame.proofs.take_tag.Symbol.{routine as takeCode}
 use Rattle.frame.proofs.write_tag.{ended as writeEnded}
 use Rattle.frame.proofs.write_tag.Symbol.{routine as writeCode}
-use Rattle.calls.specs.Calls.{arriving, opening, resetting, ticking, Meets}
+use Rattle.calls.specs.Calls.{arriving, linking, opening, resetting, ticking, Meets}
 use Rattle.calls.specs.Calls as calls
 use Rattle.calls.specs.Said.{saidArrival, saidOpened, saidDone, saidSwept}
 use Rattle.receiver.proofs.arrival.{ended as arrivalEnded}
 use Rattle.receiver.proofs.arrival.Symbol.{routine as arrivalCode}
+use Rattle.receiver.proofs.link_arrival.{ended as linkEnded}
+use Rattle.receiver.proofs.link_arrival.Symbol.{routine as linkCode}
 use Rattle.index.specs.Indexed.{MeetsIndexed, MeetsRebuild}
 use Rattle.receiver.proofs.open.{ended as openEnded}
 use Rattle.receiver.proofs.open.Symbol.{routine as openCode}
@@ -53,11 +55,13 @@ module _ {M : Type 1} (𝓤 : URA M) (H : Heap 𝓤) (𝓜 : Model 𝓤 H) (𝓖
     ensures = λ g r e. fact 𝓤 (P κs a r e);
   }))
 
-  -- The six calls on a table, of which three take an index, the batch, and the two that have no table: a primed name is what stands
+  -- The seven calls on a table, of which three take an index, the batch, and the two that have no table: a primed name is what stands
   -- there afterwards.
   pub record PublicCalls : Type 1 where
     pub arrival : Ensures arrivalEnded arrivalCode (λ κs (t, (network, (frame, (out, _)))) r (t′, (_, (_, (out′, _)))).
         Meets (now t) (arriving network (now frame) (now out)) (record { said = saidArrival r; table = now t′; output = now out′ }))
+    pub link-arrival : Ensures linkEnded linkCode (λ κs (t, (network, (frame, (out, _)))) r (t′, (_, (_, (out′, _)))).
+        Meets (now t) (linking network (now frame) (now out)) (record { said = saidArrival r; table = now t′; output = now out′ }))
     pub open-stream : Ensures openEnded openCode (λ κs (t, (ix, (dest, (vlan, (rule, (window, (time, _))))))) r (t′, (ix′, _)).
         MeetsIndexed (now ix) (now t) (opening dest vlan rule window time) (record { said = saidOpened r; table = now t′; index = now ix′ }))
     pub close : Ensures closeEnded closeCode (λ κs (t, (ix, (slot, _))) r (t′, (ix′, _)).

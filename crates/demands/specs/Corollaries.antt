@@ -66,7 +66,7 @@ OpenedDecides receive =
     → verdicts (log receive i (receive t (opening dest vlan vectorRule window time) .table) later) ≡ unlimited window [] indices
 
 -- After a sender restart and R silent ticks the first new frame is handed up: R is the stream's reset time, the frame's
--- number may be any, and the stream may be of either rule. (A frame that is refused does not count.)
+-- number may be any, and the stream may be of any rule, a virtual link too. (A frame that is refused does not count.)
 abbrev pub RestartGetsThrough : Receiver → Type 0
 RestartGetsThrough receive =
     (t : Table) (i : ℕ) (gap : List Call) (c : Call) (number : ℕ) (v : calls.Verdict)

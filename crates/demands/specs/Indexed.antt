@@ -12,7 +12,7 @@ use Rattle.refusal.specs.Numbers.{INDEX}
 use Rattle.record.specs.Words.{if_then_else_}
 use Rattle.record.specs.Sizes.{slotsMost}
 use Rattle.calls.specs.Table.{Table}
-use Rattle.calls.specs.Calls.{arriving, opening, closing, resetting, ticking, Answer, act, outOf, Meets}
+use Rattle.calls.specs.Calls.{arriving, linking, opening, closing, resetting, ticking, Answer, act, outOf, Meets}
 use Rattle.index.specs.Index.{Index, indexed}
 use Rattle.index.specs.Indexed.{indexAfter, rebuiltBy, MeetsIndexed, MeetsRebuild}
 use Rattle.batch.specs.Batch.{bundle}
@@ -32,6 +32,7 @@ unfits ix t = not (ltb slotsMost (length t)) && not (indexed ix t)
 -- the steps that it refuses
 unfoldable pub drops : Index → Table → Step → Bool
 drops ix t (single (arriving network f out)) = false
+drops ix t (single (linking network f out)) = false
 drops ix t (single (opening dest vlan rule window time)) = unfits ix t
 drops ix t (single (closing i)) = unfits ix t
 drops ix t (single (resetting i)) = false
@@ -41,6 +42,7 @@ drops ix t (batch b) = unfits ix t
 -- the index behind a step that it does not refuse
 unfoldable pub indexBy : Index → Table → Step → Index
 indexBy ix t (single (arriving network f out)) = ix
+indexBy ix t (single (linking network f out)) = ix
 indexBy ix t (single (opening dest vlan rule window time)) = indexAfter ix t (act t (opening dest vlan rule window time))
 indexBy ix t (single (closing i)) = indexAfter ix t (act t (closing i))
 indexBy ix t (single (resetting i)) = ix
@@ -61,6 +63,7 @@ pub data GotBy : Type 0 where
 -- What the public calls ensure to it.
 abbrev pub EnsuredBy : Index → Table → Step → Got → Index → Type 0
 EnsuredBy ix t (single (arriving network f out)) (result r) jx = Meets t (arriving network f out) r × (jx ≡ ix)
+EnsuredBy ix t (single (linking network f out)) (result r) jx = Meets t (linking network f out) r × (jx ≡ ix)
 EnsuredBy ix t (single (opening dest vlan rule window time)) (result r) jx = MeetsIndexed ix t (opening dest vlan rule window time) (record { said = r .said; table = r .table; index = jx }) × (r .output ≡ [])
 EnsuredBy ix t (single (closing i)) (result r) jx = MeetsIndexed ix t (closing i) (record { said = r .said; table = r .table; index = jx }) × (r .output ≡ [])
 EnsuredBy ix t (single (resetting i)) (result r) jx = Meets t (resetting i) r × (jx ≡ ix)

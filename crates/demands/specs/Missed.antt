@@ -4,7 +4,7 @@
 -- every index that arrives is handed up exactly once, at its first arrival." Assumes nothing.
 use Prim.Native.Nat.{ℕ, suc}
 use mathlib.Core.Path.{_≡_}
-use mathlib.Core.Bool.{Bool, true, _&&_, not}
+use mathlib.Core.Bool.{Bool, true, false, _&&_, not}
 use mathlib.Core.List.{List, [], _∷_, _++_, map}
 use lib.Dec.{eqb, ltb}
 use lib.IntN.{ℤ}
@@ -15,10 +15,11 @@ use Rattle.record.specs.declared.Stream.{Stream}
 use Rattle.record.specs.Words.{if_then_else_, yes}
 use Rattle.record.specs.Sizes.{vectorRule}
 use Rattle.frame.specs.Frame.{Tag, readOf}
+use Rattle.frame.specs.Link.{Link, linkOf}
 use Rattle.stream.specs.Record.{lawful}
 use Rattle.stream.specs.Decisions.{Verdict, isUp, rise}
-use Rattle.calls.specs.Table.{Table, at, search, someSlot, hasKey}
-use Rattle.calls.specs.Calls.{Call, arriving, opening, closing, resetting, ticking, Answer, placed, done, admitted}
+use Rattle.calls.specs.Table.{Table, at, search, someSlot, hears}
+use Rattle.calls.specs.Calls.{Call, arriving, linking, opening, closing, resetting, ticking, Answer, placed, done, admitted}
 use Rattle.demands.specs.Receiver.{Receiver, run}
 use Rattle.demands.specs.Seen.{wasReset, seen, log, numbers, verdicts, lasting, every}
 use Rattle.demands.specs.Unlimited.{elem, highest, apart}
@@ -92,16 +93,24 @@ NothingSeenMissed receive =
 
 -- ---- in the order's words: over all that arrives
 
--- The number of a frame for the stream in slot i: one that passes 3, 4, 5 and 14, and i is the lowest slot with its key.
+-- The number of a frame for the stream in slot i, if that is the lowest slot that hears the frame.
+abbrev pub ifLowest : (slot : ℕ) → Table → (hearing : Stream → Bool) (number : ℕ) → List ℕ
+ifLowest i t hearing number = if someSlot hearing t && eqb (search hearing t) i then number ∷ [] else []
+
+-- A frame that passes 3, 4, 5 and 14 is heard by the slots with its key that are no virtual links,
 unfoldable pub numberFor : (slot : ℕ) → Table → Said Tag → List ℕ
 numberFor i t (refused n) = []
-numberFor i t (answers g) =
-    let key : Stream → Bool = hasKey (g .header .dest) (g .header .vlan) in
-    if someSlot key t && eqb (search key t) i then g .number ∷ [] else []
+numberFor i t (answers g) = ifLowest i t (hears false (g .header .dest) (g .header .vlan)) (g .number)
+
+-- and that of an arrival of a virtual link, which passes 3, 4 and 14, by those that are (order 10).
+unfoldable pub linkNumberFor : (slot : ℕ) → Table → Said Link → List ℕ
+linkNumberFor i t (refused n) = []
+linkNumberFor i t (answers g) = ifLowest i t (hears true (g .dest) 0) (g .number)
 
 -- An arrival of that stream, refused or not, by its number. (Ordinary traffic to the same address has no tag and is none.)
 abbrev pub arrivalOf : (slot : ℕ) → Table → Call → List ℕ
 arrivalOf i t (arriving network f out) = numberFor i t (admitted f (readOf f))
+arrivalOf i t (linking network f out) = linkNumberFor i t (linkOf f)
 arrivalOf i t (opening dest vlan rule window time) = []
 arrivalOf i t (closing j) = []
 arrivalOf i t (resetting j) = []

@@ -11,7 +11,7 @@ use Rattle.record.specs.declared.Stream.{Stream}
 use Rattle.record.specs.Words.{if_then_else_, yes}
 use Rattle.stream.specs.Decisions.{Verdict, up, duplicate, rogue, isUp, expires}
 use Rattle.calls.specs.Table.{Table, at}
-use Rattle.calls.specs.Calls.{Call, arriving, opening, closing, resetting, ticking, Answer, placed, done, swept, Result}
+use Rattle.calls.specs.Calls.{Call, arriving, linking, opening, closing, resetting, ticking, Answer, placed, done, swept, Result}
 use Rattle.calls.specs.Calls as calls
 use Rattle.demands.specs.Receiver.{Receiver}
 
@@ -44,6 +44,7 @@ wasReset before after = not (yes (before .state .any)) && yes (after .state .any
 -- A call that was answered, by the stream in slot i of the table t; r is what it left.
 unfoldable pub answered : (slot : ℕ) → Table → Call → Result → Answer → Seen
 answered i t (arriving network f out) r a = heard i a
+answered i t (linking network f out) r a = heard i a
 answered i t (opening dest vlan rule window time) r a = nothing
 answered i t (closing j) r a = if eqb j i then ended else nothing
 answered i t (resetting j) r a = if eqb j i then ended else nothing

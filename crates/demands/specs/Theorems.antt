@@ -4,7 +4,7 @@
 use Rattle.demands.specs.Receiver.{Receiver, MeetsContract, theReceiver, RunsCoincide, Tagger, MeetsTags}
 use Rattle.demands.specs.Code.{CodeMeets}
 use Rattle.demands.specs.Demand1.{Demand1, Demand1Tags}
-use Rattle.demands.specs.Demand2.{Demand2, Demand2Tags, ArrivalsRecovered}
+use Rattle.demands.specs.Demand2.{Demand2, Demand2Tags, ArrivalsRecovered, LinksRecovered}
 use Rattle.demands.specs.Seen.{ResetsSeen}
 use Rattle.demands.specs.Demand3.{Demand3}
 use Rattle.demands.specs.Steps.{Machine, MeetsAll, theMachine, StepsAreCalls, BatchesAreCalls, SeenAsCalls, Demand1Steps, Demand3Steps, StepsCoincide}
@@ -24,6 +24,7 @@ pub record Demands (receive : Receiver) : Type 0 where
   pub demand-2 : Demand2 receive
   pub demand-3 : Demand3 receive
   pub arrivals-recovered : ArrivalsRecovered receive
+  pub links-recovered : LinksRecovered receive
   pub fresh-decides : FreshDecides receive
   pub opened-decides : OpenedDecides receive
   pub never-twice : NeverTwice receive

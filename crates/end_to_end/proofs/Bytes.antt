@@ -28,6 +28,7 @@ use Rattle.delays.specs.Line.{came}
 use Rattle.delays.specs.OnceEach.{Timed, upAtFirst, OnceEach}
 use Rattle.delays.proofs.Restart.{fresh-after-silence, no-sooner}
 use Rattle.end_to_end.specs.Bytes.{givenOf, givenAt, got, onceEach, BytesToBytes, BytesToBytesRestarted}
+use Rattle.both_sides.proofs.Heard.{copies-filled}
 use Rattle.end_to_end.proofs.Got.{picked, got-are-picked}
 
 -- ---- places and their indices
@@ -97,8 +98,8 @@ pub from-verdicts : {receive : Receiver} → MeetsContract receive → {side : S
     → verdicts (log receive i t later) ≡ upAtFirst (countedFrom s places)
     → got receive i t later ≡ givenAt (sent side s calls) (onceEach [] places)
 unfolding elem
-from-verdicts {receive} k m s calls t i later places h v =
-    got-are-picked k i t later
+from-verdicts {receive} k {side} m s calls t i later places h v =
+    got-are-picked k i t later (copies-filled side m s calls (h .sends) places (framesHeard receive i t later) (h .copies))
     ∙ ap (λ (vs : List Verdict). picked vs (framesHeard receive i t later)) v
     ∙ first-copies m s calls (h .sends) [] [] (λ x. refl) places (framesHeard receive i t later) (h .copies)
 

@@ -12,9 +12,10 @@ use Rattle.record.specs.declared.Stream.{Stream}
 use Rattle.record.specs.Words.{if_then_else_}
 use Rattle.record.specs.Sizes.{slotsMost}
 use Rattle.frame.specs.Frame.{Tag, destOf, readOf, untagged}
+use Rattle.frame.specs.Link.{Link, linkOf, butLast}
 use Rattle.stream.specs.Record.{settled, lawful, opened}
-use Rattle.calls.specs.Table.{Table, at, search, someSlot, hasKey, isFree}
-use Rattle.calls.specs.Calls.{Call, arriving, opening, closing, resetting, ticking, Act, refuse, arrive, opens, closes, resets, ticks, admitted, arrivalAt, arrival, inUse, open-call, checked, act}
+use Rattle.calls.specs.Table.{Table, at, search, someSlot, hasKey, hears, isFree}
+use Rattle.calls.specs.Calls.{Call, arriving, linking, opening, closing, resetting, ticking, Act, refuse, arrive, opens, closes, resets, ticks, admitted, arrivalAt, arrival, linkArrival, inUse, open-call, checked, act}
 use Rattle.calls.proofs.Admits.{admits}
 
 branch : (P : Act → Type 0) (b : Bool) {x y : Act} → (b ≡ true → P x) → (b ≡ false → P y) → P (if b then x else y)
@@ -26,6 +27,7 @@ module _ (t : Table) where
   pub record Each (P : Call → Act → Type 0) : Type 0 where
     pub refuses : (c : Call) (n : ℕ) → P c (refuse n)
     pub arrives : (network : ℕ) (f out : List ℕ) (g : Tag) (i : ℕ) → readOf f ≡ answers g → P (arriving network f out) (arrive i (g .number) network (untagged f))
+    pub links : (network : ℕ) (f out : List ℕ) (g : Link) (i : ℕ) → linkOf f ≡ answers g → P (linking network f out) (arrive i (g .number) network (butLast f))
     pub opens : (dest : List ℕ) (vlan rule window time i : ℕ) → someSlot (hasKey (destOf dest) vlan) t ≡ false
         → P (opening dest vlan rule window time) (opens i (opened (destOf dest) vlan rule window time))
     pub closes : (i : ℕ) → P (closing i) (closes i)
@@ -38,17 +40,31 @@ module _ (t : Table) where
     arrival-case network f out (refused n) e = each .refuses _ n
     arrival-case network f out (answers g) e =
         let c : Call = arriving network f out in
-        let i : ℕ = search (hasKey (g .header .dest) (g .header .vlan)) t in
+        let i : ℕ = search (hears false (g .header .dest) (g .header .vlan)) t in
         branch (P c) (leb (length t) i) (λ _. each .refuses c UNKNOWN) (λ _.
         branch (P c) (not (lawful (at t i))) (λ _. each .refuses c DAMAGED) (λ _.
         branch (P c) (ltb (length out) (length f - 6)) (λ _. each .refuses c ROOM) (λ _.
         each .arrives network f out g i (admits f (readOf f) e .1))))
+
+    link-case : (network : ℕ) (f out : List ℕ) (r : Said Link) → linkOf f ≡ r → P (linking network f out) (linkArrival t network f out r)
+    unfolding linkArrival arrivalAt
+    link-case network f out (refused n) e = each .refuses _ n
+    link-case network f out (answers g) e =
+        let c : Call = linking network f out in
+        let i : ℕ = search (hears true (g .dest) 0) t in
+        branch (P c) (leb (length t) i) (λ _. each .refuses c UNKNOWN) (λ _.
+        branch (P c) (not (lawful (at t i))) (λ _. each .refuses c DAMAGED) (λ _.
+        branch (P c) (ltb (length out) (length f - 1)) (λ _. each .refuses c ROOM) (λ _.
+        each .links network f out g i e)))
 
     checked-case : (c : Call) → P c (checked t c)
     unfolding checked open-call
     checked-case (arriving network f out) =
         let c : Call = arriving network f out in
         branch (P c) (ltb 1 network) (λ _. each .refuses c NETWORK) (λ _. arrival-case network f out (admitted f (readOf f)) refl)
+    checked-case (linking network f out) =
+        let c : Call = linking network f out in
+        branch (P c) (ltb 1 network) (λ _. each .refuses c NETWORK) (λ _. link-case network f out (linkOf f) refl)
     checked-case (opening dest vlan rule window time) =
         let c : Call = opening dest vlan rule window time in
         let s : Stream = opened (destOf dest) vlan rule window time in

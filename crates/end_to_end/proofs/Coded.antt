@@ -37,7 +37,7 @@ use Rattle.end_to_end.specs.Bytes.{gotOf, givenAt, onceEach}
 use Rattle.end_to_end.specs.Batches as batches
 use Rattle.end_to_end.specs.Batches.{takes, gotFrom, gotSteps, BytesToBytesSteps}
 use Rattle.end_to_end.specs.Code.{CodeCalled, Receives, ReceiverRan, gotTold, gotOfStep, gotAll, SenderDoes, SenderRan, RansCoincide, CodeToCode}
-use Rattle.end_to_end.specs.Code.Receives.{arrival, open-stream, close, rebuild, reset, tick, in-batch}
+use Rattle.end_to_end.specs.Code.Receives.{arrival, link-arrival, open-stream, close, rebuild, reset, tick, in-batch}
 use Rattle.end_to_end.specs.Code.ReceiverRan.{none-made as no-steps, made as steps-more}
 use Rattle.end_to_end.specs.Code.SenderDoes.{send, reset as reset-sender}
 use Rattle.end_to_end.specs.Code.SenderRan.{none-made as no-sends, made as sends-more}
@@ -60,6 +60,7 @@ doing x = EnsuredDoing (x .0) (x .1) (x .2)
 -- A single call leaves the index, and so does a batch; an open and a close write nothing.
 received : (ix : Index) (t : Table) (d : Doing) (g : GotBy) → Receives ix t d g → EnsuredDoing ix t d g
 received ix t d g (arrival c) = called doing c (λ M 𝓤 H 𝓜 𝓖 𝓡. code-meets M 𝓤 H 𝓜 𝓖 𝓡 .arrival) (λ κs a r e m. (m, refl))
+received ix t d g (link-arrival c) = called doing c (λ M 𝓤 H 𝓜 𝓖 𝓡. code-meets M 𝓤 H 𝓜 𝓖 𝓡 .link-arrival) (λ κs a r e m. (m, refl))
 received ix t d g (open-stream c) = called doing c (λ M 𝓤 H 𝓜 𝓖 𝓡. code-meets M 𝓤 H 𝓜 𝓖 𝓡 .open-stream) (λ κs a r e m. (m, refl))
 received ix t d g (close c) = called doing c (λ M 𝓤 H 𝓜 𝓖 𝓡. code-meets M 𝓤 H 𝓜 𝓖 𝓡 .close) (λ κs a r e m. (m, refl))
 received ix t d g (rebuild c) = called doing c (λ M 𝓤 H 𝓜 𝓖 𝓡. code-meets M 𝓤 H 𝓜 𝓖 𝓡 .rebuild) (λ κs a r e m. m)

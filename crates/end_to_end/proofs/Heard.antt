@@ -17,7 +17,7 @@ use Rattle.frame.proofs.Heads.{type-least}
 use Rattle.frame.proofs.Words.{same-source}
 use Rattle.frame.proofs.Writes.{tag-length, wrote-is}
 use Rattle.stream.specs.Record.{lawful}
-use Rattle.calls.specs.Table.{Table, at, hasKey}
+use Rattle.calls.specs.Table.{Table, at, hears as hearsKey}
 use Rattle.calls.specs.Calls.{Call, arriving, arrive, arrival, arrivalAt, checked, act, answer}
 use Rattle.calls.proofs.Admits.{admits-all}
 use Rattle.calls.proofs.Lowest.{lowest-found}
@@ -127,7 +127,7 @@ module _ (given : List ℕ) (n : ℕ) (t : Table) (i network : ℕ) (out : List 
 -- The start of the run.
 held-at-first : (given : List ℕ) (t : Table) (i : ℕ) → Ours t i given → lawful (at t i) ≡ true → Held (destOf given) (vlanOf given) t i
 held-at-first given t i o l =
-    let f = lowest-found (hasKey (destOf given) (vlanOf given)) t (o .some) in
+    let f = lowest-found (hearsKey false (destOf given) (vlanOf given)) t (o .some) in
     record { within = inside t i l; lawful = l; has = rw (o .lowest) at (f .1); below = rw (o .lowest) at (f .2) }
 
 heard-so : {side : Side} → MeetsSide side → CopiesAreHeard theReceiver side

@@ -12,7 +12,9 @@ use Rattle.refusal.specs.Checks.{Said}
 use Rattle.refusal.specs.Checks.Said.{refused, answers}
 use Rattle.frame.specs.Bytes.{word, overlay}
 use Rattle.frame.specs.Frame.{typeAt, untagged}
+use Rattle.frame.specs.Link.{butLast}
 use Rattle.frame.proofs.Heads.{tag-of}
+use Rattle.frame.proofs.Links.{link-sizes, but-last-length}
 use Rattle.frame.proofs.TakeThenPut.{cut-length}
 use Rattle.stream.specs.Decisions.{Verdict, up, duplicate, rogue, verdict}
 use Rattle.calls.specs.Table.{Table, at}
@@ -49,6 +51,7 @@ module _ (t : Table) where
     arrives = λ network f out g i e.
         let r = tag-of f g e in
         arrives i (g .number) network (untagged f) (omega (arith, r .few, cut-length f (typeAt f) (omega (arith, r .room))));
+    links = λ network f out g i e. arrives i (g .number) network (butLast f) (omega (arith, link-sizes f e .few, but-last-length f));
     opens = λ dest vlan rule window time i e. record { fact = omega arith };
     closes = λ i. record { fact = omega arith };
     resets = λ i. record { fact = omega arith };

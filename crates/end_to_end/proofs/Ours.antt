@@ -12,14 +12,16 @@ use Rattle.record.specs.declared.Stream.{Stream}
 use Rattle.record.specs.Words.{yes}
 use Rattle.frame.specs.Frame.{destOf}
 use Rattle.stream.specs.Record.{lawful, opened, closed}
+use Rattle.stream.specs.Laws.{Fitting}
 use Rattle.stream.specs.Decisions.{decided, reset, expires, ticked}
 use Rattle.stream.proofs.Logic.{tests}
 use Rattle.stream.proofs.Law.{law}
 use Rattle.stream.proofs.Keeps.{decided-lawful, ticked-lawful}
-use Rattle.calls.specs.Table.{Table, at, search, someSlot, hasKey}
+use Rattle.calls.specs.Table.{Table, at, search, someSlot, hasKey, ofLinks, hears}
 use Rattle.calls.specs.Calls.{Call, Act, refuse, arrive, opens, closes, resets, ticks, act, after}
 use Rattle.calls.proofs.Kept.{length-kept, other}
 use Rattle.calls.proofs.Sound.{at-ticked}
+use Rattle.index.proofs.Search.{lowest}
 use Rattle.demands.specs.Receiver.{theReceiver, run}
 use Rattle.demands.specs.Seen.{Seen, arrived, tick, ended, nothing, seen, log, every}
 use Rattle.demands.proofs.Moves.{Moves}
@@ -61,38 +63,50 @@ search-is p (s ∷ t) (suc i) w h b = rw (b 0 (omega arith)) (ap suc (search-is 
 
 module _ (dest vlan : ℕ) where
   abbrev key : Stream → Bool
-  key = hasKey dest vlan
+  key = hears false dest vlan
 
-  -- Slot i has a lawful record with the key, and none below it has the key.
+  -- Slot i has a lawful record that hears plain frames of the key, and none below it does.
   pub record Held (t : Table) (i : ℕ) : Type 0 where
     pub within : i < length t
     pub lawful : lawful (at t i) ≡ true
-    pub has : hasKey dest vlan (at t i) ≡ true
-    pub below : (k : ℕ) → k < i → hasKey dest vlan (at t k) ≡ false
+    pub has : hears false dest vlan (at t i) ≡ true
+    pub below : (k : ℕ) → k < i → hears false dest vlan (at t k) ≡ false
 
-  pub found-there : {t : Table} {i : ℕ} → Held t i → search (hasKey dest vlan) t ≡ i
+  pub found-there : {t : Table} {i : ℕ} → Held t i → search (hears false dest vlan) t ≡ i
   found-there {t} {i} h = search-is key t i (h .within) (h .has) (h .below)
 
+  -- What hears plain frames has the key, and is no virtual link: its rule asks nothing of a number.
+  heard-has : (s : Stream) → key s ≡ true → hasKey dest vlan s ≡ true
+  unfolding hears
+  heard-has s e = (simp tests at e) .0
+
+  heard-fits : (s : Stream) (n : ℕ) → key s ≡ true → Fitting s n
+  unfolding hears ofLinks
+  heard-fits s n e r = absurd (false≢true (sym ((simp tests at e) .1) ∙ r))
+
+  -- An open asks for the key of either family.
   pub is-some : {t : Table} {i : ℕ} → Held t i → someSlot (hasKey dest vlan) t ≡ true
   unfolding someSlot
-  is-some {t} {i} h = lt-ltb (search key t) (length t) (omega (arith, found-there h, h .within))
+  is-some {t} {i} h =
+      let k : ℕ = search (hasKey dest vlan) t in
+      lt-ltb k (length t) (omega (arith, lowest (hasKey dest vlan) t i (h .within) (heard-has (at t i) (h .has)), h .within))
 
   -- ---- the key of a record: a close takes it away, and all else leaves it
 
   key-decided : (s : Stream) (n w : ℕ) → key (decided s n w) ≡ key s
-  unfolding decided hasKey
+  unfolding decided hears hasKey ofLinks
   key-decided s n w = refl
 
   key-reset : (s : Stream) → key (reset s) ≡ key s
-  unfolding reset hasKey
+  unfolding reset hears hasKey ofLinks
   key-reset s = refl
 
   key-closed : (s : Stream) → key (closed s) ≡ false
-  unfolding hasKey yes
+  unfolding hears hasKey yes
   key-closed s = refl
 
   key-ticked : (s : Stream) → key (ticked s) ≡ key s
-  unfolding ticked reset hasKey
+  unfolding ticked reset hears hasKey ofLinks
   key-ticked s = go (expires s) (lawful s) refl refl
     where
       go : (b c : Bool) → expires s ≡ b → lawful s ≡ c → key (ticked s) ≡ key s
@@ -114,22 +128,23 @@ module _ (dest vlan : ℕ) where
     fact : Bars a
 
   module _ (t : Table) where
-    module _ (taken : someSlot key t ≡ true) where
+    module _ (taken : someSlot (hasKey dest vlan) t ≡ true) where
       -- A record with the key is of an open with the key: that is refused, as the key is taken.
       other-key : (s : Stream) → someSlot (hasKey (s .dest) (s .vlan)) t ≡ false → key s ≡ false
-      unfolding hasKey
+      unfolding hears hasKey
       other-key s e = go (key s) refl
         where
           go : (b : Bool) → key s ≡ b → key s ≡ false
           go true k =
               let p = simp tests at k in
-              absurd (false≢true (sym e ∙ ap₂ (λ (d v : ℕ). someSlot (hasKey d v) t) (p .0 .1) (p .1) ∙ taken))
+              absurd (false≢true (sym e ∙ ap₂ (λ (d v : ℕ). someSlot (hasKey d v) t) (p .0 .0 .1) (p .0 .1) ∙ taken))
           go false k = k
 
       each : Each t (λ c a. Barred a)
       each = record {
         refuses = λ c n. record { fact = tt };
         arrives = λ network f out g i e. record { fact = tt };
+        links = λ network f out g i e. record { fact = tt };
         opens = λ d v rule window time i e. record { fact = other-key (opened (destOf d) v rule window time) e };
         closes = λ i. record { fact = tt };
         resets = λ i. record { fact = tt };
@@ -161,7 +176,7 @@ module _ (dest vlan : ℕ) where
     has : key u ≡ true
 
   stands-on : (s : Stream) (e : Seen) (u : Stream) → Moves s e u → lives e ≡ true → Stands s → Stands u
-  stands-on s (arrived n v) u (_, (w, z)) a h = rw z (record { lawful = decided-lawful s n w (h .lawful); has = key-decided s n w ∙ h .has })
+  stands-on s (arrived n v) u (_, (w, z)) a h = rw z (record { lawful = decided-lawful s n w (heard-fits s n (h .has)) (h .lawful); has = key-decided s n w ∙ h .has })
   stands-on s (tick b) u (_, z) a h = rw z (record { lawful = ticked-lawful s (h .lawful); has = key-ticked s ∙ h .has })
   stands-on s ended u m a h = absurd (false≢true a)
   stands-on s nothing u m a h = rw (m (law (h .lawful) .used)) h

@@ -3,7 +3,7 @@
 use Prim.Native.Nat.{ℕ, _+_, _≤_, _<_}
 use mathlib.Core.Path.{_≡_}
 use mathlib.Core.Logic.{_⊎_}
-use mathlib.Core.Bool.{true}
+use mathlib.Core.Bool.{true, false}
 use mathlib.Core.Option.{Option, none, some}
 use mathlib.Core.List.{List, [], _∷_, _++_, map}
 use lib.Dec.{eqb}
@@ -14,7 +14,7 @@ use Rattle.record.specs.Words.{if_then_else_}
 use Rattle.record.specs.Sizes.{slotsMost}
 use Rattle.frame.specs.Frame.{destOf, vlanOf}
 use Rattle.stream.specs.Record.{lawful}
-use Rattle.calls.specs.Table.{Table, at, search, someSlot, hasKey}
+use Rattle.calls.specs.Table.{Table, at, search, someSlot, hears}
 use Rattle.calls.specs.Calls.{Call, arriving, Answer, arrived, placed, done, swept, handedUp, duplicate, rogue}
 use Rattle.demands.specs.Receiver.{Receiver, run}
 use Rattle.demands.specs.Seen.{log, numbers}
@@ -98,10 +98,11 @@ BytesToBytesRestarted receive side =
 
 -- ---- copies reach the stream
 
--- "Every frame given to the sender has the stream's key": slot i is the lowest with the key of this one.
+-- "Every frame given to the sender has the stream's key": slot i is the lowest with the key of this one, virtual
+-- links left aside.
 pub record Ours (t : Table) (i : ℕ) (given : List ℕ) : Type 0 where
-  pub some : someSlot (hasKey (destOf given) (vlanOf given)) t ≡ true
-  pub lowest : search (hasKey (destOf given) (vlanOf given)) t ≡ i
+  pub some : someSlot (hears false (destOf given) (vlanOf given)) t ≡ true
+  pub lowest : search (hears false (destOf given) (vlanOf given)) t ≡ i
 
 -- What the host sees to: a table of at most 64 slots, a network that there is, and room for the frame.
 pub record Called (t : Table) (net : ℕ) (given out : List ℕ) : Type 0 where

@@ -1,4 +1,4 @@
--- From bytes to bytes, of the code of both ends: `send` and `reset` of the sender, the six calls of the receiver and the batch, by their
+-- From bytes to bytes, of the code of both ends: `send` and `reset` of the sender, the seven calls of the receiver and the batch, by their
 -- names, in a program that keeps an index beside its table. Assumes nothing. The words of the logic are the kit's, as in `Code` of `demands`.
 use Prim.Native.Nat.{ℕ, _+_}
 use mathlib.Core.Path.{_≡_}
@@ -16,11 +16,13 @@ use denote.Triple.Clauses.{Ended, AtExit}
 use denote.Triple.Entry.{Args, Res}
 use Rattle.record.specs.Words.{if_then_else_}
 use Rattle.calls.specs.Table.{Table, at}
-use Rattle.calls.specs.Calls.{arriving, opening, closing, resetting, ticking}
+use Rattle.calls.specs.Calls.{arriving, linking, opening, closing, resetting, ticking}
 use Rattle.calls.specs.Said.{saidArrival, saidOpened, saidDone, saidSwept}
 use Rattle.calls.specs.declared.ArrivalAnswer.{ArrivalAnswer}
 use Rattle.receiver.proofs.arrival.{ended as arrivalEnded}
 use Rattle.receiver.proofs.arrival.Symbol.{routine as arrivalCode}
+use Rattle.receiver.proofs.link_arrival.{ended as linkEnded}
+use Rattle.receiver.proofs.link_arrival.Symbol.{routine as linkCode}
 use Rattle.receiver.proofs.open.{ended as openEnded}
 use Rattle.receiver.proofs.open.Symbol.{routine as openCode}
 use Rattle.receiver.proofs.close.{ended as closeEnded}
@@ -77,6 +79,9 @@ pub record CodeCalled (T : Ended) (code : Routine) {X Y : Type 0} (passed : (κs
 pub data Receives (ix : Index) (t : Table) (d : Doing) : GotBy → Type 2 where
   arrival : {g : GotBy} → CodeCalled arrivalEnded arrivalCode {X = Index × Table × Doing}
       (λ κs (t, (network, (frame, (out, _)))). (ix, now t, step (single (arriving network (now frame) (now out)))))
+      (λ κs r (t′, (_, (_, (out′, _)))). got (result (record { said = saidArrival r; table = now t′; output = now out′ })) ix) (ix, t, d) g → Receives ix t d g
+  link-arrival : {g : GotBy} → CodeCalled linkEnded linkCode {X = Index × Table × Doing}
+      (λ κs (t, (network, (frame, (out, _)))). (ix, now t, step (single (linking network (now frame) (now out)))))
       (λ κs r (t′, (_, (_, (out′, _)))). got (result (record { said = saidArrival r; table = now t′; output = now out′ })) ix) (ix, t, d) g → Receives ix t d g
   open-stream : {g : GotBy} → CodeCalled openEnded openCode {X = Index × Table × Doing}
       (λ κs (t, (ix, (dest, (vlan, (rule, (window, (time, _))))))). (now ix, now t, step (single (opening dest vlan rule window time))))

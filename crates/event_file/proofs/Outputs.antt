@@ -20,7 +20,7 @@ use Rattle.frame.proofs.Heads.{tag-of}
 use Rattle.stream.specs.Record.{settled, lawful}
 use Rattle.stream.specs.Decisions.{Verdict, up, duplicate, rogue, verdict}
 use Rattle.calls.specs.Table.{Table, at, someSlot, isFree}
-use Rattle.calls.specs.Calls.{Call, arriving, opening, closing, resetting, ticking, Act, refuse, admitted, arrivalAt, arrival, inUse, open-call, checked, act, after, answer, writtenFor, output as outputAfter}
+use Rattle.calls.specs.Calls.{Call, arriving, linking, opening, closing, resetting, ticking, Act, refuse, admitted, arrivalAt, arrival, inUse, open-call, checked, act, after, answer, writtenFor, output as outputAfter}
 use Rattle.calls.proofs.Admits.{admits}
 use Rattle.calls.proofs.Arrivals.{bare-length}
 use Rattle.event_file.specs.Records.{eventOf, askedBy, asked}
@@ -63,6 +63,7 @@ any-output t b out h = by-event t b out h (eventOf b)
 -- a call that is lent no output
 abbrev pub Alone : Call → Type 0
 Alone (arriving network f out) = ⊥
+Alone (linking network f out) = ⊥
 Alone (opening dest vlan rule window time) = Unit {0}
 Alone (closing slot) = Unit {0}
 Alone (resetting slot) = Unit {0}
@@ -84,6 +85,7 @@ module _ (t : Table) (out : List ℕ) (P : List ℕ → Type 0) (kept : P out) w
   checked-leaves : (c : Call) → Alone c → Leaves (checked t c)
   unfolding checked open-call outputAfter
   checked-leaves (arriving network f o) z = absurd z
+  checked-leaves (linking network f o) z = absurd z
   checked-leaves (opening dest vlan rule window time) z =
       either (not (settled _)) (λ _. no) (λ _. either (someSlot _ t) (λ _. no) (λ _. either (not (someSlot isFree t)) (λ _. no) (λ _. record { fact = kept })))
   checked-leaves (closing i) z = either (inUse t i) (λ _. record { fact = kept }) (λ _. no)

@@ -68,3 +68,29 @@ everyOutput =
 
 abbrev pub EveryKind : Type 0
 EveryKind = linesOf everyInput ≡ everyOutput
+
+-- Order 10: a virtual link is opened, reset, ticked and closed, and no kind is for its arrivals.
+abbrev pub linkInput : List ℕ
+linkInput =
+    -- rule 3; with VLAN id 5, and with L = 1, it is a setting outside the sizes
+    hex "01 000D 01 020000000001 0000 03 04 0003"
+    ++ hex "000D 01 020000000001 0005 03 04 0003"
+    ++ hex "000E 06 020000000002 0000 03 0001 0003"
+    -- open's 10 looks at it, an arrival does not; the key with VLAN id 5 is another
+    ++ hex "000D 01 020000000001 0000 01 04 0003"
+    ++ hex "0016 04 00 020000000001 020000000009 F1C1 0000 0007 0800"
+    ++ hex "000D 01 020000000001 0005 01 04 0003"
+    ++ hex "000D 01 020000000001 0000 03 04 0003"
+    -- reset, tick, close; then a vector stream has its key
+    ++ hex "0002 03 00  0001 05  0002 02 00"
+    ++ hex "000D 01 020000000001 0000 01 04 0003"
+    ++ hex "0016 04 00 020000000001 020000000009 F1C1 0000 0007 0800"
+
+abbrev pub linkOutput : List ℕ
+linkOutput =
+    text "1 O 0\n2 O no 9\n3 O no 9\n"
+    ++ text "4 O no 10\n5 A no 6\n6 O 1\n7 O no 10\n"
+    ++ text "8 R ok\n9 T 0 0\n10 C ok\n11 O 0\n12 A up 0 7\nend\n"
+
+abbrev pub LinkKinds : Type 0
+LinkKinds = linesOf linkInput ≡ linkOutput

@@ -7,7 +7,7 @@ use lib.Dec.{eqb}
 use Rattle.record.specs.Words.{if_then_else_}
 use Rattle.record.specs.Sizes.{frameMost}
 use Rattle.calls.specs.Table.{Table, blank}
-use Rattle.calls.specs.Calls.{Call, arriving, opening, closing, resetting, ticking, act, after, answer, output as outputAfter}
+use Rattle.calls.specs.Calls.{Call, arriving, linking, opening, closing, resetting, ticking, act, after, answer, output as outputAfter}
 use Rattle.event_file.specs.Text.{text}
 use Rattle.event_file.specs.Records.{File, ended, cut, body, recordsOf, Asked, nothing, asks, asked}
 use Rattle.event_file.specs.Lines.{Entry, bad, told, lineOf}
@@ -18,6 +18,7 @@ letterFor (opening dest vlan rule window time) = code "O"
 letterFor (closing slot) = code "C"
 letterFor (resetting slot) = code "R"
 letterFor (arriving network frame out) = code "A"
+letterFor (linking network frame out) = code "A"  -- (no kind asks for it)
 letterFor ticking = code "T"
 
 -- What is told of a record, the table after it, and what the output buffer holds after it. A bad record leaves both.

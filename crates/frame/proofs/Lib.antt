@@ -8,4 +8,5 @@ pub mod PutThenTake
 pub mod TakeThenPut
 pub mod Refusals
 pub mod Reading
+pub mod Links
 pub mod Laws

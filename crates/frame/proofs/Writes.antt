@@ -61,7 +61,7 @@ pub with-done : (f : List ℕ) {o : ℕ} (p n : ℕ) (out : List ℕ) {new : Lis
 with-done f p n out e k a b c w = w ∙ sym (with-fits f p out k n a b c) ∙ ap (λ (o : ℕ). writtenWith f o n out) (sym e)
 
 -- they don't: each reason by itself
-and-no : (a : Bool) → a && false ≡ false
+pub and-no : (a : Bool) → a && false ≡ false
 and-no true = refl
 and-no false = refl
 

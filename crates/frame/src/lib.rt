@@ -1,5 +1,9 @@
 // The bytes of one frame: the header reader, a tag taken out, a tag written (document 01, "The frame", and document 02,
-// order 1).
+// order 1); `link` has what is read and written of a virtual link's.
+mod link;
+
+pub use link::read_link;
+pub use link::write_shorter;
 use record::Stream;
 ghost use mathlib.Core.Path.{_≡_};
 ghost use Prim.Native.Nat.{_+_, _*_, _≤_, _<_};
@@ -36,6 +40,12 @@ pub enum TagRead {
 pub enum TagPlace {
     Refused(u8),
     At(usize),
+}
+
+// A virtual link's destination and number, or the number of its refusal.
+pub enum LinkRead {
+    Refused(u8),
+    Link(u64, u16),
 }
 
 // A tag taken out: its number, and the length of the frame without it.

@@ -15,9 +15,9 @@ use Rattle.frame.specs.Bytes.{overlay}
 use Rattle.frame.specs.Frame.{numberIn}
 use Rattle.frame.specs.TagCalls.{takeFrom, takeTag, writeInto, writeTag}
 use Rattle.frame.specs.Refusals.{takeChecks, writeChecks}
-use Rattle.stream.specs.Decisions.{Verdict, up, duplicate, rogue}
+use Rattle.stream.specs.Decisions.{Verdict, up, duplicate, rogue, linkSteps, linkUp, linkCase}
 use Rattle.calls.specs.Table.{Table, blank, at}
-use Rattle.calls.specs.Calls.{Answer, arriving, closing, ticking, done, handedUp}
+use Rattle.calls.specs.Calls.{Answer, arriving, closing, ticking, done, handedUp, linkArrival}
 use Rattle.calls.specs.Calls as calls
 use Rattle.calls.specs.Refusals.{checksOf}
 use Rattle.batch.specs.Batch.{Batch, runsPast, framesIn, addsFor, ends, turnsIn, comesTo, reached, tableAfter, packed, before, answersOf, bundle, batchOf}
@@ -37,6 +37,9 @@ use Rattle.sender.specs.Runs.{nth}
 use Rattle.sender.specs.Wrong.{risen, risesOnRefusal, firstTooSoon}
 use Rattle.sender.specs.Example.{plain, pair, room0, room1, into, near}
 use Rattle.sender.proofs.Computed.{computing as sending}
+use Rattle.frame.specs.Link.{lastByte, butLast, linkOf}
+use Rattle.demands.specs.Demand2.{forward, linkPasses}
+use Rattle.held.specs.LinkCases.{link, linkFrame}
 use Rattle.held.specs.ByOne.{spoilt, losesTable, losesOutput, writesNothing, storesNothing, storesNoOpen, storesNoReset, tellsNext, loosens, spoiltBatch, batchLosesTable, batchLosesOutput, batchRefuses, framesLose, takeUnknown, takeLoses, writeUnknown, writeLoses, sendsUnknown, neverResets, ByOne}
 
 -- ---- what differs
@@ -78,6 +81,10 @@ done-not-refused e = let z : _≡_ {A = ℕ} 0 1 = cc in omega arith
 unfoldable begun : Table
 begun = blank ∷ alone 4 3 3
 
+-- a virtual link in slot 1, whose last number was 255
+unfoldable linked : Table
+linked = blank ∷ link ∷ []
+
 unfoldable idle : Table
 idle = blank ∷ begin
 
@@ -98,7 +105,7 @@ unfolding refusing
 by-15 h = ⊎-elim (λ x. let z : _≡_ {A = ℕ} 15 1 = x .1 in omega arith) (λ x. ⊎-elim (λ y. let z : _≡_ {A = ℕ} 15 2 = y .1 in omega arith) (λ y. ⊎-elim (λ z. false≢true (z .0)) (λ z. z .1) (y .1)) (x .1)) h
 
 pub by-one : ByOne
-unfolding refusing sending nth risen risesOnRefusal firstTooSoon sendsUnknown neverResets writesNothing storesNothing storesNoOpen storesNoReset tellsNext loosens byAct deciding handsUpAll duplicateRenews duplicateIsRogue countsNoLoss handedOf distinct sumOf sumOnce absent begin sent dead begun idle room
+unfolding refusing sending nth risen risesOnRefusal firstTooSoon sendsUnknown neverResets writesNothing storesNothing storesNoOpen storesNoReset tellsNext loosens byAct deciding handsUpAll duplicateRenews duplicateIsRogue countsNoLoss handedOf distinct sumOf sumOnce absent begin sent dead begun idle room linked lastByte butLast linkOf linkSteps linkUp linkCase linkArrival forward linkPasses
 by-one = record {
   number = λ h. none 6 (checksOf [] ticking) refl (h [] (ticking ∷ []) .0 .number 6 .0 refl);
   unrefused = λ h. done-not-refused (h (replicate 65 blank) (ticking ∷ []) .0 .number 1 .1 (inl (refl, refl)));
@@ -118,6 +125,9 @@ by-one = record {
   recovered-number = λ h. (let z : _≡_ {A = ℕ} 11 10 = h begun 0 (frame 1 10) (replicate 14 0) 1 11 (handedUp 14) refl .number in omega arith);
   recovered-verdict = λ h. rogue-not duplicate (h begun 0 (frame 1 9) (replicate 14 0) 1 9 calls.rogue refl .verdict) (inr refl);
   recovered-records = λ h. (let z : _≡_ {A = ℕ} 9 10 = ap (λ (t : Table). at t 1 .state .anchor) (h begun 0 (frame 1 10) (replicate 14 0) 1 10 (handedUp 14) refl .records) in omega arith);
+  link-number = λ h. (let z : _≡_ {A = ℕ} 2 1 = h linked 0 (linkFrame 1 1) (replicate 14 0) 1 2 (handedUp 14) refl .number in omega arith);
+  link-verdict = λ h. rogue-not duplicate (h linked 0 (linkFrame 1 255) (replicate 14 0) 1 255 calls.rogue refl .verdict) (inr refl);
+  link-records = λ h. (let z : _≡_ {A = ℕ} 255 1 = ap (λ (t : Table). at t 1 .state .anchor) (h linked 0 (linkFrame 1 1) (replicate 14 0) 1 1 (handedUp 14) refl .records) in omega arith);
   decides = λ h. up-not-again (h begun 1 (silence 3) (two 7 7) (7 ∷ 7 ∷ []) (record { vector = refl; silent = record { lawful = refl; long = lit≤ tt; calm = refl }; lasts = refl; numbered = refl; near = refl }));
   fresh-decides = λ h. up-not-again (h idle 1 (two 7 7) (7 ∷ 7 ∷ []) refl refl refl (record { lasts = refl; numbered = refl; near = refl }));
   opened-decides = λ h. up-not-again (h room (address 2) 0 4 3 1 (from 0 2 7 ∷ from 1 2 7 ∷ []) (7 ∷ 7 ∷ []) refl (record { lasts = refl; numbered = refl; near = refl }));

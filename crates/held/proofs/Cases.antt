@@ -28,7 +28,7 @@ number-cases = record {
 pub lawful-cases : LawfulCases
 unfolding computing
 lawful-cases = record {
-  rules = (refl, refl, refl, refl);
+  rules = (refl, refl, refl, refl, refl);
   windows = (refl, refl, refl, refl);
   times = (refl, refl, refl);
   vlans = (refl, refl);

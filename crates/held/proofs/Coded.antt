@@ -28,6 +28,8 @@ use Rattle.frame.proofs.write_tag.{ended as writeEnded}
 use Rattle.frame.proofs.write_tag.Symbol.{routine as writeCode}
 use Rattle.receiver.proofs.arrival.{ended as arrivalEnded}
 use Rattle.receiver.proofs.arrival.Symbol.{routine as arrivalCode}
+use Rattle.receiver.proofs.link_arrival.{ended as linkEnded}
+use Rattle.receiver.proofs.link_arrival.Symbol.{routine as linkCode}
 use Rattle.receiver.proofs.open.{ended as openEnded}
 use Rattle.receiver.proofs.open.Symbol.{routine as openCode}
 use Rattle.receiver.proofs.close.{ended as closeEnded}
@@ -52,7 +54,7 @@ use Rattle.sender.specs.declared.Sender.{Sender}
 use Rattle.sender.specs.Sender.{Sends, atFirst, resetOf, sendOf}
 use Rattle.sender.proofs.Laws.{send-refused-exactly, refused-keeps}
 use Rattle.both_sides.proofs.Theorems as both-sides
-use Rattle.held.specs.Code.{RefusedCall, RefusedTag, RefusedIndexed, RefusedRebuild, RefusedBatch, RefusedSend, ofArrival, ofOpen, ofClose, ofRebuild, ofReset, ofTick, ofBatch, ofTake, ofWrite, ofSend, CodeRefuses}
+use Rattle.held.specs.Code.{RefusedCall, RefusedTag, RefusedIndexed, RefusedRebuild, RefusedBatch, RefusedSend, ofArrival, ofLink, ofOpen, ofClose, ofRebuild, ofReset, ofTick, ofBatch, ofTake, ofWrite, ofSend, CodeRefuses}
 use Rattle.held.proofs.Written.{result, outcome}
 
 -- A result that meets the contract of its call;
@@ -97,6 +99,7 @@ code-refuses M 𝓤 H 𝓜 𝓖 𝓡 =
     let c = demands.theorems .code-meets M 𝓤 H 𝓜 𝓖 𝓡 in
     let s = both-sides.theorems .sender-meets M 𝓤 H 𝓜 𝓖 𝓡 in record {
       arrival = follows 𝓤 H 𝓜 𝓖 𝓡 arrivalEnded arrivalCode (ofArrival Meets) (ofArrival RefusedCall) (λ κs a r e. refused-call _ _ _) (c .arrival);
+      link-arrival = follows 𝓤 H 𝓜 𝓖 𝓡 linkEnded linkCode (ofLink Meets) (ofLink RefusedCall) (λ κs a r e. refused-call _ _ _) (c .link-arrival);
       open-stream = follows 𝓤 H 𝓜 𝓖 𝓡 openEnded openCode (ofOpen MeetsIndexed) (ofOpen RefusedIndexed) (λ κs a r e. refused-indexed _ _ _ _) (c .open-stream);
       close = follows 𝓤 H 𝓜 𝓖 𝓡 closeEnded closeCode (ofClose MeetsIndexed) (ofClose RefusedIndexed) (λ κs a r e. refused-indexed _ _ _ _) (c .close);
       rebuild = follows 𝓤 H 𝓜 𝓖 𝓡 rebuildEnded rebuildCode (ofRebuild MeetsRebuild) (ofRebuild RefusedRebuild) (λ κs a r e. refused-rebuild _ _ _ _) (c .rebuild);

@@ -45,6 +45,7 @@ module _ {receive : Receiver} (m : MeetsContract receive) where
     refuses-only = λ t c n e. one t c .number n .0 e;
     gives = λ t c. result (receive t c) _ _ _ (d .demand-2 t c .said) (d .demand-2 t c .table) (d .demand-2 t c .output);
     recovered = λ t w f o i n v e. let r = d .arrivals-recovered t w f o i n v e in (r .number, r .verdict, r .records);
+    links = λ t w f o i n v e. let r = d .links-recovered t w f o i n v e in (r .rule, r .number, r .verdict, r .records);
     decides = λ t i gap later xs a. d .demand-3 t i gap later xs (demands.theorems .premises-are receive t i gap later xs .0 a);
     never-twice = λ t i gap later xs a. d .never-twice t i gap later xs (demands.theorems .premises-are receive t i gap later xs .0 a);
     counts-once = λ t i gap later xs f a. d .counts-once t i gap later xs f (demands.theorems .premises-are receive t i gap later xs .0 a);

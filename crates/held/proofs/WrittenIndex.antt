@@ -3,7 +3,7 @@ use mathlib.Core.Path.{refl}
 use borrow.Author.Tests.{le-ltb}
 use Rattle.record.specs.Sizes.{slotsMost}
 use Rattle.record.specs.Words.{yes}
-use Rattle.calls.specs.Table.{hasKey}
+use Rattle.calls.specs.Table.{hasKey, ofLinks, hears}
 use Rattle.index.specs.Index.{mixed, placeOf, named, walk, follow, agreesAt, everyTo, agrees, indexed}
 use Rattle.index.proofs.Kept.{indexed-is, rebuilt-good, as-without}
 use Rattle.index.proofs.Guard.{exactly}
@@ -16,8 +16,8 @@ use Rattle.held.specs.WrittenIndex.{WrittenIndex, BatchIndexCases}
 pub written-index : WrittenIndex
 written-index = record {
   tested = λ ix t. (
-    λ h. (let p = indexed-is ix t .0 h in (p .0, λ dest vlan. p .1 (record { dest = dest; vlan = vlan }))),
-    λ p. indexed-is ix t .1 (p .0, λ k. p .1 (k .dest) (k .vlan)),
+    λ h. (let p = indexed-is ix t .0 h in (p .0, λ dest vlan link. p .1 (record { dest = dest; vlan = vlan; link = link }))),
+    λ p. indexed-is ix t .1 (p .0, λ k. p .1 (k .dest) (k .vlan) (k .link)),
   );
   rebuilt-agrees = λ t l. rebuilt-good t l;
   refuses = λ ix t c n. exactly ix t c n;
@@ -32,5 +32,5 @@ written-index = record {
 }
 
 pub batch-index-cases : BatchIndexCases
-unfolding yes hasKey mixed placeOf named walk follow agreesAt everyTo agrees indexed comesTo bundle comesWith batchBy
+unfolding yes hasKey ofLinks hears mixed placeOf named walk follow agreesAt everyTo agrees indexed comesTo bundle comesWith batchBy
 batch-index-cases = record { table = refl; index = refl; network = refl; frames = refl }

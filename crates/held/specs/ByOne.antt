@@ -12,12 +12,12 @@ use Rattle.frame.specs.TagCalls.{takeTag, writeTag}
 use Rattle.stream.specs.Record.{Stream}
 use Rattle.stream.specs.Decisions.{with}
 use Rattle.calls.specs.Table.{Table}
-use Rattle.calls.specs.Calls.{Call, arriving, opening, closing, resetting, ticking, Answer, arrived, placed, done, swept, outOf, Result}
+use Rattle.calls.specs.Calls.{Call, arriving, linking, opening, closing, resetting, ticking, Answer, arrived, placed, done, swept, outOf, Result}
 use Rattle.batch.specs.Batch.{Bundle, batchOf}
 use Rattle.demands.specs.Receiver.{Receiver, theReceiver, Tagger}
 use Rattle.demands.specs.Seen.{ResetsSeen}
 use Rattle.demands.specs.Demand1.{Demand1, Demand1Tags}
-use Rattle.demands.specs.Demand2.{Demand2, ArrivalsRecovered}
+use Rattle.demands.specs.Demand2.{Demand2, ArrivalsRecovered, LinksRecovered}
 use Rattle.demands.specs.Demand3.{Demand3}
 use Rattle.demands.specs.Corollaries.{NeverTwice, FreshDecides, OpenedDecides, RestartGetsThrough, CountsOnce}
 use Rattle.demands.specs.Lost.{FreshLost, OpenedLost}
@@ -53,6 +53,7 @@ storesNothing t c = record { said = theReceiver t c .said; table = t; output = t
 -- all but an open is stored, or all but a reset;
 abbrev pub butOpen : Call → (before after : Table) → Table
 butOpen (arriving network f out) t u = u
+butOpen (linking network f out) t u = u
 butOpen (opening dest vlan rule window time) t u = t
 butOpen (closing i) t u = u
 butOpen (resetting i) t u = u
@@ -63,6 +64,7 @@ storesNoOpen t c = record { said = theReceiver t c .said; table = butOpen c t (t
 
 abbrev pub butReset : Call → (before after : Table) → Table
 butReset (arriving network f out) t u = u
+butReset (linking network f out) t u = u
 butReset (opening dest vlan rule window time) t u = u
 butReset (closing i) t u = u
 butReset (resetting i) t u = t
@@ -150,6 +152,9 @@ pub record ByOne : Type 0 where
   pub recovered-number : ArrivalsRecovered tellsNext → ⊥
   pub recovered-verdict : ArrivalsRecovered duplicateIsRogue → ⊥
   pub recovered-records : ArrivalsRecovered storesNothing → ⊥
+  pub link-number : LinksRecovered tellsNext → ⊥
+  pub link-verdict : LinksRecovered duplicateIsRogue → ⊥
+  pub link-records : LinksRecovered storesNothing → ⊥
   -- demand 3, and what is said of it, of lost and of where a run begins;
   pub decides : Demand3 handsUpAll → ⊥
   pub fresh-decides : FreshDecides handsUpAll → ⊥

@@ -8,7 +8,7 @@ use lib.ListN.{length, replicate}
 use Rattle.refusal.specs.Checks.{Said}
 use Rattle.refusal.specs.Checks.Said.{refused, answers}
 use Rattle.refusal.specs.Numbers.{TABLE, NETWORK, LONG, SHORT, UNTAGGED, UNKNOWN, DAMAGED, ROOM, SETTING, TAKEN, FULL, SLOT, TAGGED, GROUP, BATCH, TRAILER, INDEX}
-use Rattle.record.specs.Sizes.{slotsMost, frameMost, untaggedMost, windowLeast, windowMost, timeLeast, timeMost, vlanMost, vectorRule, matchRule}
+use Rattle.record.specs.Sizes.{slotsMost, frameMost, untaggedMost, windowLeast, windowMost, timeLeast, timeMost, vlanMost, vectorRule, matchRule, linkRule}
 use Rattle.frame.specs.Frame.{destOf, vlanOf, typeAt, headShort, tagShort, placeOf}
 use Rattle.stream.specs.History.{holding}
 use Rattle.stream.specs.Record.{State, Counts, Stream, lawful, opened, closed}
@@ -31,8 +31,8 @@ use Rattle.demands.specs.Examples.{address, frame, from, alone}
 pub record NumberCases : Type 0 where
   -- the words of a history, the lowest first
   pub words : holding (2 ^ 64 + 2) ≡ 2 ∷ 1 ∷ 0 ∷ 0 ∷ 0 ∷ 0 ∷ 0 ∷ 0 ∷ []
-  pub sizes : slotsMost ∷ frameMost ∷ untaggedMost ∷ windowLeast ∷ windowMost ∷ timeLeast ∷ timeMost ∷ vlanMost ∷ vectorRule ∷ matchRule ∷ []
-      ≡ 64 ∷ 2000 ∷ 1994 ∷ 2 ∷ 512 ∷ 1 ∷ 65535 ∷ 4094 ∷ 1 ∷ 2 ∷ []
+  pub sizes : slotsMost ∷ frameMost ∷ untaggedMost ∷ windowLeast ∷ windowMost ∷ timeLeast ∷ timeMost ∷ vlanMost ∷ vectorRule ∷ matchRule ∷ linkRule ∷ []
+      ≡ 64 ∷ 2000 ∷ 1994 ∷ 2 ∷ 512 ∷ 1 ∷ 65535 ∷ 4094 ∷ 1 ∷ 2 ∷ 3 ∷ []
   pub refusals : TABLE ∷ NETWORK ∷ LONG ∷ SHORT ∷ UNTAGGED ∷ UNKNOWN ∷ DAMAGED ∷ ROOM ∷ SETTING ∷ TAKEN ∷ FULL ∷ SLOT ∷ TAGGED ∷ GROUP ∷ BATCH ∷ TRAILER ∷ INDEX ∷ []
       ≡ 1 ∷ 2 ∷ 3 ∷ 4 ∷ 5 ∷ 6 ∷ 7 ∷ 8 ∷ 9 ∷ 10 ∷ 11 ∷ 12 ∷ 13 ∷ 14 ∷ 15 ∷ 16 ∷ 18 ∷ []
   -- an answer in plain fields, and the mark of a batch
@@ -70,7 +70,7 @@ abbrev pub earlyIn : (window n history : ℕ) → Bool
 earlyIn window n h = lawfulWith 0 1 window 3 (stateOf h 9 3 n 0)
 
 pub record LawfulCases : Type 0 where
-  pub rules : (freshWith 0 0 4 3 ≡ false) × (freshWith 0 1 4 3 ≡ true) × (freshWith 0 2 4 3 ≡ true) × (freshWith 0 3 4 3 ≡ false)
+  pub rules : (freshWith 0 0 4 3 ≡ false) × (freshWith 0 1 4 3 ≡ true) × (freshWith 0 2 4 3 ≡ true) × (freshWith 0 3 4 3 ≡ true) × (freshWith 0 4 4 3 ≡ false)
   pub windows : (freshWith 0 1 1 3 ≡ false) × (freshWith 0 1 2 3 ≡ true) × (freshWith 0 1 512 3 ≡ true) × (freshWith 0 1 513 3 ≡ false)
   pub times : (freshWith 0 1 4 0 ≡ false) × (freshWith 0 1 4 1 ≡ true) × (freshWith 0 1 4 65535 ≡ true)
   pub vlans : (freshWith 4094 1 4 3 ≡ true) × (freshWith 4095 1 4 3 ≡ false)

@@ -17,12 +17,14 @@ use Rattle.frame.proofs.take_tag.Symbol.{routine as takeCode}
 use Rattle.frame.proofs.write_tag.{ended as writeEnded}
 use Rattle.frame.proofs.write_tag.Symbol.{routine as writeCode}
 use Rattle.calls.specs.Table.{Table}
-use Rattle.calls.specs.Calls.{Call, Answer, arriving, opening, resetting, ticking, outOf, Result}
+use Rattle.calls.specs.Calls.{Call, Answer, arriving, linking, opening, resetting, ticking, outOf, Result}
 use Rattle.calls.specs.Calls as calls
 use Rattle.calls.specs.Refusals.{checksOf}
 use Rattle.calls.specs.Said.{saidArrival, saidOpened, saidDone, saidSwept}
 use Rattle.receiver.proofs.arrival.{ended as arrivalEnded}
 use Rattle.receiver.proofs.arrival.Symbol.{routine as arrivalCode}
+use Rattle.receiver.proofs.link_arrival.{ended as linkEnded}
+use Rattle.receiver.proofs.link_arrival.Symbol.{routine as linkCode}
 use Rattle.receiver.proofs.open.{ended as openEnded}
 use Rattle.receiver.proofs.open.Symbol.{routine as openCode}
 use Rattle.receiver.proofs.close.{ended as closeEnded}
@@ -79,6 +81,10 @@ abbrev pub ofArrival : OnTable → Promise arrivalEnded
 ofArrival P = λ κs (t, (network, (frame, (out, _)))) r (t′, (_, (_, (out′, _)))).
     P (now t) (arriving network (now frame) (now out)) (record { said = saidArrival r; table = now t′; output = now out′ })
 
+abbrev pub ofLink : OnTable → Promise linkEnded
+ofLink P = λ κs (t, (network, (frame, (out, _)))) r (t′, (_, (_, (out′, _)))).
+    P (now t) (linking network (now frame) (now out)) (record { said = saidArrival r; table = now t′; output = now out′ })
+
 abbrev pub WithIndex : Type 1
 WithIndex = Index → Table → Call → Indexed → Type 0
 
@@ -115,6 +121,7 @@ ofSend P = λ κs (s, (frame, (out0, (out1, _)))) r (_, (_, (out0′, (out1′, 
 module _ {M : Type 1} (𝓤 : URA M) (H : Heap 𝓤) (𝓜 : Model 𝓤 H) (𝓖 : GhostRules 𝓤 H) (𝓡 : Running 𝓤 H 𝓜) where
   pub record RefusingCalls : Type 1 where
     pub arrival : Ensures 𝓤 H 𝓜 𝓖 𝓡 arrivalEnded arrivalCode (ofArrival RefusedCall)
+    pub link-arrival : Ensures 𝓤 H 𝓜 𝓖 𝓡 linkEnded linkCode (ofLink RefusedCall)
     pub open-stream : Ensures 𝓤 H 𝓜 𝓖 𝓡 openEnded openCode (ofOpen RefusedIndexed)
     pub close : Ensures 𝓤 H 𝓜 𝓖 𝓡 closeEnded closeCode (ofClose RefusedIndexed)
     pub rebuild : Ensures 𝓤 H 𝓜 𝓖 𝓡 rebuildEnded rebuildCode (ofRebuild RefusedRebuild)

@@ -1,4 +1,5 @@
 pub mod Cases
+pub mod LinkCases
 pub mod Edges
 pub mod Written
 pub mod WrittenIndex

@@ -13,12 +13,13 @@ use Rattle.refusal.specs.Checks.Said.{refused, answers}
 use Rattle.record.specs.Sizes.{vectorRule}
 use Rattle.frame.specs.Bytes.{overlay}
 use Rattle.frame.specs.Frame.{numberIn}
+use Rattle.frame.specs.Link.{lastByte}
 use Rattle.frame.specs.TagCalls.{takeTag, writeTag}
 use Rattle.frame.specs.Refusals.{takeChecks, writeChecks}
 use Rattle.stream.specs.Record.{lawful}
 use Rattle.stream.specs.Decisions.{up, verdict, decided, rise, expires}
 use Rattle.calls.specs.Table.{Table, at}
-use Rattle.calls.specs.Calls.{Call, arriving, opening, resetting, ticking, outOf, arrived, placed, done, swept, Result, resultOf}
+use Rattle.calls.specs.Calls.{Call, arriving, linking, opening, resetting, ticking, outOf, arrived, placed, done, swept, Result, resultOf}
 use Rattle.calls.specs.Calls as calls
 use Rattle.calls.specs.Refusals.{checksOf}
 use Rattle.batch.specs.Batch.{Batch, framesMost, adds, reached}
@@ -27,6 +28,7 @@ use Rattle.demands.specs.Receiver.{Receiver, MeetsContract, theReceiver, run, r
 use Rattle.demands.specs.Seen.{told, wasReset, seen, log, numbers, verdicts, ticks, calm, lasting, every}
 use Rattle.demands.specs.Unlimited.{elem, highest, unlimited, allNear}
 use Rattle.demands.specs.Demand1.{Refuses}
+use Rattle.demands.specs.Demand2.{linkVerdict, linkRecord}
 use Rattle.demands.specs.Demand3.{numberOf, Premises}
 use Rattle.demands.specs.Corollaries.{handedOf, handed, distinct, sumOf, sumOnce}
 use Rattle.demands.specs.Lost.{FreshLost, missed, handedBy}
@@ -72,6 +74,10 @@ pub record WrittenCalls (receive : Receiver) : Type 0 where
   pub recovered : (t : Table) (network : ℕ) (frame out : List ℕ) (i n : ℕ) (v : calls.Verdict)
       → receive t (arriving network frame out) .said ≡ answers (arrived i n v)
       → (n ≡ numberIn frame) × (told v ≡ verdict (at t i) n) × (receive t (arriving network frame out) .table ≡ set t i (decided (at t i) n network))
+  -- of virtual links, order 10;
+  pub links : (t : Table) (network : ℕ) (frame out : List ℕ) (i n : ℕ) (v : calls.Verdict)
+      → receive t (linking network frame out) .said ≡ answers (arrived i n v)
+      → (at t i .rule ≡ 3) × (n ≡ lastByte frame) × (told v ≡ linkVerdict (at t i) n) × (receive t (linking network frame out) .table ≡ set t i (linkRecord (at t i) n network))
   -- demand 3, and what follows from it;
   pub decides : (t : Table) (i : ℕ) (gap later : List Call) (indices : List ℕ) → All (premisesOf receive t i gap later indices)
       → verdicts (log receive i (run receive t gap) later) ≡ unlimited (at t i .window) [] indices

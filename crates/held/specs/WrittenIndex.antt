@@ -1,14 +1,14 @@
--- Document 02, order 9: what `index`, `batch` and `demands` say of the index, written out once more, on any table and with any index. One of
+-- Document 02, orders 9 and 10: what `index`, `batch` and `demands` say of the index, written out once more, on any table and with any index. One of
 -- these that asks for more or gives less is refused here. Assumes nothing.
 use Prim.Native.Nat.{ℕ, _≤_}
 use mathlib.Core.Path.{_≡_}
 use mathlib.Core.Logic.{_↔_}
-use mathlib.Core.Bool.{true}
+use mathlib.Core.Bool.{Bool, true}
 use mathlib.Core.List.{List, [], _∷_}
 use lib.ListN.{length, replicate}
 use Rattle.refusal.specs.Checks.{First}
 use Rattle.refusal.specs.Checks.Said.{refused}
-use Rattle.calls.specs.Table.{Table, search, hasKey}
+use Rattle.calls.specs.Table.{Table, search, hears}
 use Rattle.calls.specs.Calls.{Call, act, after, answer}
 use Rattle.index.specs.Index.{Index, follow, indexed, rebuilt}
 use Rattle.index.specs.Indexed.{guarded, indexAfter, checksWith}
@@ -19,8 +19,8 @@ use Rattle.demands.specs.Steps.{Step, theMachine, ranSteps, Got, givenAll}
 use Rattle.demands.specs.Indexed.{Doing, drops, stepsOf, GotBy, EnsuredBy, EnsuredAll, plainly, refusedStep, tableBy, stepsIn}
 
 pub record WrittenIndex : Type 0 where
-  -- agreement is over every key, and the rebuilt index of any table of at most 64 slots has it
-  pub tested : (ix : Index) (t : Table) → (indexed ix t ≡ true) ↔ ((length ix ≡ 128) × ((dest vlan : ℕ) → follow ix t (record { dest = dest; vlan = vlan }) ≡ search (hasKey dest vlan) t))
+  -- agreement is over every key, among the virtual links and among the rest, and the rebuilt index of any table of at most 64 slots has it
+  pub tested : (ix : Index) (t : Table) → (indexed ix t ≡ true) ↔ ((length ix ≡ 128) × ((dest vlan : ℕ) (link : Bool) → follow ix t (record { dest = dest; vlan = vlan; link = link }) ≡ search (hears link dest vlan) t))
   pub rebuilt-agrees : (t : Table) → length t ≤ 64 → indexed (rebuilt t) t ≡ true
   -- refused exactly so, and claiming nothing; and the call as without the index, with both in agreement
   pub refuses : (ix : Index) (t : Table) (c : Call) (n : ℕ) → (answer t (guarded ix t c) ≡ refused n) ↔ First n (checksWith ix t c)

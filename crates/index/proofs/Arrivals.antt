@@ -1,5 +1,5 @@
 -- Order 9: an arrival leaves the agreement as it was. Assumes nothing.
-use Prim.Native.Nat.{ℕ, _≤_, _-_}
+use Prim.Native.Nat.{ℕ, _≤_}
 use mathlib.Core.Path.{_≡_, refl, ap, sym, _∙_}
 use mathlib.Core.Bool.{Bool, true, false}
 use mathlib.Core.List.{List}
@@ -26,11 +26,11 @@ kept ix t (stops n) = refl
 kept ix t (comes i number network bare) = refl
 
 module _ (t : Table) (network : ℕ) (f out : List ℕ) where
-  at-slot : (i number : ℕ) → Arrives (arrivalAt t i number network f out)
+  at-slot : (i number need : ℕ) (bare : List ℕ) → Arrives (arrivalAt t i number network need bare out)
   unfolding arrivalAt
-  at-slot i number = go (leb (length t) i) refl (lawful (at t i)) refl (ltb (length out) (length f - 6)) refl
+  at-slot i number need bare = go (leb (length t) i) refl (lawful (at t i)) refl (ltb (length out) need) refl
     where
-      go : (a : Bool) → leb (length t) i ≡ a → (b : Bool) → lawful (at t i) ≡ b → (c : Bool) → ltb (length out) (length f - 6) ≡ c → Arrives (arrivalAt t i number network f out)
+      go : (a : Bool) → leb (length t) i ≡ a → (b : Bool) → lawful (at t i) ≡ b → (c : Bool) → ltb (length out) need ≡ c → Arrives (arrivalAt t i number network need bare out)
       go true p b q c r = rw p (stops _)
       go false p false q c r = rw (p, q) (stops _)
       go false p true q true r = rw (p, q, r) (stops _)
@@ -39,7 +39,7 @@ module _ (t : Table) (network : ℕ) (f out : List ℕ) where
   read-on : (s : Said Tag) → Arrives (arrival t network f out s)
   unfolding arrival
   read-on (refused n) = stops n
-  read-on (answers g) = at-slot _ _
+  read-on (answers g) = at-slot _ _ _ _
 
   arrives : Arrives (act t (arriving network f out))
   unfolding act checked

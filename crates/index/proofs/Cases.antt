@@ -3,22 +3,22 @@ use mathlib.Core.Path.{refl}
 use Rattle.refusal.specs.Checks.{firstOf}
 use Rattle.record.specs.Words.{yes}
 use Rattle.stream.specs.Record.{settled}
-use Rattle.calls.specs.Table.{search, someSlot, hasKey, isFree}
+use Rattle.calls.specs.Table.{search, someSlot, hasKey, ofLinks, hears, isFree}
 use Rattle.calls.specs.Calls.{checked, open-call, inUse, after}
 use Rattle.index.specs.Index.{mixed, placeOf, named, walk, follow, agreesAt, everyTo, agrees, indexed, vacant, probe, entered, built, rebuilt}
 use Rattle.index.specs.Indexed.{guarded, indexAfter, rebuildChecks, rebuiltBy, unfitOf}
-use Rattle.index.specs.Cases.{PlaceCases, FollowCases, AgreeCases, CallCases}
+use Rattle.index.specs.Cases.{PlaceCases, FollowCases, AgreeCases, CallCases, FamilyCases}
 
 pub place-cases : PlaceCases
 unfolding mixed placeOf vacant probe entered built rebuilt yes
 place-cases = record { own = refl; round = refl; free = refl }
 
 pub follow-cases : FollowCases
-unfolding mixed placeOf named walk follow hasKey yes
+unfolding mixed placeOf named walk follow hears hasKey ofLinks yes
 follow-cases = record { over = refl; ends = refl; vlan = refl; all = refl; gone = refl }
 
 pub agree-cases : AgreeCases
-unfolding mixed placeOf named walk follow hasKey yes agreesAt everyTo agrees indexed
+unfolding mixed placeOf named walk follow hears hasKey ofLinks yes agreesAt everyTo agrees indexed
 agree-cases = record {
   all-one = (refl, refl);
   other = refl;
@@ -30,7 +30,7 @@ agree-cases = record {
 }
 
 pub call-cases : CallCases
-unfolding mixed placeOf named walk follow hasKey yes settled agreesAt everyTo agrees indexed vacant probe entered built rebuilt guarded indexAfter after rebuildChecks rebuiltBy unfitOf firstOf checked open-call inUse search someSlot isFree
+unfolding mixed placeOf named walk follow hears hasKey ofLinks yes settled agreesAt everyTo agrees indexed vacant probe entered built rebuilt guarded indexAfter after rebuildChecks rebuiltBy unfitOf firstOf checked open-call inUse search someSlot isFree
 call-cases = record {
   closes-lower = refl;
   tombstone = refl;
@@ -44,5 +44,16 @@ call-cases = record {
   unfit = (refl, refl, refl);
   left = refl;
   rebuilds = (refl, refl);
-  refuses = (refl, refl, refl);
+  refuses = (refl, refl, refl, refl);
+}
+
+pub family-cases : FamilyCases
+unfolding mixed placeOf named walk follow hears hasKey ofLinks yes settled agreesAt everyTo agrees indexed vacant probe entered built rebuilt guarded indexAfter after rebuildChecks rebuiltBy unfitOf firstOf checked open-call inUse search someSlot isFree
+family-cases = record {
+  alone = (refl, refl);
+  both = (refl, refl);
+  found = (refl, refl);
+  rebuilds = refl;
+  taken = (refl, refl, refl);
+  opens = (refl, refl);
 }

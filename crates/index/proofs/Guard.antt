@@ -11,7 +11,7 @@ use Rattle.refusal.specs.Checks.Said.{refused}
 use Rattle.refusal.specs.Numbers.{TABLE, INDEX}
 use Rattle.record.specs.Sizes.{slotsMost}
 use Rattle.calls.specs.Table.{Table}
-use Rattle.calls.specs.Calls.{Call, arriving, opening, closing, resetting, ticking, act, answer}
+use Rattle.calls.specs.Calls.{Call, arriving, linking, opening, closing, resetting, ticking, act, answer}
 use Rattle.calls.specs.Refusals.{checksOf, manySlots}
 use Rattle.calls.proofs.Exactly.{refused-exactly}
 use Rattle.index.specs.Index.{Index, indexed}
@@ -62,6 +62,7 @@ guard-exactly false true s cs n r = (λ e. to (r .0 e), λ f. r .1 (from f))
 heads : (t : Table) (c : Call) → (cs : List Check) × (checksOf t c ≡ one (manySlots t) ∷ cs)
 unfolding checksOf
 heads t (arriving network f out) = (_, refl)
+heads t (linking network f out) = (_, refl)
 heads t (opening dest vlan rule window time) = (_, refl)
 heads t (closing i) = (_, refl)
 heads t (resetting i) = (_, refl)

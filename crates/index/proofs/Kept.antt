@@ -11,10 +11,10 @@ use borrow.Author.Tests.{eqb-true, eq-eqb, ltb-false}
 use Rattle.refusal.specs.Checks.{First}
 use Rattle.refusal.specs.Checks.Said.{refused}
 use Rattle.record.specs.declared.Stream.{Stream}
-use Rattle.record.specs.Sizes.{slotsMost}
+use Rattle.record.specs.Sizes.{slotsMost, linkRule}
 use Rattle.stream.specs.Record.{lawful, closed}
 use Rattle.stream.specs.Decisions.{decided, reset, expires, ticked}
-use Rattle.calls.specs.Table.{Table, at, hasKey, search}
+use Rattle.calls.specs.Table.{Table, at, hasKey, ofLinks, hears, search}
 use Rattle.calls.specs.Calls.{Act, refuse, arrive, opens, closes, resets, ticks, after, answer}
 use Rattle.index.specs.Index.{Key, keyOf, keyed, used, Index, places, home, named, walk, follow, Agrees, agrees, indexed, rebuilt}
 use Rattle.index.specs.Indexed.{guarded, indexAfter, rebuildChecks, rebuiltBy}
@@ -29,11 +29,12 @@ pub data Alike : Table → Table → Type 0 where
   next : (s u : Stream) {t v : Table} → used s ≡ used u → keyOf s ≡ keyOf u → Alike t v → Alike (s ∷ t) (u ∷ v)
 
 has-alike : (k : Key) (s u : Stream) → used s ≡ used u → keyOf s ≡ keyOf u → keyed k s ≡ keyed k u
-unfolding hasKey
+unfolding hears hasKey ofLinks
 has-alike k s u e f =
     let d : s .dest ≡ u .dest = ap (λ (x : Key). x .dest) f in
     let v : s .vlan ≡ u .vlan = ap (λ (x : Key). x .vlan) f in
-    rw (e, d, v)
+    let l : eqb (s .rule) linkRule ≡ eqb (u .rule) linkRule = ap (λ (x : Key). x .link) f in
+    rw (e, d, v, l)
 
 at-alike : (k : Key) {t v : Table} → Alike t v → (i : ℕ) → keyed k (at t i) ≡ keyed k (at v i)
 at-alike k ends i = refl
@@ -95,7 +96,7 @@ unfolding decided
 decided-used s n w = refl
 
 decided-key : (s : Stream) (n w : ℕ) → keyOf s ≡ keyOf (decided s n w)
-unfolding decided
+unfolding decided ofLinks
 decided-key s n w = refl
 
 ticked-used : (s : Stream) → used s ≡ used (ticked s)
@@ -108,7 +109,7 @@ ticked-used s = go (expires s) refl (lawful s) refl
     go false e false q = rw (e, q)
 
 ticked-key : (s : Stream) → keyOf s ≡ keyOf (ticked s)
-unfolding ticked reset
+unfolding ticked reset ofLinks
 ticked-key s = go (expires s) refl (lawful s) refl
   where
     go : (b : Bool) → expires s ≡ b → (c : Bool) → lawful s ≡ c → keyOf s ≡ keyOf (ticked s)
@@ -117,7 +118,7 @@ ticked-key s = go (expires s) refl (lawful s) refl
     go false e false q = rw (e, q)
 
 pub both : (ix : Index) (t : Table) (a : Act) → length t ≤ slotsMost → indexed ix t ≡ true → indexed (indexAfter ix t a) (after t a) ≡ true
-unfolding indexAfter after reset
+unfolding indexAfter after reset ofLinks
 both ix t (refuse n) l h = h
 both ix t (arrive i number network bare) l h =
     stays-alike ix t _ (alike-set t i (decided (at t i) number network) (decided-used (at t i) number network) (decided-key (at t i) number network)) h

@@ -1,41 +1,45 @@
 -- Keys and the plain search. Assumes nothing.
 use Prim.Native.Nat.{ℕ, zero, suc, _≤_, _<_}
 use mathlib.Core.Path.{_≡_, refl, sym, _∙_}
-use mathlib.Core.Bool.{Bool, true, false, false≢true}
+use mathlib.Core.Bool.{Bool, true, false, false≢true, Bool·beq}
 use mathlib.Core.List.{[], _∷_}
 use native.Mathlib.Nat.{le-of-suc-le-suc}
 use native.Mathlib.Decide.{decLt}
 use native.Mathlib.Omega.{arith}
 use lib.ListN.{length}
 use borrow.Author.Tests.{lt-ltb, eq-eqb}
-use Rattle.calls.specs.Table.{Table, at, search, someSlot, hasKey}
+use Rattle.calls.specs.Table.{Table, at, search, someSlot, hasKey, ofLinks, hears}
 use Rattle.calls.proofs.Lowest.{lowest-found, none-passes}
 use Rattle.record.specs.declared.Stream.{Stream}
 use Rattle.record.specs.Words as words
 use Rattle.index.specs.Index.{Key, keyOf, keyed, used}
 use Rattle.stream.proofs.Logic.{tests}
 
-key-path : {a b : Key} → a .dest ≡ b .dest → a .vlan ≡ b .vlan → a ≡ b
-key-path p q = λ i. record { dest = p i; vlan = q i }
+key-path : {a b : Key} → a .dest ≡ b .dest → a .vlan ≡ b .vlan → a .link ≡ b .link → a ≡ b
+key-path p q r = λ i. record { dest = p i; vlan = q i; link = r i }
 
 -- THE TWO LAWS OF A KEY: a slot in use has its own key, and no other.
 pub key-own : (s : Stream) → used s ≡ true → keyed (keyOf s) s ≡ true
-unfolding hasKey
-key-own s u = rw (u, eq-eqb (s .vlan) (s .vlan) refl, eq-eqb (s .dest) (s .dest) refl)
+unfolding hears hasKey
+key-own s u = rw (u, eq-eqb (s .vlan) (s .vlan) refl, eq-eqb (s .dest) (s .dest) refl) (same (ofLinks s))
+  where
+    same : (b : Bool) → Bool·beq b b ≡ true
+    same true = refl
+    same false = refl
 
 pub key-only : (k : Key) (s : Stream) → keyed k s ≡ true → (used s ≡ true) × (keyOf s ≡ k)
-unfolding hasKey
-key-only k s h = let p = simp tests at h in (p .0 .0, key-path (p .0 .1) (p .1))
+unfolding hears hasKey
+key-only k s h = let p = simp tests at h in (p .0 .0 .0, key-path (p .0 .0 .1) (p .0 .1) (p .1))
 
 -- Beyond the table no slot has a key.
 pub beyond : (k : Key) (t : Table) (i : ℕ) → length t ≤ i → keyed k (at t i) ≡ false
-unfolding hasKey words.yes
+unfolding hears hasKey words.yes
 beyond k [] i b = refl
 beyond k (s ∷ t) zero b = absurd (omega arith)
 beyond k (s ∷ t) (suc i) b = beyond k t i (le-of-suc-le-suc b)
 
 pub within : (k : Key) (t : Table) (i : ℕ) → keyed k (at t i) ≡ true → i < length t
-unfolding hasKey words.yes
+unfolding hears hasKey words.yes
 within k [] i h = absurd (false≢true h)
 within k (s ∷ t) zero h = omega arith
 within k (s ∷ t) (suc i) h = let p : i < length t = within k t i h in omega arith

@@ -1,4 +1,4 @@
--- Document 02, order 9: the definitions at cases worked out by hand. Assumes nothing.
+-- Document 02, orders 9 and 10: the definitions at cases worked out by hand. Assumes nothing.
 use Prim.Native.Nat.{ℕ, _+_, _-_, _^_}
 use mathlib.Core.Path.{_≡_}
 use mathlib.Core.Bool.{true, false}
@@ -17,8 +17,12 @@ use Rattle.index.specs.Indexed.{guarded, indexAfter, rebuildChecks, rebu
 abbrev pub held : (dest vlan : ℕ) → Stream
 held dest vlan = opened dest vlan 1 2 1
 
+-- and a virtual link
+abbrev pub linked : (dest vlan : ℕ) → Stream
+linked dest vlan = opened dest vlan 3 2 1
+
 abbrev pub key : (dest : ℕ) → Key
-key dest = record { dest = dest; vlan = 0 }
+key dest = record { dest = dest; vlan = 0; link = false }
 
 -- An index of these first places, then empty ones, then this last place.
 abbrev pub from : List ℕ → (empty last : ℕ) → Index
@@ -82,5 +86,23 @@ pub record CallCases : Type 0 where
   pub left : indexAfter (from (1 ∷ []) 126 100) (held 87 0 ∷ []) (refuse 9) ≡ from (1 ∷ []) 126 100
   -- the rebuild takes any index of 128 places
   pub rebuilds : (firstOf (rebuildChecks (replicate places 7) (held 87 0 ∷ [])) done ≡ answers done) × (rebuiltBy (replicate places 7) (held 87 0 ∷ []) ≡ from [] 127 1)
-  pub refuses : (firstOf (rebuildChecks none (replicate 65 blank)) done ≡ refused 1) × (firstOf (rebuildChecks (replicate 129 7) []) done ≡ refused 18)
-      × (rebuiltBy (replicate 129 7) [] ≡ replicate 129 7)
+  pub refuses : (firstOf (rebuildChecks none (replicate 65 blank)) done ≡ refused 1) × (firstOf (rebuildChecks (replicate 127 7) []) done ≡ refused 18)
+      × (firstOf (rebuildChecks (replicate 129 7) []) done ≡ refused 18) × (rebuiltBy (replicate 129 7) [] ≡ replicate 129 7)
+
+-- 87 as six bytes, as a vector stream and as a virtual link
+abbrev pub asked : (vlan rule : ℕ) → Call
+asked vlan rule = opening (0 ∷ 0 ∷ 0 ∷ 0 ∷ 0 ∷ 87 ∷ []) vlan rule 2 1
+
+-- Order 10: a stream and a virtual link with one key, side by side.
+pub record FamilyCases : Type 0 where
+  -- the place of one does not do for the other; with a place each, either may come first
+  pub alone : (indexed (from [] 127 1) (held 87 0 ∷ linked 87 0 ∷ []) ≡ false) × (indexed (from [] 127 2) (held 87 0 ∷ linked 87 0 ∷ []) ≡ false)
+  pub both : (indexed (from (2 ∷ []) 126 1) (held 87 0 ∷ linked 87 0 ∷ []) ≡ true) × (indexed (from (1 ∷ []) 126 2) (held 87 0 ∷ linked 87 0 ∷ []) ≡ true)
+  pub found : (follow (from (1 ∷ []) 126 2) (held 87 0 ∷ linked 87 0 ∷ []) (key 87) ≡ 0)
+      × (follow (from (2 ∷ []) 126 1) (held 87 0 ∷ linked 87 0 ∷ []) (record { dest = 87; vlan = 0; link = true }) ≡ 1)
+  pub rebuilds : rebuilt (linked 87 0 ∷ held 87 0 ∷ []) ≡ from (2 ∷ []) 126 1
+  -- open's 10 looks at both, and at a damaged record of rule 3 whose VLAN id is not 0
+  pub taken : (guarded (from [] 127 1) (linked 87 0 ∷ blank ∷ []) (asked 0 1) ≡ refuse 10) × (guarded (from [] 127 1) (held 87 0 ∷ blank ∷ []) (asked 0 3) ≡ refuse 10)
+      × (guarded (rebuilt (linked 87 5 ∷ blank ∷ [])) (linked 87 5 ∷ blank ∷ []) (asked 5 1) ≡ refuse 10)
+  -- "another VLAN id than 0 with it is a setting outside the sizes"
+  pub opens : (guarded none (blank ∷ []) (asked 5 3) ≡ refuse 9) × (guarded none (blank ∷ []) (asked 0 3) ≡ opens 0 (linked 87 0))

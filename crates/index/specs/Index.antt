@@ -1,4 +1,4 @@
--- Document 02, order 9: the index beside the table, following it, and when the two agree. Assumes nothing.
+-- Document 02, orders 9 and 10: the index beside the table, following it, and when the two agree. Assumes nothing.
 use Prim.Native.Nat.{ℕ, zero, suc, _+_, _*_, _/_, _%_, _^_}
 use mathlib.Core.Path.{_≡_}
 use mathlib.Core.Bool.{Bool, true, _&&_, _||_, not, cond}
@@ -7,19 +7,21 @@ use lib.Dec.{eqb, leb}
 use lib.ListN.{length, getD, set, replicate}
 use Rattle.record.specs.declared.Stream.{Stream}
 use Rattle.record.specs.Words.{yes}
-use Rattle.calls.specs.Table.{Table, at, hasKey, search}
+use Rattle.calls.specs.Table.{Table, at, ofLinks, hears, search}
 
--- A key that is asked for, and that of a record.
+-- A key that is asked for, and that of a record. "Order 9's agreement is asked of each key twice, among slots of rule 3 and among the
+-- rest" (order 10): `link` says among which.
 pub record Key : Type 0 where
   pub dest : ℕ
   pub vlan : ℕ
+  pub link : Bool
 
 abbrev pub keyOf : Stream → Key
-keyOf s = record { dest = s .dest; vlan = s .vlan }
+keyOf s = record { dest = s .dest; vlan = s .vlan; link = ofLinks s }
 
 -- a slot in use with the key
 abbrev pub keyed : Key → Stream → Bool
-keyed k s = hasKey (k .dest) (k .vlan) s
+keyed k s = hears (k .link) (k .dest) (k .vlan) s
 
 abbrev pub used : Stream → Bool
 used s = yes (s .used)

@@ -11,7 +11,7 @@ use Rattle.record.specs.Words.{if_then_else_}
 use Rattle.frame.specs.Bytes.{overlay}
 use Rattle.stream.specs.Decisions.{duplicate}
 use Rattle.calls.specs.Table.{Table, blank}
-use Rattle.calls.specs.Calls.{Call, arriving, opening, closing, resetting, ticking, Act, refuse, arrive, opens, closes, resets, ticks, act, answer, Answer, outOf, Result}
+use Rattle.calls.specs.Calls.{Call, arriving, linking, opening, closing, resetting, ticking, Act, refuse, arrive, opens, closes, resets, ticks, act, answer, Answer, outOf, Result}
 use Rattle.batch.specs.Batch.{runsPast, framesIn, addsFor, ends, turnsIn, comesTo, reached, tableAfter, packed, before, answersOf, bundle, batchOf}
 use Rattle.demands.specs.Steps.{theMachine, tableOf, ranSteps, callsOf, readAs, seenIn, seenOfStep, logSteps}
 use Rattle.demands.specs.Seen.{Seen, arrived, tick, ended, nothing, heard, answered, seenOf, seen, log, verdicts}
@@ -150,6 +150,7 @@ quiet-if false x y p q = q
 quiet-answer : (i : ℕ) (t : Table) (c : Call) (r : Result) (a : Answer) → Quiet (heard i a) → Quiet (answered i t c r a)
 unfolding answered
 quiet-answer i t (arriving network f out) r a q = q
+quiet-answer i t (linking network f out) r a q = q
 quiet-answer i t (opening dest vlan rule window time) r a q = tt
 quiet-answer i t (closing j) r a q = quiet-if (eqb j i) ended nothing tt tt
 quiet-answer i t (resetting j) r a q = quiet-if (eqb j i) ended nothing tt tt

@@ -13,10 +13,11 @@ use Rattle.refusal.specs.Numbers.{TABLE, NETWORK, UNKNOWN, DAMAGED, ROOM, SETTI
 use Rattle.refusal.proofs.Checks.{Positive, first-positive}
 use Rattle.record.specs.Sizes.{slotsMost}
 use Rattle.frame.specs.Frame.{Tag, destOf, untagged}
+use Rattle.frame.specs.Link.{Link, butLast}
 use Rattle.stream.specs.Record.{settled, lawful}
 use Rattle.stream.specs.Record as record′
 use Rattle.calls.specs.Table.{Table, at, search, someSlot, hasKey, isFree}
-use Rattle.calls.specs.Calls.{Call, arriving, opening, closing, resetting, ticking, Act, refuse, arrive, opens, closes, resets, ticks, Answer, Verdict, arrived, placed, done, handedUp, duplicate, rogue, arrivalAt, arrival, inUse, open-call, checked, act, answer}
+use Rattle.calls.specs.Calls.{Call, arriving, linking, opening, closing, resetting, ticking, Act, refuse, arrive, opens, closes, resets, ticks, Answer, Verdict, arrived, placed, done, handedUp, duplicate, rogue, arrivalAt, arrival, linkArrival, inUse, open-call, checked, act, answer}
 use Rattle.calls.specs.Refusals.{checksOf}
 use Rattle.calls.proofs.Exactly.{refused-exactly}
 use Rattle.index.specs.Index.{Index, indexed}
@@ -25,13 +26,14 @@ use Rattle.index.proofs.Guard.{exactly}
 use Rattle.calls.specs.declared.ArrivalAnswer.{ArrivalAnswer}
 use Rattle.port.specs.declared.SlotAnswer.{SlotAnswer}
 use Rattle.calls.specs.Told.{tellArrival}
-use Rattle.port.specs.Answers.{tellOpened, tellDone, ArrivalTold, ResetTold, OpenTold, CloseTold, RebuildTold}
+use Rattle.port.specs.Answers.{tellOpened, tellDone, ArrivalTold, LinkTold, ResetTold, OpenTold, CloseTold, RebuildTold}
 
 -- ---- no refusal has the number 0
 
 positive : (t : Table) (c : Call) → Positive (checksOf t c)
 unfolding checksOf
 positive t (arriving network f out) = (omega arith, (omega arith, (omega arith, (omega arith, (omega arith, (omega arith, (omega arith, (omega arith, (omega arith, tt)))))))))
+positive t (linking network f out) = (omega arith, (omega arith, (omega arith, (omega arith, (omega arith, (omega arith, (omega arith, (omega arith, tt))))))))
 positive t (opening dest vlan rule window time) = (omega arith, (omega arith, (omega arith, (omega arith, tt))))
 positive t (closing i) = (omega arith, (omega arith, tt))
 positive t (resetting i) = (omega arith, (omega arith, (omega arith, tt)))
@@ -112,24 +114,32 @@ behind : (P : Act → Type 0) → ((n : ℕ) → P (refuse n)) → (ix : Index) 
 unfolding guarded
 behind P r ix t c p = either P (ltb slotsMost (length t)) TABLE _ (r TABLE) (either P (not (indexed ix t)) INDEX _ (r INDEX) p)
 
--- an arrival after 1 to 5 and 14
+-- an arrival whose slot was searched for
+at-slot : (t : Table) (i number network need : ℕ) (bare out : List ℕ) → Arrives (arrivalAt t i number network need bare out)
+unfolding arrivalAt
+at-slot t i number network need bare out =
+    either Arrives (leb (length t) i) UNKNOWN _ tt (either Arrives (not (lawful (at t i))) DAMAGED _ tt (either Arrives (ltb (length out) need) ROOM _ tt tt))
+
+-- one after 1 to 5 and 14
 read : (t : Table) (network : ℕ) (f out : List ℕ) (x : Said Tag) → Arrives (arrival t network f out x)
-unfolding arrivalAt arrival
+unfolding arrival
 read t network f out (refused n) = tt
-read t network f out (answers g) =
-    let i = search (hasKey (g .header .dest) (g .header .vlan)) t in
-    go (leb (length t) i) (not (lawful (at t i))) (ltb (length out) (length f - 6)) i (g .number) (untagged f)
-  where
-    go : (a b c : Bool) (i number : ℕ) (bare : List ℕ) → Arrives (cond a (refuse UNKNOWN) (cond b (refuse DAMAGED) (cond c (refuse ROOM) (arrive i number network bare))))
-    go true b c i number bare = tt
-    go false true c i number bare = tt
-    go false false true i number bare = tt
-    go false false false i number bare = tt
+read t network f out (answers g) = at-slot t _ (g .number) network (length f - 6) (untagged f) out
+
+read-link : (t : Table) (network : ℕ) (f out : List ℕ) (x : Said Link) → Arrives (linkArrival t network f out x)
+unfolding linkArrival
+read-link t network f out (refused n) = tt
+read-link t network f out (answers g) = at-slot t _ (g .number) network (length f - 1) (butLast f) out
 
 arrives : (t : Table) (network : ℕ) (f out : List ℕ) → Arrives (act t (arriving network f out))
 unfolding act checked
 arrives t network f out =
     either Arrives (ltb slotsMost (length t)) TABLE _ tt (either Arrives (ltb 1 network) NETWORK _ tt (read t network f out _))
+
+links : (t : Table) (network : ℕ) (f out : List ℕ) → Arrives (act t (linking network f out))
+unfolding act checked
+links t network f out =
+    either Arrives (ltb slotsMost (length t)) TABLE _ tt (either Arrives (ltb 1 network) NETWORK _ tt (read-link t network f out _))
 
 opened : (ix : Index) (t : Table) (dest : List ℕ) (vlan rule window time : ℕ) → Opens (guarded ix t (opening dest vlan rule window time))
 unfolding checked open-call
@@ -202,6 +212,10 @@ alike tell back x y p q e = sym p ∙ ap back e ∙ q
 pub arrival-told : ArrivalTold
 arrival-told t network f out u other g back =
     alike tellArrival readArrival _ _ (read-arrival t _ (arrives t network f out) (never t _)) (read-arrival u _ (arrives u other g back) (never u _))
+
+pub link-told : LinkTold
+link-told t network f out u other g back =
+    alike tellArrival readArrival _ _ (read-arrival t _ (links t network f out) (never t _)) (read-arrival u _ (links u other g back) (never u _))
 
 pub reset-told : ResetTold
 reset-told t i u j = alike tellDone readDone _ _ (read-done t _ (reset t i) (never t _)) (read-done u _ (reset u j) (never u _))

@@ -6,7 +6,7 @@ use mathlib.Core.List.{List}
 use Rattle.refusal.specs.Checks.{Said, firstOf}
 use Rattle.refusal.specs.Checks.Said.{refused, answers}
 use Rattle.calls.specs.Table.{Table}
-use Rattle.calls.specs.Calls.{Call, arriving, opening, closing, resetting, Answer, arrived, placed, done, swept, act, after, answer, output, outOf}
+use Rattle.calls.specs.Calls.{Call, arriving, linking, opening, closing, resetting, Answer, arrived, placed, done, swept, act, after, answer, output, outOf}
 use Rattle.calls.specs.Told.{tellArrival}
 use Rattle.index.specs.Index.{Index}
 use Rattle.index.specs.Indexed.{guarded, indexAfter, rebuildChecks, rebuiltBy}
@@ -66,6 +66,13 @@ ArrivalTold =
     (t : Table) (network : ℕ) (f out : List ℕ) (u : Table) (other : ℕ) (g back : List ℕ)
     → tellArrival (answer t (act t (arriving network f out))) ≡ tellArrival (answer u (act u (arriving other g back)))
     → answer t (act t (arriving network f out)) ≡ answer u (act u (arriving other g back))
+
+-- and of a virtual link's (`nippitsun_link_arrival` of `port_link`)
+abbrev pub LinkTold : Type 0
+LinkTold =
+    (t : Table) (network : ℕ) (f out : List ℕ) (u : Table) (other : ℕ) (g back : List ℕ)
+    → tellArrival (answer t (act t (linking network f out))) ≡ tellArrival (answer u (act u (linking other g back)))
+    → answer t (act t (linking network f out)) ≡ answer u (act u (linking other g back))
 
 abbrev pub ResetTold : Type 0
 ResetTold =

@@ -11,7 +11,7 @@ use Rattle.record.specs.Words as words
 use Rattle.calls.specs.Table.{Table, at, blank}
 use Rattle.calls.specs.declared.Found.{Found}
 use Rattle.calls.specs.declared.Found.the-variants.{At, Nothing}
-use Rattle.index.specs.Index.{Key, keyOf, keyed, used, Index, places, home, named, walk, follow, agreesAt, everyTo, agrees}
+use Rattle.index.specs.Index.{Key, keyOf, keyed, used, Index, places, placeOf, home, named, walk, follow, agreesAt, everyTo, agrees}
 use Rattle.receiver.specs.Seek.{placeAs, holderOf, sureFrom, sureAt, sureIn, sureAll, notAbove, agreesBy}
 use Rattle.index.proofs.Search.{key-own}
 use Rattle.receiver.specs.declared.Holder.{Holder}
@@ -87,11 +87,11 @@ module _ (ix : Index) (t : Table) (i : ℕ) where
   unfolding sureIn
   sure-made h held r said = said ∙ ap (λ (x : Holder). sureAt ix x i) held
 
-  pub follow-agrees : i < length t → (h : Holder) → h ≡ holderOf (getD t i blank) → (f : Found) → f ≡ placeAs t (follow ix t (record { dest = h .dest; vlan = h .vlan }))
+  pub follow-agrees : i < length t → (h : Holder) → h ≡ holderOf (getD t i blank) → (f : Found) → f ≡ placeAs t (follow ix t (record { dest = h .dest; vlan = h .vlan; link = h .link }))
       → (r : Bool) → r ≡ agreesBy h f i → r ≡ agreesAt ix t i
   unfolding agreesBy agreesAt
   follow-agrees l h held f said r by =
-      by ∙ (λ j. not (held j .used) || notAbove (said j) i) ∙ ap (λ (x : Holder). not (words.yes (at t i .used)) || notAbove (placeAs t (follow ix t (record { dest = x .dest; vlan = x .vlan }))) i) held
+      by ∙ (λ j. not (held j .used) || notAbove (said j) i) ∙ ap (λ (x : Holder). not (words.yes (at t i .used)) || notAbove (placeAs t (follow ix t (record { dest = x .dest; vlan = x .vlan; link = x .link }))) i) held
       ∙ ap (λ (b : Bool). not (words.yes (at t i .used)) || b) (above (follow ix t (keyOf (at t i))))
     where
       above : (m : ℕ) → notAbove (placeAs t m) i ≡ leb m i
@@ -185,7 +185,7 @@ pub sure-free : (ix : Index) (h : Holder) (i : ℕ) → not (h .used) ≡ true �
 unfolding sureAt
 sure-free ix h i e = rw e
 
-pub sure-used : (ix : Index) (h : Holder) (i : ℕ) {from : ℕ} {r : Bool} → not (h .used) ≡ false → from ≡ home (record { dest = h .dest; vlan = h .vlan }) → r ≡ sureFrom ix i places from → r ≡ sureAt ix h i
+pub sure-used : (ix : Index) (h : Holder) (i : ℕ) {from : ℕ} {r : Bool} → not (h .used) ≡ false → from ≡ placeOf (h .dest) (h .vlan) → r ≡ sureFrom ix i places from → r ≡ sureAt ix h i
 unfolding sureAt
 sure-used ix h i e f g = g ∙ rw (e, f)
 

@@ -31,6 +31,9 @@ use Rattle.calls.proofs.Opened.Laws as Opened-laws
 use Rattle.calls.specs.declared.Asked.{Asked}
 use Rattle.calls.proofs.Asked as Asked-type
 use Rattle.calls.proofs.Asked.Laws as Asked-laws
+use Rattle.frame.specs.declared.LinkRead.{LinkRead}
+use Rattle.frame.proofs.LinkRead as LinkRead-type
+use Rattle.frame.proofs.LinkRead.Laws as LinkRead-laws
 use Rattle.calls.specs.declared.Judged.{Judged}
 use Rattle.calls.proofs.Judged as Judged-type
 use Rattle.calls.proofs.Judged.Laws as Judged-laws
@@ -175,6 +178,33 @@ module _ {M : Type 1} (𝓤 : URA M) (H : Heap 𝓤) (A : Atoms 𝓤) (W : Given
 module _ {M : Type 1} {𝓤 : URA M} {H : Heap 𝓤} {A : Atoms 𝓤} {K : Type 0} {W : Given 𝓤 H A} {Γ : List (Item 𝓤)} {G : Goal 𝓤 H} where
   pub asked-has : K → (v : Asked) → asked-ok v → Step K W (‵ (asked-row .own v (asked-val v ∷ [])) ∷ Γ) G Γ G
   asked-has t v g = owned t asked-row (Is asked-row) (Enum-laws.makes Asked-type.the-type Asked-laws.the-plain 𝓤 H A) v _ g
+
+-- ---- LinkRead
+abbrev pub linkread-row : RattleType
+linkread-row = LinkRead-type.the-row
+
+abbrev pub linkread-ty : Ty
+linkread-ty = LinkRead-laws.mir
+
+abbrev pub linkread-val : LinkRead → Val
+linkread-val = Enum-laws.val LinkRead-type.the-type LinkRead-laws.the-laws
+
+abbrev pub linkread-spells : LinkRead → List Val
+linkread-spells = Enum-laws.vals LinkRead-type.the-type LinkRead-laws.the-laws
+
+pub linkread-tells : Tells linkread-row (Is linkread-row) linkread-spells
+linkread-tells = Enum-laws.tells LinkRead-type.the-type LinkRead-laws.the-laws
+
+abbrev pub linkread-ok : LinkRead → Type 0
+linkread-ok v = Is linkread-row v (linkread-val v ∷ [])
+
+module _ {M : Type 1} (𝓤 : URA M) (H : Heap 𝓤) (A : Atoms 𝓤) (W : Given 𝓤 H A) where
+  pub linkread-typed : (v : LinkRead) → linkread-ok v → T (hasTy linkread-ty (linkread-val v)) × WT (linkread-val v)
+  linkread-typed v g = Enum-laws.lawful LinkRead-type.the-type LinkRead-laws.the-laws 𝓤 H A W tt .typed v _ g .0
+
+module _ {M : Type 1} {𝓤 : URA M} {H : Heap 𝓤} {A : Atoms 𝓤} {K : Type 0} {W : Given 𝓤 H A} {Γ : List (Item 𝓤)} {G : Goal 𝓤 H} where
+  pub linkread-has : K → (v : LinkRead) → linkread-ok v → Step K W (‵ (linkread-row .own v (linkread-val v ∷ [])) ∷ Γ) G Γ G
+  linkread-has t v g = owned t linkread-row (Is linkread-row) (Enum-laws.makes LinkRead-type.the-type LinkRead-laws.the-plain 𝓤 H A) v _ g
 
 -- ---- Judged
 abbrev pub judged-row : RattleType

@@ -30,6 +30,9 @@ use Rattle.calls.proofs.Swept.Laws as Swept-laws
 use Rattle.frame.specs.declared.Header.{Header}
 use Rattle.frame.proofs.Header as Header-type
 use Rattle.frame.proofs.Header.Laws as Header-laws
+use Rattle.frame.specs.declared.LinkRead.{LinkRead}
+use Rattle.frame.proofs.LinkRead as LinkRead-type
+use Rattle.frame.proofs.LinkRead.Laws as LinkRead-laws
 use Rattle.calls.specs.declared.Asked.{Asked}
 use Rattle.calls.proofs.Asked as Asked-type
 use Rattle.calls.proofs.Asked.Laws as Asked-laws
@@ -45,7 +48,7 @@ use Rattle.receiver.proofs.Holder as Holder-type
 use Rattle.receiver.proofs.Holder.Laws as Holder-laws
 use Rattle.receiver.proofs.Rows.{Ok}
 use Rattle.receiver.proofs.Values.{sums-ok, visited-ok, change-ok, placing-ok, header-ok, marks-ok, holder-ok}
-use Rattle.receiver.proofs.Enums.{found-ok, done-ok, swept-ok, opened-ok, asked-ok, judged-ok, named-ok}
+use Rattle.receiver.proofs.Enums.{found-ok, done-ok, swept-ok, opened-ok, asked-ok, linkread-ok, judged-ok, named-ok}
 
 pub at-ok : (i : ℕ) → i < 2 ^ 64 → found-ok (Found.At i)
 at-ok i g = Enum-laws.owes Found-type.the-type Found-laws.the-laws (Found.At i) ((refl, g), tt)
@@ -107,6 +110,13 @@ asked-header h number g = Enum-laws.owed Asked-type.the-type Asked-laws.the-laws
 
 pub asked-number : (h : Header) (number : ℕ) → asked-ok (Asked.For h number) → number < 2 ^ 16
 asked-number h number g = Enum-laws.owed Asked-type.the-type Asked-laws.the-laws (Asked.For h number) _ g .1 .0 .1
+
+-- what a virtual link's asks: its destination and number
+pub link-dest : (dest number : ℕ) → linkread-ok (LinkRead.Link dest number) → dest < 2 ^ 64
+link-dest dest number g = Enum-laws.owed LinkRead-type.the-type LinkRead-laws.the-laws (LinkRead.Link dest number) _ g .0 .1
+
+pub link-number : (dest number : ℕ) → linkread-ok (LinkRead.Link dest number) → number < 2 ^ 16
+link-number dest number g = Enum-laws.owed LinkRead-type.the-type LinkRead-laws.the-laws (LinkRead.Link dest number) _ g .1 .0 .1
 
 pub judged-refused : (n : ℕ) → n < 2 ^ 8 → judged-ok (Judged.Refused n)
 judged-refused n g = Enum-laws.owes Judged-type.the-type Judged-laws.the-laws (Judged.Refused n) ((refl, g), tt)

@@ -7,7 +7,7 @@ use native.Mathlib.Omega.{arith}
 use lib.Dec.{T}
 use lib.ListN.{length, getD}
 use borrow.Author.Tests.{le-leb, lt-ltb, le-ltb, lt-leb}
-use Rattle.calls.specs.Table.{Table, at, blank, hasKey}
+use Rattle.calls.specs.Table.{Table, at, blank, hears}
 use Rattle.calls.specs.declared.Found.the-variants.{At, Nothing}
 use Rattle.index.specs.Index.{Key, keyed, Index, places, home, named, walk, follow}
 use Rattle.receiver.specs.Seek.{nameIn, namedAt, placeAs}
@@ -37,8 +37,8 @@ module _ (ix : Index) (from k : ℕ) where
       go (suc i) q = let f : x - 1 ≡ i = omega (arith, e, q) in rw (lt-leb places k l, q) (ap Named.Slot f)
 
 -- beyond the table no slot has a key
-pub not-beyond : (dest vlan : ℕ) (t : Table) (i : ℕ) → length t ≤ i → false ≡ hasKey dest vlan (getD t i blank)
-not-beyond dest vlan t i b = sym (beyond (record { dest = dest; vlan = vlan }) t i b)
+pub not-beyond : (dest vlan : ℕ) (link : Bool) (t : Table) (i : ℕ) → length t ≤ i → false ≡ hears link dest vlan (getD t i blank)
+not-beyond dest vlan link t i b = sym (beyond (record { dest = dest; vlan = vlan; link = link }) t i b)
 
 -- What is left to follow from the k-th place on comes to what all comes to.
 abbrev pub Left-of : Index → Table → Key → (from k : ℕ) → Type 0
@@ -107,13 +107,13 @@ module _ (ix : Index) (t : Table) (key : Key) (from k i : ℕ) (f : Left-of ix t
   unfolding named
   named-here = sym (f .1) ∙ step ix t key from k (is-place ix from k i e) ∙ ap (λ (v : ℕ). named t key v (walk ix t key (places - suc k) (suc (from + k)))) (slot-here ix from k i e)
 
-  pub hit : (r : Bool) → r ≡ hasKey (key .dest) (key .vlan) (getD t i blank) → T r → At i ≡ placeAs t (follow ix t key)
+  pub hit : (r : Bool) → r ≡ hears (key .link) (key .dest) (key .vlan) (getD t i blank) → T r → At i ≡ placeAs t (follow ix t key)
   hit true said y =
       let w : follow ix t key ≡ i = named-here ∙ ap (λ (b : Bool). cond b i (walk ix t key (places - suc k) (suc (from + k)))) (sym said) in
       sym (ap (placeAs t) w ∙ place-slot ix t key from i (within key t i (sym said)))
   hit false said y = absurd y
 
-  pub missed : (r : Bool) → r ≡ hasKey (key .dest) (key .vlan) (getD t i blank) → T (not r) → Left-of ix t key from (suc k)
+  pub missed : (r : Bool) → r ≡ hears (key .link) (key .dest) (key .vlan) (getD t i blank) → T (not r) → Left-of ix t key from (suc k)
   missed true said y = absurd y
   missed false said y =
       let w : follow ix t key ≡ walk ix t key (places - suc k) (suc (from + k)) = named-here ∙ ap (λ (b : Bool). cond b i (walk ix t key (places - suc k) (suc (from + k)))) (sym said) in

@@ -1,8 +1,8 @@
 -- Order 9: the steps of an open with an index are the open, and those of a rebuild the rebuild. Assumes nothing.
 use Prim.Native.Nat.{ℕ, _≤_}
-use mathlib.Core.Path.{_≡_, refl, ap, _∙_, subst}
-use mathlib.Core.Bool.{Bool, true, false, not}
-use mathlib.Core.List.{List, []}
+use mathlib.Core.Path.{_≡_, refl, ap, sym, _∙_, subst}
+use mathlib.Core.Bool.{Bool, true, false, _&&_, _||_, not, Bool·beq}
+use mathlib.Core.List.{List, [], _∷_}
 use lib.Dec.{T, eqb, ltb}
 use lib.ListN.{length}
 use borrow.Author.Tests.{le-ltb, eq-eqb}
@@ -14,7 +14,7 @@ use Rattle.record.specs.Sizes.{slotsMost}
 use Rattle.stream.specs.Record.{settled}
 use Rattle.stream.specs.Record as records
 use Rattle.frame.specs.Frame.{destOf}
-use Rattle.calls.specs.Table.{Table, search, someSlot, found, surveyed, hasKey, isFree}
+use Rattle.calls.specs.Table.{Table, search, someSlot, found, surveyed, hasKey, ofLinks, hears, isFree}
 use Rattle.calls.specs.Calls.{opening, act, checked, open-call, Meets}
 use Rattle.calls.specs.Calls as calls
 use Rattle.calls.specs.Said.{saidOpened}
@@ -23,7 +23,8 @@ use Rattle.calls.specs.declared.Survey.{Survey}
 use Rattle.calls.specs.declared.Found.{Found}
 use Rattle.calls.specs.declared.Found.the-variants.{At}
 use Rattle.calls.specs.Steps.{isAt, seenAs, isOpened}
-use Rattle.index.specs.Index.{Key, Index, places, follow, indexed, rebuilt}
+use Rattle.calls.proofs.Search.{some-cons}
+use Rattle.index.specs.Index.{Index, places, follow, indexed, rebuilt}
 use Rattle.index.specs.Indexed.{rebuildChecks, rebuiltBy, MeetsIndexed, MeetsRebuild}
 use Rattle.receiver.specs.Seek.{placeAs, sizesUnfit}
 use Rattle.index.proofs.Kept.{indexed-is}
@@ -38,17 +39,46 @@ at-place t m = go (ltb m (length t)) refl
     go true e = rw e
     go false e = rw e
 
-pub seen-is : (ix : Index) (t : Table) (key vlan : ℕ) → indexed ix t ≡ true → (f : Found) → f ≡ placeAs t (follow ix t (record { dest = key; vlan = vlan })) → (h : Found) → h ≡ found isFree t
-    → (v : Survey) → v ≡ seenAs f h → v ≡ surveyed key vlan t
-unfolding surveyed seenAs someSlot
-seen-is ix t key vlan good f followed h freed v known =
-    let k : Key = record { dest = key; vlan = vlan } in
-    let a : isAt f ≡ ltb (search (hasKey key vlan) t) (length t) = ap isAt (followed ∙ ap (placeAs t) (indexed-is ix t .0 good .1 k)) ∙ at-place t (search (hasKey key vlan) t) in
-    known ∙ (λ j. record { taken = a j; free = freed j })
+-- A slot with the key is a virtual link or none.
+either : (dest vlan : ℕ) (s : Stream) → hasKey dest vlan s ≡ (hears false dest vlan s || hears true dest vlan s)
+unfolding hears
+either dest vlan s = go (hasKey dest vlan s) (ofLinks s)
+  where
+    go : (a b : Bool) → a ≡ ((a && Bool·beq b false) || (a && Bool·beq b true))
+    go true true = refl
+    go true false = refl
+    go false b = refl
 
-pub placed-found : (ix : Index) (t : Table) (key vlan : ℕ) → indexed ix t ≡ true → {f : Found} → f ≡ placeAs t (follow ix t (record { dest = key; vlan = vlan })) → f ≡ found (hasKey key vlan) t
-unfolding placeAs found someSlot
-placed-found ix t key vlan good {f} followed = followed ∙ ap (placeAs t) (indexed-is ix t .0 good .1 (record { dest = key; vlan = vlan }))
+some-either : (dest vlan : ℕ) (t : Table) → someSlot (hasKey dest vlan) t ≡ (someSlot (hears false dest vlan) t || someSlot (hears true dest vlan) t)
+unfolding someSlot search
+some-either dest vlan [] = refl
+some-either dest vlan (s ∷ t) =
+    some-cons (hasKey dest vlan) s t ∙ rw (either dest vlan s, some-either dest vlan t, some-cons (hears false dest vlan) s t, some-cons (hears true dest vlan) s t)
+    (go (hears false dest vlan s) (hears true dest vlan s) (someSlot (hears false dest vlan) t) (someSlot (hears true dest vlan) t))
+  where
+    go : (a b c d : Bool) → ((a || b) || (c || d)) ≡ ((a || c) || (b || d))
+    go true b c d = refl
+    go false true true d = refl
+    go false true false d = refl
+    go false false c d = refl
+
+module _ (ix : Index) (t : Table) (dest vlan : ℕ) (good : indexed ix t ≡ true) where
+  pub placed-found : (link : Bool) {f : Found} → f ≡ placeAs t (follow ix t (record { dest = dest; vlan = vlan; link = link })) → f ≡ found (hears link dest vlan) t
+  unfolding placeAs found someSlot
+  placed-found link {f} followed = followed ∙ ap (placeAs t) (indexed-is ix t .0 good .1 (record { dest = dest; vlan = vlan; link = link }))
+
+  is-some : (link : Bool) {f : Found} → f ≡ placeAs t (follow ix t (record { dest = dest; vlan = vlan; link = link })) → isAt f ≡ someSlot (hears link dest vlan) t
+  unfolding someSlot
+  is-some link followed =
+      ap isAt (followed ∙ ap (placeAs t) (indexed-is ix t .0 good .1 (record { dest = dest; vlan = vlan; link = link }))) ∙ at-place t (search (hears link dest vlan) t)
+
+  pub seen-is : (f : Found) → f ≡ placeAs t (follow ix t (record { dest = dest; vlan = vlan; link = false }))
+      → (m : Found) → m ≡ placeAs t (follow ix t (record { dest = dest; vlan = vlan; link = true })) → (h : Found) → h ≡ found isFree t
+      → (v : Survey) → v ≡ seenAs f m h → v ≡ surveyed dest vlan t
+  unfolding surveyed seenAs
+  seen-is f followed m linked h freed v known =
+      let a : (isAt f || isAt m) ≡ someSlot (hasKey dest vlan) t = rw (is-some false followed, is-some true linked) (sym (some-either dest vlan t)) in
+      known ∙ (λ j. record { taken = a j; free = freed j })
 
 -- ---- open
 module _ (t : Table) (dest : List ℕ) (vlan rule window time : ℕ) where

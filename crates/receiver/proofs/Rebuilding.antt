@@ -6,7 +6,7 @@ use native.Mathlib.Omega.{arith}
 use lib.ListN.{length, getD, set, replicate}
 use Rattle.record.specs.Sizes.{slotsMost}
 use Rattle.calls.specs.Table.{Table, at}
-use Rattle.index.specs.Index.{Index, places, home, vacant, probe, entered, built, rebuilt}
+use Rattle.index.specs.Index.{Index, places, placeOf, vacant, probe, entered, built, rebuilt}
 use Rattle.receiver.specs.Seek.{enteredAs, holderOf}
 use Rattle.receiver.specs.declared.Holder.{Holder}
 
@@ -61,7 +61,7 @@ enter-free h i ix e = go (h .used) refl
     go false q = rw q
     go true q = absurd (false≢true (rw q at e))
 
-pub enter-used : (h : Holder) (i : ℕ) (ix : Index) {from p v : ℕ} → not (h .used) ≡ false → from ≡ home (record { dest = h .dest; vlan = h .vlan }) → p ≡ probe ix places from → v ≡ suc i → set ix p v ≡ enteredAs h i ix
+pub enter-used : (h : Holder) (i : ℕ) (ix : Index) {from p v : ℕ} → not (h .used) ≡ false → from ≡ placeOf (h .dest) (h .vlan) → p ≡ probe ix places from → v ≡ suc i → set ix p v ≡ enteredAs h i ix
 unfolding enteredAs
 enter-used h i ix {from} {p} {v} e f q w = go (h .used) refl
   where

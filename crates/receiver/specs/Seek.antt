@@ -8,10 +8,10 @@ use Rattle.refusal.specs.Numbers.{TABLE, INDEX}
 use Rattle.record.specs.Sizes.{slotsMost}
 use Rattle.record.specs.Words.{if_then_else_, yes}
 use Rattle.record.specs.declared.Stream.{Stream}
-use Rattle.calls.specs.Table.{Table, at}
+use Rattle.calls.specs.Table.{Table, at, ofLinks}
 use Rattle.calls.specs.declared.Found.{Found}
 use Rattle.calls.specs.declared.Found.the-variants.{At, Nothing}
-use Rattle.index.specs.Index.{Index, places, home, everyTo, probe}
+use Rattle.index.specs.Index.{Index, places, placeOf, everyTo, probe}
 use Rattle.receiver.specs.declared.Named.{Named}
 use Rattle.receiver.specs.declared.Holder.{Holder}
 
@@ -30,7 +30,7 @@ placeAs t i = if ltb i (length t) then At i else Nothing
 
 -- the key of a slot, and whether it is in use
 abbrev pub holderOf : Stream → Holder
-holderOf s = record { dest = s .dest; vlan = s .vlan; used = yes (s .used) }
+holderOf s = record { dest = s .dest; vlan = s .vlan; link = ofLinks s; used = yes (s .used) }
 
 -- Of so many places from a place on: names of slots below i alone, and then i.
 unfoldable pub sureFrom : Index → (slot left place : ℕ) → Bool
@@ -41,7 +41,7 @@ sureFrom ix i (suc n) p =
     else sureFrom ix i n (suc p)
 
 unfoldable pub sureAt : Index → Holder → (slot : ℕ) → Bool
-sureAt ix h i = not (h .used) || sureFrom ix i places (home (record { dest = h .dest; vlan = h .vlan }))
+sureAt ix h i = not (h .used) || sureFrom ix i places (placeOf (h .dest) (h .vlan))
 
 -- the same of a slot of a table, and of all
 unfoldable pub sureIn : Index → Table → (slot : ℕ) → Bool
@@ -66,4 +66,4 @@ differs ok = if ok then 0 else INDEX
 
 -- A slot in use is entered at the first empty place from its key's own on.
 unfoldable pub enteredAs : Holder → (slot : ℕ) → Index → Index
-enteredAs h i ix = cond (h .used) (set ix (probe ix places (home (record { dest = h .dest; vlan = h .vlan }))) (suc i)) ix
+enteredAs h i ix = cond (h .used) (set ix (probe ix places (placeOf (h .dest) (h .vlan))) (suc i)) ix

@@ -11,6 +11,7 @@ pub use calls::Opened;
 use calls::Sums;
 pub use calls::Swept;
 pub use calls::Verdict;
+use frame::LinkRead;
 use record::Stream;
 use stream::Marks;
 ghost use mathlib.Core.Path.{_≡_};
@@ -23,10 +24,10 @@ ghost use Rattle.record.specs.Sizes.{slotsMost};
 ghost use Rattle.record.specs.Words.{if_then_else_};
 ghost use Rattle.stream.specs.Steps.{recordAfter, recordShort};
 ghost use Rattle.stream.specs.declared.Weighed.the-variants.{HandedUp};
-ghost use Rattle.calls.specs.Calls.{arriving, opening, closing, resetting, ticking, Meets};
+ghost use Rattle.calls.specs.Calls.{arriving, linking, opening, closing, resetting, ticking, Meets};
 ghost use Rattle.calls.specs.Said.{saidArrival, saidOpened, saidDone, saidSwept};
 ghost use Rattle.calls.specs.Steps.{judged, recordOf};
-ghost use Rattle.calls.specs.Table.{at, found, hasKey, isFree};
+ghost use Rattle.calls.specs.Table.{at, found, hears, isFree};
 ghost use Rattle.calls.specs.Ticks.{sums, tickedAll};
 ghost use Rattle.index.specs.Index.{places, follow, agreesAt, agrees, indexed, rebuilt};
 ghost use Rattle.index.specs.Indexed.{MeetsIndexed, MeetsRebuild, unfitOf};
@@ -42,19 +43,21 @@ pub enum Named {
 pub struct Holder {
     pub dest: u64,
     pub vlan: u16,
+    // Whether it is a virtual link (document 02, order 10).
+    pub link: bool,
     pub used: bool,
 }
 
-// The lowest slot in use that has the key: the search stops at it and yields its place.
-fn find(t: &[Stream], dest: u64, vlan: u16) -> Found
-    ensures { λ r. ⌜ r ≡ found (hasKey dest vlan) (now (t .entry)) ⌝ }
+// The lowest slot in use that has the key, among the virtual links or among the rest: the search stops at it and yields its place.
+fn find(t: &[Stream], dest: u64, vlan: u16, link: bool) -> Found
+    ensures { λ r. ⌜ r ≡ found (hears link dest vlan) (now (t .entry)) ⌝ }
 {
     let mut i = 0;
     loop {
         if t.len() <= i {
             break Found::Nothing;
         }
-        if calls::has_key(t[i], dest, vlan) {
+        if calls::hears(t[i], dest, vlan, link) {
             break Found::At(i);
         }
         i = i + 1;
@@ -161,18 +164,18 @@ pub fn decide_in(t: &mut [Stream], i: usize, network: u8, number: u16, room: boo
 // ---- the index
 
 // Has slot i the key?
-fn keyed_at(t: &[Stream], i: usize, dest: u64, vlan: u16) -> bool
-    ensures { λ r. ⌜ r ≡ hasKey dest vlan (at (now (t .entry)) i) ⌝ }
+fn keyed_at(t: &[Stream], i: usize, dest: u64, vlan: u16, link: bool) -> bool
+    ensures { λ r. ⌜ r ≡ hears link dest vlan (at (now (t .entry)) i) ⌝ }
 {
     if i < t.len() {
-        return calls::has_key(t[i], dest, vlan);
+        return calls::hears(t[i], dest, vlan, link);
     }
     false
 }
 
 // Following from a key: it passes over places that don't name a slot in use with the key, until an empty one or all of them.
-pub fn follow(t: &[Stream], index: &[u8], dest: u64, vlan: u16) -> Found
-    ensures { λ r. ⌜ r ≡ placeAs (now (t .entry)) (follow (now (index .entry)) (now (t .entry)) (record { dest = dest; vlan = vlan })) ⌝ }
+pub fn follow(t: &[Stream], index: &[u8], dest: u64, vlan: u16, link: bool) -> Found
+    ensures { λ r. ⌜ r ≡ placeAs (now (t .entry)) (follow (now (index .entry)) (now (t .entry)) (record { dest = dest; vlan = vlan; link = link })) ⌝ }
 {
     let from = index::home(dest, vlan);
     let mut k = 0;
@@ -180,7 +183,7 @@ pub fn follow(t: &[Stream], index: &[u8], dest: u64, vlan: u16) -> Found
         let Named::Slot(i) = places::name_at(index, from, k) else {
             break Found::Nothing;
         };
-        if keyed_at(t, i, dest, vlan) {
+        if keyed_at(t, i, dest, vlan, link) {
             break Found::At(i);
         }
         k = k + 1;
@@ -228,7 +231,7 @@ fn agrees_at(t: &[Stream], index: &[u8], i: usize) -> bool
     ensures { λ r. ⌜ r ≡ agreesAt (now (index .entry)) (now (t .entry)) i ⌝ }
 {
     let h = holder_at(t, i);
-    let f = follow(t, index, h.dest, h.vlan);
+    let f = follow(t, index, h.dest, h.vlan, h.link);
     places::agrees_by(h, f, i)
 }
 
@@ -300,7 +303,7 @@ pub fn arrival(t: &mut [Stream], network: u8, frame: &[u8], out: &mut [u8]) -> A
     let Asked::For(h, number) = q else {
         return calls::refused(q);
     };
-    let f = find(t, h.dest, h.vlan);
+    let f = find(t, h.dest, h.vlan, false);
     let Found::At(i) = f else {
         return calls::unknown();
     };
@@ -309,8 +312,25 @@ pub fn arrival(t: &mut [Stream], network: u8, frame: &[u8], out: &mut [u8]) -> A
     calls::finish(j, i, h.at, number, frame, out)
 }
 
-// The open as without the index, of a table and an index that agree: 9, 10, 11, and 10 comes by following. It fills the lowest
-// free slot, closed ones included, with a fresh record, counters zero.
+// Arrival of a virtual link (document 02, order 10): 1 to 4, 14, 6 to 8, in the same way.
+pub fn link_arrival(t: &mut [Stream], network: u8, frame: &[u8], out: &mut [u8]) -> Answer
+    ensures { λ r. ⌜ Meets (now (t .entry)) (linking network (now (frame .entry)) (now (out .entry))) (record { said = saidArrival r; table = now (t .exit); output = now (out .exit) }) ⌝ }
+{
+    let q = calls::ask_link(t.len(), network, frame);
+    let LinkRead::Link(dest, number) = q else {
+        return calls::refused_link(q);
+    };
+    let f = find(t, dest, 0, true);
+    let Found::At(i) = f else {
+        return calls::unknown();
+    };
+    let room = calls::fits_link(frame, out);
+    let j = decide_at(t, i, network, number, room);
+    calls::finish_link(j, i, number, frame, out)
+}
+
+// The open as without the index, of a table and an index that agree: 9, 10, 11, and 10 comes by following twice, since a slot of
+// either family refuses it. It fills the lowest free slot, closed ones included, with a fresh record, counters zero.
 fn open_in(
     t: &mut [Stream],
     index: &[u8],
@@ -328,9 +348,10 @@ fn open_in(
     if !stream::settled(s) {
         return Opened::Refused(refusal::SETTING);
     }
-    let f = follow(t, index, key, vlan);
+    let f = follow(t, index, key, vlan, false);
+    let l = follow(t, index, key, vlan, true);
     let e = free_slot(t);
-    let v = calls::seen(f, e);
+    let v = calls::seen(f, l, e);
     let p = calls::place(t.len(), v, s);
     store(t, p.slot, p.stream);
     p.answer

@@ -43,6 +43,7 @@ pub fn holder_of(s: Stream) -> Holder
     Holder {
         dest: s.dest,
         vlan: s.vlan,
+        link: s.rule == Stream::LINK_RULE,
         used: s.used != 0,
     }
 }
@@ -53,6 +54,7 @@ pub fn no_holder() -> Holder
     Holder {
         dest: 0,
         vlan: 0,
+        link: false,
         used: false,
     }
 }

@@ -36,3 +36,7 @@ vectorRule = 1
 
 abbrev pub matchRule : ℕ
 matchRule = 2
+
+-- ARINC 664 part 7 virtual links
+abbrev pub linkRule : ℕ
+linkRule = 3

@@ -70,8 +70,10 @@ impl Stream {
 
     pub const VLAN_MOST: u16 = 4094;
 
-    // The rules: vector recovery and match recovery.
+    // The rules: vector recovery, match recovery, and virtual links.
     pub const VECTOR_RULE: u8 = 1;
 
     pub const MATCH_RULE: u8 = 2;
+
+    pub const LINK_RULE: u8 = 3;
 }

@@ -14,7 +14,7 @@ use denote.Triple.Entry.{Args, Res}
 use Rattle.refusal.specs.Checks.{Said}
 use Rattle.frame.specs.TagCalls.{Outcome, takeTag, writeTag}
 use Rattle.calls.specs.Table.{Table}
-use Rattle.calls.specs.Calls.{Call, Answer, arriving, opening, closing, resetting, ticking, act, answer, Meets}
+use Rattle.calls.specs.Calls.{Call, Answer, arriving, linking, opening, closing, resetting, ticking, act, answer, Meets}
 use Rattle.calls.specs.Told.{tellArrival}
 use Rattle.index.specs.Index.{Index}
 use Rattle.index.specs.Indexed.{guarded, MeetsIndexed, MeetsRebuild}
@@ -34,6 +34,9 @@ use Rattle.port_prp.specs.Lines.{lineOf, tellTurned}
 use Rattle.port.proofs.nippitsun_arrival.{ended as arrivalEnded}
 use Rattle.port.proofs.nippitsun_arrival.Met as arrival
 use Rattle.port.proofs.nippitsun_arrival.Symbol.{routine as arrivalCode}
+use Rattle.port_link.proofs.nippitsun_link_arrival.{ended as linkArrivalEnded}
+use Rattle.port_link.proofs.nippitsun_link_arrival.Met as link-arrival
+use Rattle.port_link.proofs.nippitsun_link_arrival.Symbol.{routine as linkArrivalCode}
 use Rattle.port.proofs.nippitsun_open.{ended as openEnded}
 use Rattle.port.proofs.nippitsun_open.Met as open-stream
 use Rattle.port.proofs.nippitsun_open.Symbol.{routine as openCode}
@@ -120,6 +123,10 @@ pub exports-meet : ExportsMeet
 exports-meet M 𝓤 H 𝓜 𝓖 𝓡 = record {
   arrival = record {
     ensures = on-table 𝓤 H 𝓜 𝓖 𝓡 arrivalEnded arrivalCode (λ κs. tellArrival) (λ κs a. now (a .0)) (λ κs a. arriving (a .1 .0) (now (a .1 .1 .0)) (now (a .1 .1 .1 .0))) (λ κs e. now (e .0)) (λ κs e. now (e .1 .1 .1 .0)) (arrival.met 𝓤 H 𝓜 𝓖 𝓡);
+    determines = λ κs a r s e f p q. let d = determined.on-table p q in (d .0, λ i. (d .1 i, d .2 i));
+  };
+  link-arrival = record {
+    ensures = on-table 𝓤 H 𝓜 𝓖 𝓡 linkArrivalEnded linkArrivalCode (λ κs. tellArrival) (λ κs a. now (a .0)) (λ κs a. linking (a .1 .0) (now (a .1 .1 .0)) (now (a .1 .1 .1 .0))) (λ κs e. now (e .0)) (λ κs e. now (e .1 .1 .1 .0)) (link-arrival.met 𝓤 H 𝓜 𝓖 𝓡);
     determines = λ κs a r s e f p q. let d = determined.on-table p q in (d .0, λ i. (d .1 i, d .2 i));
   };
   open-stream = record {

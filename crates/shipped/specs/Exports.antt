@@ -11,7 +11,7 @@ use contract.Running.{GhostRules, Running}
 use denote.Ref.{now}
 use Rattle.frame.specs.TagCalls.{takeTag, writeTag}
 use Rattle.calls.specs.Table.{Table}
-use Rattle.calls.specs.Calls.{arriving, opening, closing, resetting, ticking, Meets}
+use Rattle.calls.specs.Calls.{arriving, linking, opening, closing, resetting, ticking, Meets}
 use Rattle.calls.specs.Told.{tellArrival}
 use Rattle.index.specs.Index.{Index}
 use Rattle.index.specs.Indexed.{MeetsIndexed, MeetsRebuild}
@@ -26,6 +26,8 @@ use Rattle.port_tick.specs.Tick.{tellSwept}
 use Rattle.port_prp.specs.Lines.{lineOf, tellTurned}
 use Rattle.port.proofs.nippitsun_arrival.{ended as arrivalEnded}
 use Rattle.port.proofs.nippitsun_arrival.Symbol.{routine as arrivalCode}
+use Rattle.port_link.proofs.nippitsun_link_arrival.{ended as linkArrivalEnded}
+use Rattle.port_link.proofs.nippitsun_link_arrival.Symbol.{routine as linkArrivalCode}
 use Rattle.port.proofs.nippitsun_open.{ended as openEnded}
 use Rattle.port.proofs.nippitsun_open.Symbol.{routine as openCode}
 use Rattle.port.proofs.nippitsun_close.{ended as closeEnded}
@@ -63,6 +65,9 @@ module _ {M : Type 1} (𝓤 : URA M) (H : Heap 𝓤) (𝓜 : Model 𝓤 H) (𝓖
   pub record Exports : Type 1 where
     pub arrival : Ships 𝓤 H 𝓜 𝓖 𝓡 arrivalEnded arrivalCode (λ κs (t, (network, (frame, (out, _)))) r (t′, (_, (_, (out′, _)))).
         PlainFields tellArrival r (λ s. Meets (now t) (arriving network (now frame) (now out)) (record { said = s; table = now t′; output = now out′ })))
+        {X = Table × List ℕ} (λ κs (t′, (_, (_, (out′, _)))). (now t′, now out′))
+    pub link-arrival : Ships 𝓤 H 𝓜 𝓖 𝓡 linkArrivalEnded linkArrivalCode (λ κs (t, (network, (frame, (out, _)))) r (t′, (_, (_, (out′, _)))).
+        PlainFields tellArrival r (λ s. Meets (now t) (linking network (now frame) (now out)) (record { said = s; table = now t′; output = now out′ })))
         {X = Table × List ℕ} (λ κs (t′, (_, (_, (out′, _)))). (now t′, now out′))
     pub open-stream : Ships 𝓤 H 𝓜 𝓖 𝓡 openEnded openCode (λ κs (t, (ix, (dest, (vlan, (rule, (window, (time, _))))))) r (t′, (ix′, _)).
         PlainFields tellOpened r (λ s. MeetsIndexed (now ix) (now t) (opening (now dest) vlan rule window time) (record { said = s; table = now t′; index = now ix′ })))

@@ -1,16 +1,16 @@
 -- The decision, a tick, a reset and an open leave a record lawful. Assumes nothing.
 use Prim.Native.Nat.{ℕ, zero, suc, _-_, _≤_, _<_, zero-le}
 use mathlib.Core.Path.{_≡_, refl, sym, _∙_}
-use mathlib.Core.Bool.{Bool, true, false, _||_}
+use mathlib.Core.Bool.{Bool, true, false, _&&_, _||_, not}
 use native.Mathlib.Omega.{arith}
-use lib.Dec.{eqb}
-use borrow.Author.Tests.{eqb-false, ne-eqb}
+use lib.Dec.{eqb, leb}
+use borrow.Author.Tests.{eqb-false, ne-eqb, le-leb}
 use Rattle.record.specs.Words.{if_then_else_, yes}
-use Rattle.record.specs.Sizes.{vectorRule}
+use Rattle.record.specs.Sizes.{vectorRule, linkRule}
 use Rattle.stream.specs.History.{History, empty, same, isEmpty, single}
-use Rattle.stream.specs.Record.{State, Counts, Stream, fresh, isFresh, settled, placed, shaped, lawful}
+use Rattle.stream.specs.Record.{State, Counts, Stream, fresh, isFresh, settled, placed, linked, shaped, lawful}
 use Rattle.stream.specs.Decisions.{Case, first, far, again, late, next, moved, caseOf, handedUp, with, stateAfter, countsAfter, decided, reset, expires, aged, ticked}
-use Rattle.stream.specs.Laws.{LawfulWithoutCounters, DecidedLawful, TickedLawful, ResetLawful, OpenedLawful}
+use Rattle.stream.specs.Laws.{Fitting, LawfulWithoutCounters, DecidedLawful, TickedLawful, ResetLawful, OpenedLawful}
 use Rattle.stream.proofs.Logic.{tests}
 use Rattle.stream.proofs.Law.{Law, Sizes, law, unlaw, size}
 use Rattle.stream.proofs.Told.{Fact, case-told}
@@ -115,9 +115,18 @@ handed {s} l anchor n history c q p = record {
   shape = p;
 }
 
-keeps-case : {s : Stream} (n : ℕ) (c : Case) (d : Counts) → Law s → Fact s c → Law (with s (stateAfter s n c) d)
+-- a history that is zero, with a number that fits
+unmarked : (s : Stream) (n : ℕ) (h : History) → isEmpty h ≡ true → Fitting s n → (isEmpty h && linked (s .rule) n) ≡ true
+unfolding linked
+unmarked s n h e f = go (eqb (s .rule) linkRule) refl
+  where
+    go : (b : Bool) → eqb (s .rule) linkRule ≡ b → (isEmpty h && (not (eqb (s .rule) linkRule) || leb n 255)) ≡ true
+    go true q = rw (e, q, le-leb n 255 (f q))
+    go false q = rw (e, q)
+
+keeps-case : {s : Stream} (n : ℕ) (c : Case) (d : Counts) → Fitting s n → Law s → Fact s c → Law (with s (stateAfter s n c) d)
 unfolding stateAfter shaped yes
-keeps-case {s} n first d l f = handed l _ _ _ d (set (eqb (s .rule) vectorRule) refl) (go (eqb (s .rule) vectorRule) refl)
+keeps-case {s} n first d m l f = handed l _ _ _ d (set (eqb (s .rule) vectorRule) refl) (go (eqb (s .rule) vectorRule) refl)
   where
     set : (b : Bool) → eqb (s .rule) vectorRule ≡ b
         → placed (s .window) (if eqb (s .rule) vectorRule then s .window - 1 else 0) (if eqb (s .rule) vectorRule then single else empty) ≡ true
@@ -127,18 +136,20 @@ keeps-case {s} n first d l f = handed l _ _ _ d (set (eqb (s .rule) vectorRule) 
     go : (b : Bool) → eqb (s .rule) vectorRule ≡ b
         → shaped (s .rule) (s .window) (handedUp s n (if eqb (s .rule) vectorRule then s .window - 1 else 0) (if eqb (s .rule) vectorRule then single else empty)) ≡ true
     go true e = rw e (rw (single-bit 0, single-within (s .window) (size l .most) (omega (arith, size l .least))))
-    go false e = rw e empty-is
-keeps-case {s} n far d l f = law-with (s .state) d l refl
-keeps-case {s} n again d l f = law-with (s .state) d l refl
-keeps-case {s} n (late k) d l (a, r, b, z) =
+    go false e = rw e (unmarked s n empty empty-is m)
+keeps-case {s} n far d m l f = law-with (s .state) d l refl
+keeps-case {s} n again d m l f = law-with (s .state) d l refl
+keeps-case {s} n (late k) d m l (a, r, b, z) =
     let p = simp tests at (rw (a, r) at (l .shape)) in
     let o : 0 < s .window = omega arith in
     handed l _ _ _ d (late-placed (s .window) (size l .most) (s .state .early) k (s .state .history) o b (l .place)) (rw r (rw (set-bit (s .window) (size l .most) k 0 (s .state .history) b (omega (arith, size l .least)), p .0, or-true (eqb 0 k), set-within (s .window) (size l .most) k (s .state .history) b (p .1))))
-keeps-case {s} n (next e) d l (a, r, f, g) =
+keeps-case {s} n (next e) d m l (a, r, f, g) =
     let w : 0 < s .window = omega (arith, size l .least) in
     handed l _ _ _ d (next-placed (s .window) (size l .most) (s .state .early) e (s .state .history) w f (l .place)) (rw r (rw (advance-zero (s .window) (size l .most) e (s .state .history) w, advance-within (s .window) (size l .most) e (s .state .history) f w)))
-keeps-case {s} n (moved b) d l (a, r) = handed l _ _ _ d (l .place) (rw r (rw (a, r) at (l .shape)))
+keeps-case {s} n (moved b) d m l (a, r) =
+    let p = simp tests at (rw (a, r) at (l .shape)) in
+    handed l _ _ _ d (l .place) (rw r (unmarked s n (s .state .history) (p .0) m))
 
 pub decided-lawful : DecidedLawful
 unfolding decided
-decided-lawful s n w l = unlaw (keeps-case n (caseOf s n) (countsAfter s w (caseOf s n)) (law l) (case-told s n .fact))
+decided-lawful s n w m l = unlaw (keeps-case n (caseOf s n) (countsAfter s w (caseOf s n)) m (law l) (case-told s n .fact))

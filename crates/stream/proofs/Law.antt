@@ -1,13 +1,13 @@
 -- What a lawful record is, part by part. Assumes nothing.
 use Prim.Native.Nat.{ℕ, _-_, _≤_}
 use mathlib.Core.Path.{_≡_, refl, sym, ap, _∙_}
-use mathlib.Core.Bool.{Bool, true, false, not, _&&_, Bool·beq, and-false}
+use mathlib.Core.Bool.{Bool, true, false, _&&_, Bool·beq, and-false, false≢true}
 use lib.Dec.{eqb, leb}
 use borrow.Author.Tests.{eq-eqb, eqb-true}
 use Rattle.record.specs.Words.{if_then_else_, yes}
-use Rattle.record.specs.Sizes.{windowLeast, windowMost, timeLeast, timeMost, vlanMost, vectorRule}
+use Rattle.record.specs.Sizes.{windowLeast, windowMost, timeLeast, timeMost, vlanMost, vectorRule, linkRule}
 use Rattle.stream.specs.History.{History, empty, isEmpty, bit, within}
-use Rattle.stream.specs.Record.{State, Stream, anchorFresh, isFresh, settled, placed, shaped, lawful}
+use Rattle.stream.specs.Record.{State, Stream, anchorFresh, isFresh, linked, settled, placed, shaped, lawful}
 use Rattle.stream.specs.Steps.{plain, right}
 use Rattle.stream.specs.Laws.{Halves}
 use Rattle.stream.proofs.Logic.{tests}
@@ -94,12 +94,17 @@ fresh-half p true y false f = and-false p
 fresh-half p false y true f = ap (λ (b : Bool). p && b) (and-false (y && true && true)) ∙ and-false p
 fresh-half p false y false f = and-false p
 
+-- a vector record is no virtual link
+vector-linked : (rule anchor : ℕ) → eqb rule vectorRule ≡ true → linked rule anchor ≡ true
+unfolding linked
+vector-linked rule anchor e = let r : rule ≡ vectorRule = eqb-true rule vectorRule e in rw r
+
 pub halves : Halves
 unfolding lawful plain right shaped isFresh
 halves s =
     go (yes (s .used) && settled s && leb (s .state .remaining) (s .time)) (eqb (s .state .remaining) 0) (yes (s .state .any))
     (eqb (s .state .anchor) anchorFresh) (eqb (s .rule) vectorRule)
-    (bit 0 (s .state .history) && within (s .window) (s .state .history))
+    (bit 0 (s .state .history) && within (s .window) (s .state .history)) (linked (s .rule) (s .state .anchor)) (vector-linked (s .rule) (s .state .anchor))
   where
     h : History
     h = s .state .history
@@ -116,15 +121,16 @@ halves s =
     f : o ≡ true → p ≡ true
     f = placed-none (s .window) (s .state .early) h
 
-    go : (k z a x v m : Bool)
-        → (k && Bool·beq z a && p && (if a then x && y && a && z && o else if v then m else y))
-        ≡ (k && Bool·beq z a && (if a then x else true) && (if a then o && y else if v then m && p else o && y))
-    go false z a x v m = refl
-    go true true false x v m = refl
-    go true false true x v m = refl
-    go true false false x true m = swap p m
-    go true false false x false m = without p o y f (placed-empty (s .window) (s .state .early) h)
-    go true true true x v m = fresh-half p o y x f
+    go : (k z a x v m i : Bool) → (v ≡ true → i ≡ true)
+        → (k && Bool·beq z a && p && (if a then x && y && a && z && o else if v then m else y && i))
+        ≡ (k && Bool·beq z a && (if a then x else i) && (if a then o && y else if v then m && p else o && y))
+    go false z a x v m i c = refl
+    go true true false x v m i c = refl
+    go true false true x v m i c = refl
+    go true false false x true m i c = rw (c refl) (swap p m)
+    go true false false x false m true c = ap (λ (b : Bool). p && b) (swap y true) ∙ without p o y f (placed-empty (s .window) (s .state .early) h)
+    go true false false x false m false c = ap (λ (b : Bool). p && b) (and-false y) ∙ and-false p
+    go true true true x v m i c = fresh-half p o y x f
 
 -- the second half of a vector record without take-any
 pub vector-right : (rule window any n : ℕ) (h : History) → any ≡ 0 → rule ≡ vectorRule
@@ -137,13 +143,17 @@ not-plain s e = halves s ∙ rw e
 
 pub plain-is : (s : Stream) → true ≡ yes (s .used) → true ≡ settled s → true ≡ leb (s .state .remaining) (s .time)
     → (z a : Bool) → eqb (s .state .remaining) 0 ≡ z → yes (s .state .any) ≡ a
-    → plain s ≡ (Bool·beq z a && (if a then eqb (s .state .anchor) anchorFresh else true))
+    → plain s ≡ (Bool·beq z a && (if a then eqb (s .state .anchor) anchorFresh else linked (s .rule) (s .state .anchor)))
 unfolding plain
 plain-is s u e r z a p q = rw (← u, ← e, ← r, p, q)
 
-pub not-left : (z : Bool) → not z ≡ (Bool·beq z false && true)
-not-left true = refl
-not-left false = refl
+pub none-left : (z b : Bool) → z ≡ true → false ≡ (Bool·beq z false && b)
+none-left true b e = refl
+none-left false b e = absurd (false≢true e)
+
+pub some-left : (z b : Bool) → z ≡ false → b ≡ (Bool·beq z false && b)
+some-left true b e = absurd (false≢true (sym e))
+some-left false b e = refl
 
 -- the settings of a record whose first half is right
 pub plain-settled : (s : Stream) → plain s ≡ true → settled s ≡ true
@@ -159,6 +169,11 @@ idle-fresh {s} l a = rw a at (l .shape)
 pub vector-within : {s : Stream} → Law s → yes (s .state .any) ≡ false → eqb (s .rule) vectorRule ≡ true → within (s .window) (s .state .history) ≡ true
 unfolding shaped
 vector-within {s} l a r = let p = simp tests at (rw (a, r) at (l .shape)) in p .1
+
+-- and the anchor of a virtual link is a byte.
+pub link-anchor : {s : Stream} → Law s → eqb (s .state .any) 0 ≡ true → s .rule ≡ linkRule → s .state .anchor ≤ 255
+unfolding shaped linked yes
+link-anchor {s} l a r = let p = simp tests at (rw (a, r) at (l .shape)) in p .1
 
 pub spent : {s : Stream} → Law s → s .state .remaining ≡ 0 → isFresh (s .state) ≡ true
 spent {s} l z = idle-fresh l (sym (l .idle) ∙ eq-eqb (s .state .remaining) 0 z)

@@ -19,6 +19,7 @@ mod AnyWords
 mod Moves
 mod Early
 mod Flags
+mod Ring
 mod Reading
 mod Sorts
 mod Ticks

@@ -1,5 +1,5 @@
 -- The code's tests on the integer d pick the case of the definitions. Assumes nothing.
-use mathlib.Core.Path.{_≡_, refl}
+use mathlib.Core.Path.{_≡_, refl, _∙_}
 use mathlib.Core.Bool.{true, false}
 use Prim.Native.Nat.{ℕ, zero, suc, _<_, _≤_}
 use native.Mathlib.Omega.{arith}
@@ -8,10 +8,10 @@ use lib.Signed.{leZ}
 use lib.Dec.{eqb}
 use borrow.Author.Tests.{lt-ltb, le-ltb, ne-eqb, leb-false, leb-true, eqb-true}
 use Rattle.record.specs.Words.{if_then_else_, yes}
-use Rattle.record.specs.Sizes.{vectorRule}
+use Rattle.record.specs.Sizes.{vectorRule, linkRule}
 use Rattle.stream.specs.History.{History, bit}
 use Rattle.stream.specs.Record.{Stream}
-use Rattle.stream.specs.Decisions.{Signed, ahead, behind, asInt, difference, first, far, again, late, next, moved, vectorCase, matchCase, caseOf}
+use Rattle.stream.specs.Decisions.{Signed, ahead, behind, asInt, difference, first, far, again, late, next, moved, vectorCase, matchCase, linkUp, linkCase, caseOf}
 use Rattle.stream.proofs.Reading.{Forward, isℤ}
 
 -- By take-any and the rule.
@@ -25,10 +25,23 @@ module _ (s : Stream) (n : ℕ) where
   unfolding caseOf
   case-vector a r = rw (a, r)
 
-  pub case-match : yes (s .state .any) ≡ false → eqb (s .rule) vectorRule ≡ false
+  pub case-match : yes (s .state .any) ≡ false → eqb (s .rule) vectorRule ≡ false → eqb (s .rule) linkRule ≡ false
       → caseOf s n ≡ matchCase (difference n (s .state .anchor))
   unfolding caseOf
-  case-match a r = rw (a, r)
+  case-match a r l = rw (a, r, l)
+
+module _ (s : Stream) (n : ℕ) where
+  pub case-link : yes (s .state .any) ≡ false → s .rule ≡ linkRule → caseOf s n ≡ linkCase (s .state .anchor) n
+  unfolding caseOf
+  case-link a r = rw (a, r)
+
+  pub link-yes : yes (s .state .any) ≡ false → s .rule ≡ linkRule → true ≡ linkUp (s .state .anchor) n → caseOf s n ≡ moved true
+  unfolding linkCase
+  link-yes a r u = case-link a r ∙ rw (← u)
+
+  pub link-no : yes (s .state .any) ≡ false → s .rule ≡ linkRule → false ≡ linkUp (s .state .anchor) n → caseOf s n ≡ again
+  unfolding linkCase
+  link-no a r u = case-link a r ∙ rw (← u)
 
 -- Vector.
 module _ (w : ℕ) (h : History) where

@@ -5,10 +5,10 @@ use mathlib.Core.Bool.{Bool, true, false}
 use lib.Dec.{eqb, ltb}
 use borrow.Author.Tests.{ltb-true}
 use Rattle.record.specs.Words.{if_then_else_, yes}
-use Rattle.record.specs.Sizes.{vectorRule}
+use Rattle.record.specs.Sizes.{vectorRule, linkRule}
 use Rattle.stream.specs.History.{bit}
 use Rattle.stream.specs.Record.{Stream}
-use Rattle.stream.specs.Decisions.{Signed, ahead, behind, Case, first, far, again, late, next, moved, vectorCase, matchCase, caseOf}
+use Rattle.stream.specs.Decisions.{Signed, ahead, behind, Case, first, far, again, late, next, moved, vectorCase, matchCase, linkUp, linkCase, caseOf}
 use Rattle.stream.proofs.Reading.{Forward, forward}
 
 abbrev pub Fact : Stream → Case → Type 0
@@ -41,8 +41,13 @@ unfolding matchCase
 match-told s (ahead d) a r = record { fact = (a, r) }
 match-told s (behind k) a r = told (eqb k 0) (λ e. record { fact = tt }) (λ e. record { fact = (a, r) })
 
+link-told : (s : Stream) (n : ℕ) → yes (s .state .any) ≡ false → eqb (s .rule) vectorRule ≡ false → Told s (linkCase (s .state .anchor) n)
+unfolding linkCase
+link-told s n a r = told (linkUp (s .state .anchor) n) (λ e. record { fact = (a, r) }) (λ e. record { fact = tt })
+
 pub case-told : (s : Stream) (n : ℕ) → Told s (caseOf s n)
 unfolding caseOf
 case-told s n =
     told (yes (s .state .any)) (λ a. record { fact = a }) (λ a.
-    told (eqb (s .rule) vectorRule) (λ r. vector-told s _ a r (forward _ _)) (λ r. match-told s _ a r))
+    told (eqb (s .rule) vectorRule) (λ r. vector-told s _ a r (forward _ _)) (λ r.
+    told (eqb (s .rule) linkRule) (λ l. link-told s n a r) (λ l. match-told s _ a r)))

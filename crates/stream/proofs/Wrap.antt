@@ -2,7 +2,7 @@
 use mathlib.Core.Path.{refl}
 use Rattle.record.specs.Words.{yes}
 use Rattle.stream.specs.History.{value, wordsOf, bitOf, same, isEmpty, bit, within, setBit, push, pushes, leaving, advance}
-use Rattle.stream.specs.Record.{isFresh, settled, placed, shaped, lawful}
+use Rattle.stream.specs.Record.{isFresh, settled, placed, linked, shaped, lawful}
 use Rattle.stream.specs.Decisions.{signed, difference, vectorCase, matchCase, caseOf, stateAfter, outOfOrder, losses, tally, countsAfter, verdict, decided, reset, expires, ticked}
 use Rattle.stream.specs.Laws.{PremisesMet}
 use Rattle.stream.specs.WrapRun.{run, alone, computed, written, WrapRun}
@@ -12,5 +12,5 @@ unfolding yes value wordsOf bitOf same isEmpty bit within setBit push pushes lea
 wrap-run = refl
 
 pub premises-met : PremisesMet
-unfolding yes value bitOf same isEmpty bit within isFresh settled placed shaped lawful signed difference vectorCase matchCase caseOf verdict
+unfolding yes value bitOf same isEmpty bit within isFresh settled placed linked shaped lawful signed difference vectorCase matchCase caseOf verdict
 premises-met = (refl, refl, refl, refl, refl, refl, refl, refl, refl)

@@ -1,10 +1,10 @@
 -- Document 01, "Decisions", with document 02, order 4: the decision on one record, and what a tick does to one. Assumes nothing.
 use Prim.Native.Nat.{ℕ, _+_, _-_, _%_, _^_}
 use mathlib.Core.Bool.{Bool, true, false, _&&_, not}
-use lib.Dec.{eqb, ltb}
+use lib.Dec.{eqb, ltb, leb}
 use lib.IntN.{ℤ, pos, negℤ}
 use Rattle.record.specs.Words.{if_then_else_, yes}
-use Rattle.record.specs.Sizes.{vectorRule}
+use Rattle.record.specs.Sizes.{vectorRule, linkRule}
 use Rattle.stream.specs.History.{History, empty, bit, single, setBit, leaving, advance}
 use Rattle.stream.specs.Record.{State, Counts, Stream, fresh, lawful}
 
@@ -32,10 +32,10 @@ asInt (behind k) = negℤ (pos k)
 pub data Case : Type 0 where
   first : Case  -- take-any
   far : Case  -- vector: d >= L or d <= -L
-  again : Case  -- vector: d = -k from -(L-1) to 0, and bit k is set; match: d = 0
+  again : Case  -- vector: d = -k from -(L-1) to 0, and bit k is set; match: d = 0; a virtual link: not handed up
   late : (k : ℕ) → Case  -- vector: d = -k from -(L-1) to 0, and bit k is clear
   next : (d : ℕ) → Case  -- vector: d from 1 to L-1
-  moved : (inOrder : Bool) → Case  -- match: any other d; in order if it is 1
+  moved : (inOrder : Bool) → Case  -- match: any other d; in order if it is 1. A virtual link: handed up, and never out of order
 
 unfoldable pub vectorCase : (window : ℕ) (history : History) → Signed → Case
 vectorCase window history (ahead d) = if ltb d window then next d else far
@@ -46,10 +46,27 @@ unfoldable pub matchCase : Signed → Case
 matchCase (ahead d) = moved (eqb d 1)
 matchCase (behind k) = if eqb k 0 then again else moved false
 
+-- A virtual link. Among 1 to 255, a ring of 255 numbers: how many steps forward from one to another.
+unfoldable pub linkSteps : (last number : ℕ) → ℕ
+linkSteps last number = (number + 255 - last) % 255
+
+-- "one to 127 steps forward from the last number handed up is handed up; 0 and 128 to 254 steps are not. A 0 is handed up unless 0
+-- was the last; after 0, the numbers 1 to 127 are."
+unfoldable pub linkUp : (last number : ℕ) → Bool
+linkUp last number =
+    if eqb number 0 then not (eqb last 0)
+    else if eqb last 0 then leb number 127
+    else leb 1 (linkSteps last number) && leb (linkSteps last number) 127
+
+-- "out of order and lost stay; all else is a duplicate"
+unfoldable pub linkCase : (last number : ℕ) → Case
+linkCase last number = if linkUp last number then moved true else again
+
 unfoldable pub caseOf : Stream → (number : ℕ) → Case
 caseOf s number =
     if yes (s .state .any) then first
     else if eqb (s .rule) vectorRule then vectorCase (s .window) (s .state .history) (difference number (s .state .anchor))
+    else if eqb (s .rule) linkRule then linkCase (s .state .anchor) number
     else matchCase (difference number (s .state .anchor))
 
 -- The verdict of each case.

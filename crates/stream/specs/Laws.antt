@@ -7,7 +7,7 @@ use lib.Dec.{eqb}
 use lib.IntN.{ℤ, pos, negℤ, _+ℤ_, _-ℤ_, _*ℤ_}
 use lib.Signed.{leZ}
 use Rattle.record.specs.Words.{if_then_else_, yes}
-use Rattle.record.specs.Sizes.{vectorRule, matchRule}
+use Rattle.record.specs.Sizes.{vectorRule, matchRule, linkRule}
 use Rattle.stream.specs.History.{empty, single}
 use Rattle.stream.specs.Record.{Counts, Stream, settled, lawful, opened}
 use Rattle.stream.specs.Decisions.{behind, difference, asInt, up, duplicate, rogue, isUp, rise, with, verdict, decided, reset, ticked}
@@ -43,10 +43,15 @@ LawfulWithoutCounters = (s : Stream) (c : Counts) → lawful (with s (s .state) 
 abbrev pub Halves : Type 0
 Halves = (s : Stream) → lawful s ≡ (plain s && right (s .rule) (s .window) (s .state .any) (s .state .early) (s .state .history))
 
+-- A number that a record's rule can have: a byte for a virtual link.
+abbrev pub Fitting : Stream → (number : ℕ) → Type 0
+Fitting s number = eqb (s .rule) linkRule ≡ true → number ≤ 255
+
 -- The decision, a tick and a reset leave a lawful record lawful. A reset mends a damaged record whose settings are within
 -- the sizes, and what an open fills a slot with is lawful under the same condition.
+
 abbrev pub DecidedLawful : Type 0
-DecidedLawful = (s : Stream) (number network : ℕ) → lawful s ≡ true → lawful (decided s number network) ≡ true
+DecidedLawful = (s : Stream) (number network : ℕ) → Fitting s number → lawful s ≡ true → lawful (decided s number network) ≡ true
 
 abbrev pub TickedLawful : Type 0
 TickedLawful = (s : Stream) → lawful s ≡ true → lawful (ticked s) ≡ true

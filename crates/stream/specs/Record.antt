@@ -7,7 +7,7 @@ pub use Rattle.record.specs.declared.State.{State}
 pub use Rattle.record.specs.declared.Counts.{Counts}
 pub use Rattle.record.specs.declared.Stream.{Stream}
 use Rattle.record.specs.Words.{if_then_else_, yes}
-use Rattle.record.specs.Sizes.{windowLeast, windowMost, timeLeast, timeMost, vlanMost, vectorRule, matchRule}
+use Rattle.record.specs.Sizes.{windowLeast, windowMost, timeLeast, timeMost, vlanMost, vectorRule, matchRule, linkRule}
 use Rattle.stream.specs.History.{History, empty, isEmpty, bit, within}
 
 -- The fresh state is anchor 65535, history zero, take-any, remaining 0, and n is 0.
@@ -23,18 +23,22 @@ isFresh t = eqb (t .anchor) anchorFresh && isEmpty (t .history) && yes (t .any) 
 -- The settings (rule, L, R, VLAN id) are within the sizes.
 unfoldable pub settled : Stream → Bool
 settled s =
-    (eqb (s .rule) vectorRule || eqb (s .rule) matchRule)
+    (eqb (s .rule) vectorRule || eqb (s .rule) matchRule || (eqb (s .rule) linkRule && eqb (s .vlan) 0))
     && (leb windowLeast (s .window) && leb (s .window) windowMost)
     && (leb timeLeast (s .time) && leb (s .time) timeMost)
     && leb (s .vlan) vlanMost
 
--- With take-any it is fresh; without it a vector record has bit 0 set and no bit at L or above, and a match record
+-- "A lawful record of rule 3 has .. without take-any, an anchor of at most 255."
+unfoldable pub linked : (rule anchor : ℕ) → Bool
+linked rule anchor = not (eqb rule linkRule) || leb anchor 255
+
+-- With take-any it is fresh; without it a vector record has bit 0 set and no bit at L or above, and a record of another rule
 -- has history zero.
 unfoldable pub shaped : (rule window : ℕ) → State → Bool
 shaped rule window t =
     if yes (t .any) then isFresh t
     else if eqb rule vectorRule then bit 0 (t .history) && within window (t .history)
-    else isEmpty (t .history)
+    else isEmpty (t .history) && linked rule (t .anchor)
 
 -- "Lawful asks for n at most L - 1 and, with n above 0, bit L - 1 - n set": the first stands there, next to the places for older
 -- numbers. (A history that is zero has no bit, so n is 0 in a match record.)

@@ -7,7 +7,7 @@ use lib.Dec.{eqb, ltb, leb}
 use Rattle.record.specs.Words.{if_then_else_, yes}
 use Rattle.record.specs.Sizes.{windowMost, vectorRule}
 use Rattle.stream.specs.History.{History, isEmpty, bit, within, marked, markedFirst}
-use Rattle.stream.specs.Record.{Stream, anchorFresh, settled, placed, lawful, damaged}
+use Rattle.stream.specs.Record.{Stream, anchorFresh, linked, settled, placed, lawful, damaged}
 use Rattle.stream.specs.Decisions.{Case, first, far, again, late, next, moved, caseOf, Verdict, up, duplicate, rogue, verdictOf, handedUp, stateAfter, outOfOrder, losses, tally, with, expires, ticked}
 pub use Rattle.stream.specs.declared.Marks.{Marks}
 pub use Rattle.stream.specs.declared.Weighed.{Weighed}
@@ -21,7 +21,7 @@ plain s =
     && settled s
     && leb (s .state .remaining) (s .time)
     && Bool·beq (eqb (s .state .remaining) 0) (yes (s .state .any))
-    && (if yes (s .state .any) then eqb (s .state .anchor) anchorFresh else true)
+    && (if yes (s .state .any) then eqb (s .state .anchor) anchorFresh else linked (s .rule) (s .state .anchor))
 
 unfoldable pub right : (rule window any n : ℕ) → History → Bool
 right rule window any n history =

@@ -14,11 +14,11 @@ use record::Counts;
 use record::State;
 use record::Stream;
 ghost use mathlib.Core.Path.{_≡_};
-ghost use mathlib.Core.Bool.{true, _||_};
+ghost use mathlib.Core.Bool.{true, _&&_, _||_};
 ghost use Prim.Native.Nat.{_≤_};
 ghost use lib.Dec.{eqb, leb};
-ghost use Rattle.record.specs.Sizes.{windowLeast, windowMost, vectorRule, matchRule};
-ghost use Rattle.stream.specs.Record.{fresh, settled, placed, lawful, opened, closed};
+ghost use Rattle.record.specs.Sizes.{windowLeast, windowMost, vectorRule, matchRule, linkRule};
+ghost use Rattle.stream.specs.Record.{fresh, settled, linked, placed, lawful, opened, closed};
 ghost use Rattle.stream.specs.Decisions.{reset};
 ghost use Rattle.stream.specs.Steps.{plain, right, weighed, recordAfter, tickOf};
 
@@ -100,20 +100,37 @@ pub fn closed(s: Stream) -> Stream
     t
 }
 
-fn is_rule(rule: u8) -> bool
-    ensures { λ r. ⌜ r ≡ (eqb rule vectorRule || eqb rule matchRule) ⌝ }
+// A rule, and with rule 3 no other VLAN id than 0.
+fn is_rule(rule: u8, vlan: u16) -> bool
+    ensures { λ r. ⌜ r ≡ (eqb rule vectorRule || eqb rule matchRule || (eqb rule linkRule && eqb vlan 0)) ⌝ }
 {
     if rule == Stream::VECTOR_RULE {
         return true;
     }
-    rule == Stream::MATCH_RULE
+    if rule == Stream::MATCH_RULE {
+        return true;
+    }
+    if rule != Stream::LINK_RULE {
+        return false;
+    }
+    vlan == 0
+}
+
+// The anchor of a virtual link is a byte.
+fn is_linked(rule: u8, anchor: u16) -> bool
+    ensures { λ r. ⌜ r ≡ linked rule anchor ⌝ }
+{
+    if rule != Stream::LINK_RULE {
+        return true;
+    }
+    anchor <= 255
 }
 
 // The settings are within the sizes. (Every u16 is at most the greatest reset time.)
 pub fn settled(s: Stream) -> bool
     ensures { λ r. ⌜ r ≡ settled s ⌝ }
 {
-    if !is_rule(s.rule) {
+    if !is_rule(s.rule, s.vlan) {
         return false;
     }
     if s.window < Stream::WINDOW_LEAST {
@@ -161,7 +178,10 @@ fn is_plain(s: Stream) -> bool
         }
         return s.state.anchor == FRESH_ANCHOR;
     }
-    s.state.remaining != 0
+    if s.state.remaining == 0 {
+        return false;
+    }
+    is_linked(s.rule, s.state.anchor)
 }
 
 // The other half: the history, and the places for older numbers, which are asked for last, since most often there are none.
@@ -212,6 +232,9 @@ pub fn weigh(s: Stream, number: u16) -> Weighed
     }
     if s.rule == Stream::VECTOR_RULE {
         return cases::by_vector(s, number);
+    }
+    if s.rule == Stream::LINK_RULE {
+        return cases::by_link(s, number);
     }
     cases::by_match(s, number)
 }

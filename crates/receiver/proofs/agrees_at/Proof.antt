@@ -118,7 +118,7 @@ module _ {M : Type 1} (𝓤 : URA M) (H : Heap 𝓤) (A : Atoms 𝓤) (W : Given
         move ! (13 ∷ 12 ∷ []) $ fsplit ! $ move ! (1 ∷ []) $ fsplit ! $ move ! (1 ∷ []) $ fsplit ! $ lose ! $ lose ! $ move ! (2 ∷ []) $ split ! $ move ! (1 ∷ []) $ split ! $ move ! (1 ∷ []) $ lose ! $ move ! (2 ∷ 0 ∷ []) $ move ! (3 ∷ 2 ∷ []) $
         move ! (0 ∷ []) $ use1 W (‵ (ShrSlice (named 0) κ R .own (record { ptr = (b, o); name = γ; now = ys }) (sliceVal (b, o) (length ys) ∷ [])) ⊛ ‵ (ShrSlice (named 0) κ R .own (record { ptr = (b, o); name = γ; now = ys }) (sliceVal (b, o) (length ys) ∷ []))) (shr-slice-copy 𝓤 H A W (named 0) κ R .twice (record { ptr = (b, o); name = γ; now = ys }) (sliceVal (b, o) (length ys) ∷ [])) $ split ! $ move ! (0 ∷ 2 ∷ []) $ join ! $ move ! (0 ∷ 1 ∷ 2 ∷ 3 ∷ []) $ calls-with {𝓤 = 𝓤} {H = H} {A = A} ! fm fn-holder-at.ended (fn-holder-at.clauses 𝓤 H A mem run) (known .holder-at′) (((κ, tt), (q, tt), tt, (record { ptr = (b, o); name = γ; now = ys }, (i, tt)), (sliceVal (b, o) (length ys) ∷ [], (vint w64 i ∷ [], tt))), tt) (qed W (‵ (ShrSlice (named 0) κ R .own (record { ptr = (b, o); name = γ; now = ys }) (sliceVal (b, o) (length ys) ∷ [])) ∷ ‵ (flft κ q) ∷ []) ∵ nothing ! $ owned ! usize (Is usize) (uint-makes 𝓤 H A W w64) i _ (refl, g-i) $ fjoin ! $ move ! (1 ∷ 0 ∷ []) $ fjoin ! $ nothing ! $ move ! (2 ∷ 0 ∷ []) $ join ! $ join ! $ frame ! $ done !) (‵ (flft κ q)) (fst∗ 𝓤 _ (emp 𝓤)) (λ ws. ‵ ftrue) (λ ws. top 𝓤 _) holder-val (λ h vs p. holder-tells h vs p) (λ (h : Holder) ws. h ≡ holderOf (getD ys i blank)) (λ h ws. id⊢ 𝓤 _) (and-then ! (load ! (from ! (stop !)) (look-cell ! 12 refl)) (and-then ! (load ! (from ! (stop !)) (look-cell ! 8 refl)) (no-more !))) (λ h ws g-h held. lose ! $ move ! (1 ∷ 0 ∷ 2 ∷ 3 ∷ []) $
         land ! (from ! (stop !)) (init ! 6 refl (holder-typed 𝓤 H A W h g-h)) $
-        move ! (0 ∷ []) $ use1 W (‵ (ShrSlice (named 0) κ R .own (record { ptr = (b, o); name = γ; now = ys }) (sliceVal (b, o) (length ys) ∷ [])) ⊛ ‵ (ShrSlice (named 0) κ R .own (record { ptr = (b, o); name = γ; now = ys }) (sliceVal (b, o) (length ys) ∷ []))) (shr-slice-copy 𝓤 H A W (named 0) κ R .twice (record { ptr = (b, o); name = γ; now = ys }) (sliceVal (b, o) (length ys) ∷ [])) $ split ! $ move ! (0 ∷ 2 ∷ []) $ join ! $ move ! (2 ∷ []) $ use1 W (‵ (ShrSlice (named 1) κ₁ u8 .own (record { ptr = (b₁, o₁); name = γ₁; now = ix }) (sliceVal (b₁, o₁) (length ix) ∷ [])) ⊛ ‵ (ShrSlice (named 1) κ₁ u8 .own (record { ptr = (b₁, o₁); name = γ₁; now = ix }) (sliceVal (b₁, o₁) (length ix) ∷ []))) (shr-slice-copy 𝓤 H A W (named 1) κ₁ u8 .twice (record { ptr = (b₁, o₁); name = γ₁; now = ix }) (sliceVal (b₁, o₁) (length ix) ∷ [])) $ split ! $ move ! (0 ∷ 4 ∷ []) $ join ! $ move ! (2 ∷ 0 ∷ []) $ join ! $ move ! (0 ∷ 2 ∷ 1 ∷ []) $ calls-with {𝓤 = 𝓤} {H = H} {A = A} ! fm fn-follow.ended (fn-follow.clauses 𝓤 H A mem run) (known .follow′) (((κ, (κ₁, tt)), (q, (q₁, tt)), tt, (record { ptr = (b, o); name = γ; now = ys }, (record { ptr = (b₁, o₁); name = γ₁; now = ix }, ((h .dest), ((h .vlan), tt)))), (sliceVal (b, o) (length ys) ∷ [], (sliceVal (b₁, o₁) (length ix) ∷ [], (vint w64 (h .dest) ∷ [], (vint w16 (h .vlan) ∷ [], tt))))), tt) (qed W ((‵ (ShrSlice (named 0) κ R .own (record { ptr = (b, o); name = γ; now = ys }) (sliceVal (b, o) (length ys) ∷ [])) ⊛ ‵ (flft κ q)) ∷ (‵ (ShrSlice (named 1) κ₁ u8 .own (record { ptr = (b₁, o₁); name = γ₁; now = ix }) (sliceVal (b₁, o₁) (length ix) ∷ [])) ⊛ ‵ (flft κ₁ q₁)) ∷ []) ∵ split ! $ move ! (2 ∷ []) $ split ! $ nothing ! $ owned ! u16 (Is u16) (uint-makes 𝓤 H A W w16) (h .vlan) _ (refl, (holder-vlan h g-h)) $ fjoin ! $ owned ! u64 (Is u64) (uint-makes 𝓤 H A W w64) (h .dest) _ (refl, (holder-dest h g-h)) $ fjoin ! $ move ! (1 ∷ 0 ∷ []) $ fjoin ! $ move ! (2 ∷ 0 ∷ []) $ fjoin ! $ nothing ! $ move ! (2 ∷ 0 ∷ []) $ join ! $ move ! (2 ∷ 0 ∷ []) $ join ! $ join ! $ frame ! $ done !) (‵ (flft κ q) ⊛ ‵ (flft κ₁ q₁)) (qed W ((‵ (flft κ q) ⊛ (‵ (flft κ₁ q₁) ⊛ ‵ ftrue)) ∷ []) ∵ split ! $ frame ! $ split ! $ move ! (1 ∷ []) $ lose ! $ done !) (λ ws. ‵ ftrue) (λ ws. top 𝓤 _) found-val (λ f vs p. found-tells f vs p) (λ (f : Found) ws. f ≡ placeAs ys (follow ix ys (record { dest = h .dest; vlan = h .vlan }))) (λ f ws. id⊢ 𝓤 _) (and-then ! (load ! (from ! (stop !)) (look-cell ! 11 refl)) (and-then ! (load ! (from ! (stop !)) (look-cell ! 9 refl)) (and-then ! (load ! (from ! (fld ! refl (stop !))) (look-in ! 5 (sub ! 0 refl (whole !)))) (and-then ! (load ! (from ! (fld ! refl (stop !))) (look-in ! 5 (sub ! 1 refl (whole !)))) (no-more !))))) (λ f ws g-f said. lose ! $ split ! $ move ! (2 ∷ 0 ∷ 3 ∷ 1 ∷ []) $
+        move ! (0 ∷ []) $ use1 W (‵ (ShrSlice (named 0) κ R .own (record { ptr = (b, o); name = γ; now = ys }) (sliceVal (b, o) (length ys) ∷ [])) ⊛ ‵ (ShrSlice (named 0) κ R .own (record { ptr = (b, o); name = γ; now = ys }) (sliceVal (b, o) (length ys) ∷ []))) (shr-slice-copy 𝓤 H A W (named 0) κ R .twice (record { ptr = (b, o); name = γ; now = ys }) (sliceVal (b, o) (length ys) ∷ [])) $ split ! $ move ! (0 ∷ 2 ∷ []) $ join ! $ move ! (2 ∷ []) $ use1 W (‵ (ShrSlice (named 1) κ₁ u8 .own (record { ptr = (b₁, o₁); name = γ₁; now = ix }) (sliceVal (b₁, o₁) (length ix) ∷ [])) ⊛ ‵ (ShrSlice (named 1) κ₁ u8 .own (record { ptr = (b₁, o₁); name = γ₁; now = ix }) (sliceVal (b₁, o₁) (length ix) ∷ []))) (shr-slice-copy 𝓤 H A W (named 1) κ₁ u8 .twice (record { ptr = (b₁, o₁); name = γ₁; now = ix }) (sliceVal (b₁, o₁) (length ix) ∷ [])) $ split ! $ move ! (0 ∷ 4 ∷ []) $ join ! $ move ! (2 ∷ 0 ∷ []) $ join ! $ move ! (0 ∷ 2 ∷ 1 ∷ []) $ calls-with {𝓤 = 𝓤} {H = H} {A = A} ! fm fn-follow.ended (fn-follow.clauses 𝓤 H A mem run) (known .follow′) (((κ, (κ₁, tt)), (q, (q₁, tt)), tt, (record { ptr = (b, o); name = γ; now = ys }, (record { ptr = (b₁, o₁); name = γ₁; now = ix }, ((h .dest), ((h .vlan), ((h .link), tt))))), (sliceVal (b, o) (length ys) ∷ [], (sliceVal (b₁, o₁) (length ix) ∷ [], (vint w64 (h .dest) ∷ [], (vint w16 (h .vlan) ∷ [], (vbool (h .link) ∷ [], tt)))))), tt) (qed W ((‵ (ShrSlice (named 0) κ R .own (record { ptr = (b, o); name = γ; now = ys }) (sliceVal (b, o) (length ys) ∷ [])) ⊛ ‵ (flft κ q)) ∷ (‵ (ShrSlice (named 1) κ₁ u8 .own (record { ptr = (b₁, o₁); name = γ₁; now = ix }) (sliceVal (b₁, o₁) (length ix) ∷ [])) ⊛ ‵ (flft κ₁ q₁)) ∷ []) ∵ split ! $ move ! (2 ∷ []) $ split ! $ nothing ! $ owned ! Boolean (Is Boolean) (bool-makes 𝓤 H A W) (h .link) _ refl $ fjoin ! $ owned ! u16 (Is u16) (uint-makes 𝓤 H A W w16) (h .vlan) _ (refl, (holder-vlan h g-h)) $ fjoin ! $ owned ! u64 (Is u64) (uint-makes 𝓤 H A W w64) (h .dest) _ (refl, (holder-dest h g-h)) $ fjoin ! $ move ! (1 ∷ 0 ∷ []) $ fjoin ! $ move ! (2 ∷ 0 ∷ []) $ fjoin ! $ nothing ! $ move ! (2 ∷ 0 ∷ []) $ join ! $ move ! (2 ∷ 0 ∷ []) $ join ! $ join ! $ frame ! $ done !) (‵ (flft κ q) ⊛ ‵ (flft κ₁ q₁)) (qed W ((‵ (flft κ q) ⊛ (‵ (flft κ₁ q₁) ⊛ ‵ ftrue)) ∷ []) ∵ split ! $ frame ! $ split ! $ move ! (1 ∷ []) $ lose ! $ done !) (λ ws. ‵ ftrue) (λ ws. top 𝓤 _) found-val (λ f vs p. found-tells f vs p) (λ (f : Found) ws. f ≡ placeAs ys (follow ix ys (record { dest = h .dest; vlan = h .vlan; link = h .link }))) (λ f ws. id⊢ 𝓤 _) (and-then ! (load ! (from ! (stop !)) (look-cell ! 11 refl)) (and-then ! (load ! (from ! (stop !)) (look-cell ! 9 refl)) (and-then ! (load ! (from ! (fld ! refl (stop !))) (look-in ! 5 (sub ! 0 refl (whole !)))) (and-then ! (load ! (from ! (fld ! refl (stop !))) (look-in ! 5 (sub ! 1 refl (whole !)))) (and-then ! (load ! (from ! (fld ! refl (stop !))) (look-in ! 5 (sub ! 2 refl (whole !)))) (no-more !)))))) (λ f ws g-f said. lose ! $ split ! $ move ! (2 ∷ 0 ∷ 3 ∷ 1 ∷ []) $
         land ! (from ! (stop !)) (init ! 4 refl (found-typed 𝓤 H A W f g-f)) $
         calls-value {𝓤 = 𝓤} {H = H} {A = A} ! fm fn-agrees-by.ended (fn-agrees-by.clauses 𝓤 H A mem run) (known .agrees-by′) ((tt, tt, tt, (h, (f, (i, tt))), (holder-val h ∷ [], (found-val f ∷ [], (vint w64 i ∷ [], tt)))), tt) (qed W [] ∵ nothing ! $ owned ! usize (Is usize) (uint-makes 𝓤 H A W w64) i _ (refl, g-i) $ fjoin ! $ found-has ! f g-f $ fjoin ! $ holder-has ! h g-h $ fjoin ! $ nothing ! $ join ! $ frame ! $ done !) vbool (λ r vs p. bool-tells r vs p) (λ (r : Bool). r ≡ agreesBy h f i) (λ r ws. id⊢ 𝓤 _) (and-then ! (load ! (from ! (stop !)) (look-cell ! 7 refl)) (and-then ! (load ! (from ! (stop !)) (look-cell ! 5 refl)) (and-then ! (load ! (from ! (stop !)) (look-cell ! 9 refl)) (no-more !)))) (λ r g-r by′.
         land ! (from ! (stop !)) (init ! 14 refl (tt, tt)) $

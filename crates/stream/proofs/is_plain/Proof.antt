@@ -4,7 +4,7 @@ use mathlib.Core.Path.{sym, refl, _∙_}
 use mathlib.Core.Bool.{true, false}
 use lib.Dec.{eqb}
 use borrow.Author.Tests.{eq-eqb, ne-eqb}
-use Rattle.stream.proofs.Law.{plain-is, not-left}
+use Rattle.stream.proofs.Law.{plain-is, none-left, some-left}
 use Rattle.stream.proofs.Flags.{flags, is-yes, is-no}
 use borrow.Author.Needs.{needs}
 use Rattle.stream.proofs.is_plain.Statement.{statement}
@@ -37,9 +37,17 @@ returns-5 c =
 
 returns-6 : tie.Need-returns-6
 returns-6 c =
-    let s = c .before .before .before .before .before .before .before .before .before .args .s in
-    not-left (eqb (s .state .remaining) 0) ∙ sym (plain-is s (search flags) (search flags) (search flags) (eqb (s .state .remaining) 0) false refl (is-no (s .state .any) (search needs)))
+    let s = c .before .before .before .before .before .before .before .before .before .before .args .s in
+    none-left (eqb (s .state .remaining) 0) _ (eq-eqb (s .state .remaining) 0 (search needs)) ∙ sym (plain-is s (search flags) (search flags) (search flags) (eqb (s .state .remaining) 0) false refl (is-no (s .state .any) (search needs)))
+
+is-linked-requires : tie.Need-is-linked-requires
+is-linked-requires c κs = search needs
+
+returns-7 : tie.Need-returns-7
+returns-7 c =
+    let s = c .before .before .before .before .before .before .before .before .before .before .before .args .s in
+    c .is-linked .ensures ∙ some-left (eqb (s .state .remaining) 0) _ (ne-eqb (s .state .remaining) 0 (search needs)) ∙ sym (plain-is s (search flags) (search flags) (search flags) (eqb (s .state .remaining) 0) false refl (is-no (s .state .any) (search needs)))
 
 pub is-plain-spec : {M : Type 1} → statement M
 is-plain-spec =
-    tie.close (tie.spec returns settled-requires returns-2 returns-3 returns-4 returns-5 returns-6)
+    tie.close (tie.spec returns settled-requires returns-2 returns-3 returns-4 returns-5 returns-6 is-linked-requires returns-7)

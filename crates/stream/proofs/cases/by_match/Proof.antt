@@ -28,7 +28,7 @@ d c = difference (start c .args .number) (start c .args .s .state .anchor)
 sorted : (c : tie.After-difference) → caseOf (start c .args .s) (start c .args .number) ≡ matchCase (d c)
 sorted c =
     let s = start c .args .s in
-    case-match s (start c .args .number) (is-no (s .state .any) (c .before .if1 .left)) (start c .pre)
+    case-match s (start c .args .number) (is-no (s .state .any) (c .before .if1 .left)) (start c .pre .0) (start c .pre .1)
 
 bits : (c : tie.After-difference) (n : ℕ) → n < 2 ^ 31 → eqb (ofZ w32 (c .difference .result)) n ≡ isℤ (asInt (d c)) n
 bits c n h =
@@ -39,7 +39,7 @@ returns : tie.Need-returns
 unfolding weighedAs stateAfter losses outOfOrder
 returns c =
     let a = c .before .before in
-    rw (case-first (a .args .s) (a .args .number) (is-yes (a .args .s .state .any) (c .if1 .taken)), a .pre)
+    rw (case-first (a .args .s) (a .args .number) (is-yes (a .args .s .state .any) (c .if1 .taken)), a .pre .0)
 
 difference-requires : tie.Need-difference-requires
 difference-requires c κs = search needs

@@ -1,0 +1,5 @@
+pub mod Links
+pub mod Runs
+pub mod LinksSeen
+pub mod SeenRuns
+pub mod Theorems

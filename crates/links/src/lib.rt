@@ -1,0 +1,1 @@
+// No code: what holds of virtual links and what does not (specs/), and why (proofs/).

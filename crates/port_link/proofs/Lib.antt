@@ -1,0 +1,2 @@
+-- What the walk names of the answer.
+mod Values
