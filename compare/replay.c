@@ -122,8 +122,9 @@ static void call(u8 kind) {
     if (kind == 1 || kind == 2) {
         nippitsun_tag_answer a = kind == 1 ? nippitsun_take_tag(frame, n, out, room) : nippitsun_write_tag(frame, n, tag, out, room);
         length = a.length, number_told = a.number, refusal = a.refusal;
-    } else if (kind == 5) {
-        nippitsun_arrival_answer a = nippitsun_arrival(table, slots, network, frame, n, out, room);
+    } else if (kind == 5 || kind == 16) {
+        nippitsun_arrival_answer a = kind == 5 ? nippitsun_arrival(table, slots, network, frame, n, out, room)
+                                               : nippitsun_link_arrival(table, slots, network, frame, n, out, room);
         slot_told = a.slot, length = a.length, number_told = a.number, verdict = a.verdict, refusal = a.refusal;
     } else if (kind == 6) {
         nippitsun_slot_answer a = nippitsun_open(table, slots, index_lent, places, dest, vlan, rule, window, time);

@@ -54,6 +54,11 @@ fn arguments(call: Call) -> Arguments {
             a.network = network;
             a.frame = frame;
         }
+        Call::LinkArrival { network, frame } => {
+            a.kind = 16;
+            a.network = network;
+            a.frame = frame;
+        }
         Call::Open(s) => {
             a.kind = 6;
             a.dest = s.destination;

@@ -20,6 +20,11 @@ pub enum Call<'a> {
         network: u8,
         frame: &'a [u8],
     },
+    /// Of a virtual link's frame.
+    LinkArrival {
+        network: u8,
+        frame: &'a [u8],
+    },
     Open(Settings),
     Close(usize),
     Reset(usize),
@@ -96,6 +101,36 @@ pub enum Answer {
     Batch(Box<BatchAnswer>),
     /// The same.
     Prp(PrpAnswer),
+}
+
+impl From<nippitsun::Arrival> for Answer {
+    fn from(a: nippitsun::Arrival) -> Answer {
+        let (slot, number) = (a.slot, a.number);
+        match a.verdict {
+            nippitsun::Verdict::HandedUp { length } => Answer::HandedUp {
+                slot,
+                number,
+                length,
+            },
+            nippitsun::Verdict::Duplicate => Answer::Duplicate { slot, number },
+            nippitsun::Verdict::Rogue => Answer::Rogue { slot, number },
+        }
+    }
+}
+
+impl From<second::Arrival> for Answer {
+    fn from(a: second::Arrival) -> Answer {
+        let (slot, number) = (a.slot, a.number);
+        match a.verdict {
+            Verdict::HandedUp { length } => Answer::HandedUp {
+                slot,
+                number,
+                length,
+            },
+            Verdict::Duplicate => Answer::Duplicate { slot, number },
+            Verdict::Rogue => Answer::Rogue { slot, number },
+        }
+    }
 }
 
 impl Answer {
@@ -236,18 +271,10 @@ impl Side for Product {
     fn call(&mut self, call: Call, [out, second_out]: [&mut [u8]; 2]) -> Answer {
         let (r, index) = (&mut self.receiver, &mut self.index);
         let answer = match call {
-            Call::Arrival { network, frame } => r.arrival(network, frame, out).map(|a| {
-                let (slot, number) = (a.slot, a.number);
-                match a.verdict {
-                    nippitsun::Verdict::HandedUp { length } => Answer::HandedUp {
-                        slot,
-                        number,
-                        length,
-                    },
-                    nippitsun::Verdict::Duplicate => Answer::Duplicate { slot, number },
-                    nippitsun::Verdict::Rogue => Answer::Rogue { slot, number },
-                }
-            }),
+            Call::Arrival { network, frame } => r.arrival(network, frame, out).map(Answer::from),
+            Call::LinkArrival { network, frame } => {
+                r.link_arrival(network, frame, out).map(Answer::from)
+            }
             Call::Open(s) => Ok(Answer::of_open(archive::open(
                 r.records_mut(),
                 index,
@@ -470,76 +497,69 @@ impl Side for Second {
 
     fn call(&mut self, call: Call, [out, second_out]: [&mut [u8]; 2]) -> Answer {
         let (table, index) = (&mut self.table, &mut self.index);
-        let answer =
-            match call {
-                Call::Arrival { network, frame } => second::arrival(table, network, frame, out)
-                    .map(|a| {
-                        let (slot, number) = (a.slot, a.number);
-                        match a.verdict {
-                            Verdict::HandedUp { length } => Answer::HandedUp {
-                                slot,
-                                number,
-                                length,
-                            },
-                            Verdict::Duplicate => Answer::Duplicate { slot, number },
-                            Verdict::Rogue => Answer::Rogue { slot, number },
-                        }
-                    }),
-                Call::Open(s) => second::open(
-                    table,
-                    index,
-                    second::Settings {
-                        destination: s.destination,
-                        vlan: s.vlan,
-                        rule: s.rule,
-                        window: s.window,
-                        reset_time: s.time,
-                    },
-                )
-                .map(Answer::Opened),
-                Call::Close(slot) => second::close(table, index, slot).map(|()| Answer::Done),
-                Call::Rebuild => second::rebuild(table, index).map(|()| Answer::Done),
-                Call::Reset(slot) => second::reset(table, slot).map(|()| Answer::Done),
-                Call::Tick => second::tick(table).map(|t| Answer::Ticked {
-                    resets: t.reset as u64,
-                    damaged: t.damaged as u64,
-                }),
-                Call::TakeTag { frame } => second::take_tag(frame, out).map(|t| Answer::Tag {
-                    number: t.number,
-                    length: t.length,
-                }),
-                Call::WriteTag { frame, number } => second::write_tag(frame, number, out)
-                    .map(|length| Answer::Tag { number, length }),
-                Call::Batch {
-                    network,
-                    count,
-                    frames,
-                } => second::batch(table, index, network, count, frames, out).map(|done| {
-                    Answer::Batch(Box::new(BatchAnswer {
-                        answers: done.answers.map(plain),
-                        frames: done.frames,
-                        refusal: 0,
-                    }))
-                }),
-                Call::Send { frame } => {
-                    self.sender
-                        .send(frame, out, second_out)
-                        .map(|sent| Answer::Tag {
-                            number: sent.number,
-                            length: sent.length,
-                        })
-                }
-                Call::ResetSender => {
-                    self.sender.reset();
-                    Ok(Answer::Done)
-                }
-                Call::FromPrp { frame, kind } => second::from_prp(frame, kind, out).map(turned),
-                Call::ToPrp {
-                    frame,
-                    network,
-                    kind,
-                } => second::to_prp(frame, network, kind, out).map(turned),
-            };
+        let answer = match call {
+            Call::Arrival { network, frame } => {
+                second::arrival(table, network, frame, out).map(Answer::from)
+            }
+            Call::LinkArrival { network, frame } => {
+                second::link_arrival(table, network, frame, out).map(Answer::from)
+            }
+            Call::Open(s) => second::open(
+                table,
+                index,
+                second::Settings {
+                    destination: s.destination,
+                    vlan: s.vlan,
+                    rule: s.rule,
+                    window: s.window,
+                    reset_time: s.time,
+                },
+            )
+            .map(Answer::Opened),
+            Call::Close(slot) => second::close(table, index, slot).map(|()| Answer::Done),
+            Call::Rebuild => second::rebuild(table, index).map(|()| Answer::Done),
+            Call::Reset(slot) => second::reset(table, slot).map(|()| Answer::Done),
+            Call::Tick => second::tick(table).map(|t| Answer::Ticked {
+                resets: t.reset as u64,
+                damaged: t.damaged as u64,
+            }),
+            Call::TakeTag { frame } => second::take_tag(frame, out).map(|t| Answer::Tag {
+                number: t.number,
+                length: t.length,
+            }),
+            Call::WriteTag { frame, number } => {
+                second::write_tag(frame, number, out).map(|length| Answer::Tag { number, length })
+            }
+            Call::Batch {
+                network,
+                count,
+                frames,
+            } => second::batch(table, index, network, count, frames, out).map(|done| {
+                Answer::Batch(Box::new(BatchAnswer {
+                    answers: done.answers.map(plain),
+                    frames: done.frames,
+                    refusal: 0,
+                }))
+            }),
+            Call::Send { frame } => {
+                self.sender
+                    .send(frame, out, second_out)
+                    .map(|sent| Answer::Tag {
+                        number: sent.number,
+                        length: sent.length,
+                    })
+            }
+            Call::ResetSender => {
+                self.sender.reset();
+                Ok(Answer::Done)
+            }
+            Call::FromPrp { frame, kind } => second::from_prp(frame, kind, out).map(turned),
+            Call::ToPrp {
+                frame,
+                network,
+                kind,
+            } => second::to_prp(frame, network, kind, out).map(turned),
+        };
         answer.unwrap_or_else(|why| Answer::Refused(why.number()))
     }
 }

@@ -3,7 +3,7 @@
 //! program is built with the fuzzer's counters in it, so its branches guide the fuzzer.
 //!
 //! An input is an event file (document 01, "Event file and the program `events`"), read as `events` reads it, so every event
-//! file is a seed. A first byte other than 1 is no end but the number of slots, and fourteen kinds are added for what `events`
+//! file is a seed. A first byte other than 1 is no end but the number of slots, and fifteen kinds are added for what `events`
 //! can't reach:
 //!
 //! | kind | body |
@@ -22,6 +22,7 @@
 //! | 251 rebuild the index | nothing more |
 //! | 252 lend another index | its places, so many as there are |
 //! | 253 change one place of the index | place 1, value 1 |
+//! | 254 arrival of a virtual link | room 2, network 1, frame |
 //!
 //! The index is carried on from call to call. At first it is of zeros, as the slots are free.
 
@@ -43,6 +44,7 @@ const TO_PRP: u8 = 250;
 const REBUILD: u8 = 251;
 const SET_INDEX: u8 = 252;
 const CHANGE_INDEX: u8 = 253;
+const LINK_ARRIVAL: u8 = 254;
 
 /// Bytes of a record.
 const RECORD: usize = std::mem::size_of::<Stream>();
@@ -127,6 +129,9 @@ fn call_of(body: &[u8]) -> Option<([usize; 2], Call<'_>)> {
         [kind::TICK] => (all, Call::Tick),
         [LESS_ROOM, r0, r1, network, ref frame @ ..] => {
             (room(r0, r1), Call::Arrival { network, frame })
+        }
+        [LINK_ARRIVAL, r0, r1, network, ref frame @ ..] => {
+            (room(r0, r1), Call::LinkArrival { network, frame })
         }
         [WRITE_TAG, r0, r1, n0, n1, ref frame @ ..] => {
             let number = two(n0, n1);

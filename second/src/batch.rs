@@ -86,6 +86,7 @@ fn one(
     let answer = rule!(
         arrival(table, network, frame, room),
         DuplicateNoRoom: wrong::duplicate_without_room(table, network, frame, room),
+        BatchHearsLinks: wrong::links_heard(table, network, frame, room),
         NoRoomIs8: if length_bytes.len() < LENGTH_BYTES {
             Err(Refusal::OutputTooSmall)
         } else {

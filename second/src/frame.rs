@@ -1,8 +1,8 @@
 //! Reading a frame's header, and putting the redundancy tag in and taking it
 //! out. Document 01: "The frame" and the last two calls of "Calls and the order
-//! of checks". Document 02: order 1.
+//! of checks". Document 02: order 1; order 10 for the frames of virtual links.
 
-use crate::wrong::{rule, vlan_behind_tag};
+use crate::wrong::{self, rule};
 use crate::{Refusal, Stream};
 
 /// Bytes of the redundancy tag.
@@ -18,6 +18,8 @@ const SOURCE: usize = 6;
 const AFTER_ADDRESSES: usize = 12;
 /// Where the VLAN tag ends, if there is one.
 const AFTER_VLAN: usize = 16;
+/// Fewest bytes of a virtual link's frame: addresses, type field and number.
+const SHORTEST_LINK: usize = 15;
 
 /// What stands before the type field.
 #[derive(Clone, Copy)]
@@ -28,13 +30,15 @@ pub(crate) struct Header {
     pub type_place: usize,
 }
 
-/// A frame that carries a redundancy tag.
+/// What an arrival reads in a frame: the key, the number, and where the bytes
+/// stand that are not handed up, and how many.
 #[derive(Clone, Copy)]
-pub(crate) struct Tagged {
+pub(crate) struct Numbered {
     pub destination: [u8; 6],
     pub vlan: u16,
     pub number: u16,
-    pub tag_place: usize,
+    pub place: usize,
+    pub width: usize,
 }
 
 /// What taking a tag out answers.
@@ -46,17 +50,23 @@ pub struct Taken {
     pub length: usize,
 }
 
+/// The frame's first six bytes. It is not short.
+fn destination(frame: &[u8]) -> [u8; 6] {
+    let mut destination = [0; 6];
+    destination.copy_from_slice(&frame[..6]);
+    destination
+}
+
 /// The 14 and 18 byte rules, and what can be read once they hold.
 pub(crate) fn header(frame: &[u8]) -> Result<Header, Refusal> {
     if frame.len() < AFTER_ADDRESSES + 2 {
         return Err(Refusal::FrameShort);
     }
-    let mut destination = [0; 6];
-    destination.copy_from_slice(&frame[..6]);
+    let destination = destination(frame);
     if frame[AFTER_ADDRESSES..AFTER_ADDRESSES + 2] != VLAN_MARK {
         return Ok(Header {
             destination,
-            vlan: rule!(0, VlanBehindTag: vlan_behind_tag(frame)),
+            vlan: rule!(0, VlanBehindTag: wrong::vlan_behind_tag(frame)),
             type_place: AFTER_ADDRESSES,
         });
     }
@@ -82,17 +92,22 @@ pub(crate) fn carries_tag(frame: &[u8], header: Header) -> bool {
     frame[place..place + 2] == TAG_MARK && rule!(true, ReservedRead: reserved == Some(&[0, 0]))
 }
 
-/// Refusal 3 of an arrival and of taking a tag out.
-pub(crate) fn check_length(frame: &[u8]) -> Result<(), Refusal> {
-    if frame.len() > rule!(Stream::MAX_FRAME, Longest1999: 1999) {
+/// Refusal 3: the frame has more bytes than this.
+fn at_most(longest: usize, frame: &[u8]) -> Result<(), Refusal> {
+    if frame.len() > longest {
         Err(Refusal::FrameTooLong)
     } else {
         Ok(())
     }
 }
 
+/// Refusal 3 of an arrival and of taking a tag out.
+pub(crate) fn check_length(frame: &[u8]) -> Result<(), Refusal> {
+    at_most(rule!(Stream::MAX_FRAME, Longest1999: 1999), frame)
+}
+
 /// Reads a frame that should carry a tag: refusals 3, 4, 5 in this order.
-pub(crate) fn read_tagged(frame: &[u8]) -> Result<Tagged, Refusal> {
+pub(crate) fn read_tagged(frame: &[u8]) -> Result<Numbered, Refusal> {
     check_length(frame)?;
     let header = header(frame)?;
     let place = header.type_place;
@@ -105,11 +120,37 @@ pub(crate) fn read_tagged(frame: &[u8]) -> Result<Tagged, Refusal> {
     }
     // The reserved bytes at place + 2 and place + 3 are not looked at.
     let number = [frame[place + 4], frame[place + 5]];
-    Ok(Tagged {
+    Ok(Numbered {
         destination: header.destination,
         vlan: header.vlan,
         number: rule!(u16::from_be_bytes(number), NumberLowFirst: u16::from_le_bytes(number)),
-        tag_place: place,
+        place,
+        width: TAG_LENGTH,
+    })
+}
+
+/// Reads a frame of a virtual link: refusals 3, 4. Its last byte is the number,
+/// and its key has VLAN id 0. Neither 8100 nor F1C1 means anything here.
+pub(crate) fn read_link(frame: &[u8]) -> Result<Numbered, Refusal> {
+    let longest = rule!(Stream::MAX_FRAME, LinkLongest1994: 1994, LinkLongest2001: 2001);
+    at_most(longest, frame)?;
+    if frame.len() < rule!(SHORTEST_LINK, LinkShortAt14: 14) {
+        let why = Refusal::FrameShort;
+        return Err(rule!(why, LinkGroupBeforeShort: wrong::group_before(why, frame, why)));
+    }
+    rule!(
+        Ok(()),
+        LinkShortWithVlan: header(frame).map(drop),
+        LinkGives5: read_tagged(frame).map(drop),
+        LinkRefusesTagged: header(frame).map_or(Ok(()), |h| wrong::refuse_tagged(frame, h))
+    )?;
+    let last = frame.len() - 1;
+    Ok(Numbered {
+        destination: destination(frame),
+        vlan: rule!(0, LinkReadsVlan: header(frame)?.vlan),
+        number: frame[last].into(),
+        place: last,
+        width: rule!(1, LinkKeepsLastByte: 0),
     })
 }
 
@@ -140,12 +181,12 @@ pub(crate) fn write_start(output: &mut [u8], bytes: &[u8]) {
     }
 }
 
-/// Writes the frame without its six tag bytes. The room was checked before.
-pub(crate) fn write_without_tag(frame: &[u8], tagged: Tagged, output: &mut [u8]) -> usize {
-    let place = tagged.tag_place;
-    let length = frame.len() - TAG_LENGTH;
+/// Writes what is handed up of the frame. The room was checked before.
+pub(crate) fn write_bare(frame: &[u8], read: Numbered, output: &mut [u8]) -> usize {
+    let place = read.place;
+    let length = frame.len() - read.width;
     output[..place].copy_from_slice(&frame[..place]);
-    output[place..length].copy_from_slice(&frame[place + TAG_LENGTH..]);
+    output[place..length].copy_from_slice(&frame[place + read.width..]);
     rule!((), ClearsRest: output[length..].fill(0));
     length
 }
@@ -187,8 +228,8 @@ pub fn write_tag(frame: &[u8], number: u16, output: &mut [u8]) -> Result<usize, 
 pub fn take_tag(frame: &[u8], output: &mut [u8]) -> Result<Taken, Refusal> {
     let tagged = read_tagged(frame)?;
     rule!(Ok(()), TakeRefusesGroup: check_source(frame))?;
-    check_room(frame.len() - TAG_LENGTH, output)?;
-    let length = write_without_tag(frame, tagged, output);
+    check_room(frame.len() - tagged.width, output)?;
+    let length = write_bare(frame, tagged, output);
     Ok(Taken {
         number: tagged.number,
         length,

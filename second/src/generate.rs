@@ -105,7 +105,12 @@ impl Walk {
     fn open(&mut self) -> Vec<u8> {
         let random = &mut self.random;
         let (destination, mut vlan) = random.pick(&KEYS);
-        let mut rule = random.pick(&[Stream::VECTOR, Stream::VECTOR, Stream::MATCH]);
+        let mut rule = any_rule(random);
+        // Few enough of them, for no arrival reaches a virtual link.
+        if random.chance(1, 8) {
+            rule = Stream::LINK;
+            vlan = 0;
+        }
         let mut window = match random.below(8) {
             0 => random.pick(&[2, 3, 63, 64]),
             1 => random.pick(&[65, 127, 128, 129, 255, 256, 257, 511, 512]),
@@ -120,10 +125,14 @@ impl Walk {
         };
         if random.chance(1, 6) {
             // One setting outside the sizes.
-            match random.below(4) {
+            match random.below(5) {
                 0 => vlan = random.pick(&[4095, 4096, 65535]),
-                1 => rule = random.pick(&[0, 3, 255]),
-                2 => window = random.pick(&[0, 1, 513, 514, 768, 65535]),
+                1 => rule = random.pick(&[0, 4, 255]),
+                2 => {
+                    rule = Stream::LINK;
+                    vlan = random.pick(&[1, 256, 4094]);
+                }
+                3 => window = random.pick(&[0, 1, 513, 514, 768, 65535]),
                 _ => reset_time = 0,
             }
         }
@@ -452,7 +461,12 @@ impl Sender {
     }
 
     fn open(&self, random: &mut Random) -> Vec<u8> {
-        let rule = random.pick(&[Stream::VECTOR, Stream::VECTOR, Stream::MATCH]);
+        let mut rule = any_rule(random);
+        // A stream that is deaf to its sender. With another VLAN id it would not
+        // be opened, and the slots would go to other senders.
+        if self.key.1 == 0 && random.chance(1, 16) {
+            rule = Stream::LINK;
+        }
         any_open(random, self.key, rule, self.window, self.reset_time)
     }
 }
@@ -465,6 +479,11 @@ fn source(random: &mut Random) -> [u8; 6] {
     }
     source[0] = source[0] & 0xFE | u8::from(random.chance(1, 16));
     source
+}
+
+/// A rule whose streams hear arrivals.
+fn any_rule(random: &mut Random) -> u8 {
+    random.pick(&[Stream::VECTOR, Stream::VECTOR, Stream::MATCH])
 }
 
 /// An open of either kind. L above 255 has no room in the first one.

@@ -1,4 +1,5 @@
-//! An index beside the table of streams. Document 02: order 9.
+//! An index beside the table of streams. Document 02: order 9; order 10 asks for
+//! the agreement of each key twice, among the slots of rule 3 and among the rest.
 //!
 //! The caller lends it as bytes, one for each of its 128 places: 0 is empty, and
 //! k + 1 names slot k. Any length and any content may be lent.
@@ -9,7 +10,7 @@
 
 use crate::table::{self, check_table};
 use crate::wrong::{self, rule};
-use crate::{Batch, Refusal, Settings, Stream};
+use crate::{Batch, Family, Refusal, Settings, Stream};
 
 /// What an empty place has.
 const EMPTY: u8 = 0;
@@ -44,9 +45,22 @@ fn is_of(stream: &Stream, destination: [u8; 6], vlan: u16) -> bool {
     stream.is_in_use() && stream.destination == destination && stream.vlan == vlan
 }
 
-/// The slot that following from this key finds. In an index that has not 128
-/// places it finds none.
-pub fn follow(table: &[Stream], index: &[u8], destination: [u8; 6], vlan: u16) -> Option<usize> {
+/// Is it one of this family too?
+fn is_one_of(stream: &Stream, destination: [u8; 6], vlan: u16, family: Family) -> bool {
+    let same = stream.family() == family;
+    is_of(stream, destination, vlan) && rule!(same, AgreementOnce: true)
+}
+
+/// The slot of this family that following from this key finds. The place where it
+/// starts is the key's, whatever the family. In an index that has not 128 places
+/// it finds none.
+pub fn follow(
+    table: &[Stream],
+    index: &[u8],
+    destination: [u8; 6],
+    vlan: u16,
+    family: Family,
+) -> Option<usize> {
     if index.len() != Stream::INDEX_PLACES {
         return None;
     }
@@ -56,10 +70,13 @@ pub fn follow(table: &[Stream], index: &[u8], destination: [u8; 6], vlan: u16) -
         let place = index[(own + step) % Stream::INDEX_PLACES];
         // An empty place ends it.
         let slot = named(place)?;
-        // A slot beyond the table, a free one and one with another key are
-        // passed over.
+        // A slot beyond the table, a free one, one with another key and one of
+        // the other family are passed over.
         match table.get(slot) {
-            Some(stream) if is_of(stream, destination, vlan) => return Some(slot),
+            Some(stream) if is_one_of(stream, destination, vlan, family) => return Some(slot),
+            Some(stream) if is_of(stream, destination, vlan) => {
+                rule!((), FollowStopsAtFamily: return None)
+            }
             Some(stream) if stream.is_in_use() => rule!((), FollowStopsAtOther: return None),
             _ => {}
         }
@@ -68,18 +85,20 @@ pub fn follow(table: &[Stream], index: &[u8], destination: [u8; 6], vlan: u16) -
 }
 
 /// Has the index 128 places, and does following from any key find the lowest
-/// slot in use with it, or none if there is none?
+/// slot in use with it, or none if there is none, in both families?
 ///
-/// Only a slot in use with the key is ever found. So a key that no slot in use
-/// has is right whatever the index holds, and the keys of the slots in use are
-/// all that has to be tried.
+/// Only a slot in use with the key and of the family is ever found. So a key that
+/// no such slot has is right whatever the index holds, and the keys of the slots
+/// in use are all that has to be tried, each in its slot's family.
 pub fn agrees(table: &[Stream], index: &[u8]) -> bool {
-    let right = |key: &Stream| {
-        let (destination, vlan) = (key.destination, key.vlan);
-        let lowest = table.iter().position(|s| is_of(s, destination, vlan));
-        follow(table, index, destination, vlan) == lowest
+    let right = |slot: &Stream| {
+        let (destination, vlan, family) = (slot.destination, slot.vlan, slot.family());
+        let mine = |s: &Stream| is_one_of(s, destination, vlan, family);
+        follow(table, index, destination, vlan, family) == table.iter().position(mine)
     };
-    index.len() == Stream::INDEX_PLACES && table.iter().filter(|s| s.is_in_use()).all(right)
+    let asked =
+        |s: &&Stream| s.is_in_use() && rule!(true, AgreementOfRest: s.family() == Family::Rest);
+    index.len() == Stream::INDEX_PLACES && table.iter().filter(asked).all(right)
 }
 
 /// Refusal 18 of open, close and the batch.
@@ -97,7 +116,8 @@ fn check_index(table: &[Stream], index: &[u8]) -> Result<(), Refusal> {
 fn write_rebuilt(table: &[Stream], index: &mut [u8]) {
     index.fill(EMPTY);
     for (slot, stream) in table.iter().enumerate() {
-        if !stream.is_in_use() {
+        let entered = rule!(true, RebuildLeavesLinks: stream.family() == Family::Rest);
+        if !stream.is_in_use() || !entered {
             continue;
         }
         let mut place = own_place(stream.destination, stream.vlan);

@@ -2,8 +2,8 @@
 //! redundancy tag, a sender, and the turn from PRP lines and to them.
 //!
 //! This is a second implementation. It was written from document 01 ("Exact
-//! rules and what to build") and orders 1 to 9 of document 02 (README.md), so that its
-//! answers can be compared with those of the first one. Section names in the
+//! rules and what to build") and orders 1 to 10 of document 02 (README.md), so that
+//! its answers can be compared with those of the first one. Section names in the
 //! comments are those of document 01.
 
 #![forbid(unsafe_code)]
@@ -26,8 +26,8 @@ pub use frame::{take_tag, write_tag, Taken};
 pub use index::{agrees, batch, close, follow, mixed, open, own_place, rebuild};
 pub use prp::{from_prp, to_prp, Turned};
 pub use sender::{Sender, Sent};
-pub use stream::Stream;
-pub use table::{arrival, reset, tick, Arrival, Settings, Ticked, Verdict};
+pub use stream::{Family, Stream};
+pub use table::{arrival, link_arrival, reset, tick, Arrival, Settings, Ticked, Verdict};
 
 /// Why a call was refused. The values are the numbers of the table in
 /// "Calls and the order of checks", and those of orders 1, 3, 7 and 9.

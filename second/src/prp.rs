@@ -5,8 +5,8 @@
 //! that can refuse it is known before a byte of the output is written.
 
 use crate::frame::{
-    carries_tag, check_length, check_room, check_source, header, read_tagged, write_start,
-    write_with_tag, write_without_tag, TAG_LENGTH,
+    carries_tag, check_length, check_room, check_source, header, read_tagged, write_bare,
+    write_start, write_with_tag, TAG_LENGTH,
 };
 use crate::table::check_network;
 use crate::wrong::{self, rule};
@@ -240,15 +240,15 @@ pub fn to_prp(
     rule!(Ok(()), ToPrpRefusesGroup: check_source(frame), ToPrpRoomBeforeBare: room)?;
 
     let mut bare = vec![0; frame.len() - TAG_LENGTH];
-    write_without_tag(frame, tagged, &mut bare);
+    write_bare(frame, tagged, &mut bare);
     // Where the type field is without the tag: with F1C1 at 12 and 8100 behind
     // the tag it is at 16, which a frame may be too short for.
     let type_place = match header(&bare) {
         Ok(header) => {
             rule!(Ok(()), ToPrpRefusesTagged: wrong::refuse_tagged(&bare, header))?;
-            rule!(header.type_place, ToPrpSizeFromTag: tagged.tag_place)
+            rule!(header.type_place, ToPrpSizeFromTag: tagged.place)
         }
-        Err(short) => rule!(return Err(short), ToPrpBareUnchecked: tagged.tag_place),
+        Err(short) => rule!(return Err(short), ToPrpBareUnchecked: tagged.place),
     };
     let size = kind.fitting_size(bare.len() + kind.width(), type_place);
     let trailer = kind.written(tagged.number, network, size);

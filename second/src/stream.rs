@@ -1,8 +1,8 @@
 //! The stream record, when it is lawful, and the decision on one record.
 //! Document 01: "Sizes", "The stream record", "Decisions". The size of a batch
 //! is that of order 3 of document 02; what is no loss is order 4's; the largest
-//! window and the history's words are order 5's, and the places of an index
-//! order 9's.
+//! window and the history's words are order 5's, the places of an index order
+//! 9's, and rule 3 is order 10's.
 
 use crate::history::{self, History};
 use crate::wrong::{self, rule};
@@ -20,13 +20,14 @@ pub struct Stream {
     pub destination: [u8; 6],
     /// Second half of the key.
     pub vlan: u16,
-    /// 1 vector, 2 match.
+    /// 1 vector, 2 match, 3 virtual link.
     pub rule: u8,
     /// The window L.
     pub window: u16,
     /// The reset time R, in ticks.
     pub reset_time: u16,
-    /// The number that the differences are taken from.
+    /// The number that the differences are taken from; in a virtual link the
+    /// last one handed up.
     pub anchor: u16,
     /// Bit k stands for the number anchor - k. It is bit k mod 64 of word
     /// k / 64.
@@ -63,9 +64,39 @@ pub(crate) enum Decision {
     Rogue,
 }
 
+/// The slots that one kind of arrival call looks at (order 10).
+#[derive(Clone, Copy, Debug, PartialEq, Eq)]
+pub enum Family {
+    /// Those of rule 3: virtual links.
+    Links,
+    /// All others, those with no known rule among them.
+    Rest,
+}
+
 /// Counters wrap to zero after 2^64 - 1 ("Sizes").
 fn rise(counter: &mut u64) {
     *counter = counter.wrapping_add(1);
+}
+
+/// How many steps forward lead from one number of the ring 1 to 255 to another:
+/// behind 255 stands 1.
+pub(crate) fn steps(last: u16, number: u16) -> u16 {
+    let ring = i32::from(rule!(Stream::LINK_RING, LinkRingOf256: Stream::LINK_RING + 1));
+    (i32::from(number) - i32::from(last)).rem_euclid(ring) as u16
+}
+
+/// Is a number of a virtual link handed up behind this last one?
+fn is_ahead(last: u16, number: u16) -> bool {
+    let most = rule!(Stream::LINK_STEPS, LinkTakes128: 128, LinkLeaves127: 126);
+    let on_ring = |number| (1..=most).contains(&steps(last, number));
+    match (last, number) {
+        (0, 0) => rule!(false, LinkZeroAfterZero: true),
+        // A sender sends 0 only after its restart, so it is new whatever came
+        // before.
+        (_, 0) => rule!(true, LinkZeroOnRing: on_ring(Stream::LINK_RING)),
+        (0, _) => number <= rule!(most, LinkAfterZeroAll: Stream::LINK_RING),
+        _ => on_ring(number),
+    }
 }
 
 impl Stream {
@@ -94,6 +125,12 @@ impl Stream {
     pub const VECTOR: u8 = 1;
     /// The match rule.
     pub const MATCH: u8 = 2;
+    /// The rule of a virtual link.
+    pub const LINK: u8 = 3;
+    /// Highest number of a virtual link. From 1 to this they stand in a ring.
+    pub const LINK_RING: u16 = 255;
+    /// Most steps forward on that ring that are handed up.
+    pub const LINK_STEPS: u16 = 127;
     /// The anchor of the fresh state.
     pub const FRESH_ANCHOR: u16 = 65535;
 
@@ -129,6 +166,15 @@ impl Stream {
         self.take_any != 0
     }
 
+    /// Which arrival calls look at the slot?
+    pub fn family(&self) -> Family {
+        if self.rule == Stream::LINK {
+            Family::Links
+        } else {
+            Family::Rest
+        }
+    }
+
     /// Is this slot in use with this key?
     pub fn has_key(&self, destination: [u8; 6], vlan: u16) -> bool {
         rule!(self.is_in_use(), FindsClosed: true)
@@ -140,17 +186,31 @@ impl Stream {
             && rule!(self.vlan == vlan, KeyWithoutVlan: true)
     }
 
-    /// Are rule, L, R and VLAN id within the sizes?
+    /// Are rule, L, R and VLAN id within the sizes? L is asked of a virtual link
+    /// too, though nothing there uses it.
     pub fn settings_in_range(&self) -> bool {
-        (self.rule == Stream::VECTOR || self.rule == Stream::MATCH)
-            && self.window >= Stream::MIN_WINDOW
-            && self.window <= rule!(Stream::MAX_WINDOW, Most64: 64, Most511: 511)
+        let (least, most) = (Stream::MIN_WINDOW, Stream::MAX_WINDOW);
+        let least = rule!(least, LinkWiderL: wrong::if_link(*self, 1, least));
+        let most = rule!(
+            most,
+            Most64: 64,
+            Most511: 511,
+            LinkWiderL: wrong::if_link(*self, 513, most)
+        );
+        let vlan = self.vlan <= rule!(Stream::MAX_VLAN, Opens4095: 4095);
+        let by_rule = match self.rule {
+            Stream::VECTOR | Stream::MATCH => vlan,
+            Stream::LINK => rule!(self.vlan == 0, LinkAnyVlan: vlan, LinkUnknown: false),
+            _ => false,
+        };
+        by_rule
+            && (least..=most).contains(&self.window)
             && self.reset_time >= Stream::MIN_RESET_TIME
-            && self.vlan <= rule!(Stream::MAX_VLAN, Opens4095: 4095)
     }
 
     /// Is this record, taken as one in use, lawful? "The stream record" has
-    /// the rules in the same order; order 4 adds the last one.
+    /// the rules in the same order; order 10 adds that of a virtual link, and
+    /// order 4 the last one.
     pub fn is_lawful(&self) -> bool {
         if !self.settings_in_range() || self.remaining > self.reset_time {
             return false;
@@ -166,11 +226,15 @@ impl Stream {
         };
         let shaped = if self.takes_any() {
             // Remaining is already known to be 0 here.
-            self.anchor == Stream::FRESH_ANCHOR && empty()
+            let anchor = self.anchor == Stream::FRESH_ANCHOR;
+            rule!(anchor, FreshLinkDamaged: anchor && self.rule != Stream::LINK) && empty()
         } else if self.rule == Stream::VECTOR {
             // With L = 512 there is no place at L or above.
             let outside = rule!(self.places(), BitAtLLawful: self.places() + 1);
             history::is_marked(&self.history, 0) && !history::marked_from(&self.history, outside)
+        } else if self.rule == Stream::LINK {
+            let most = rule!(Stream::LINK_RING, LinkAnyAnchor: u16::MAX, LinkAnchor256: 256);
+            self.anchor <= most && rule!(empty(), LinkAnyHistory: true)
         } else {
             empty()
         };
@@ -179,13 +243,14 @@ impl Stream {
 
     /// Does n fit to the window and the history? While it is above 0, the first
     /// number handed up still stands at place L - 1 - n. A history of zero, as
-    /// fresh and match records have, has it nowhere, so n is 0 there. Only for
-    /// records with L in range.
+    /// all but running vector records have, has it nowhere, so n is 0 there. Only
+    /// for records with L in range.
     fn early_fits(&self) -> bool {
         let some = self.early > 0;
         if !rule!(
             some,
-            EarlyInMatch: some && self.rule == Stream::VECTOR,
+            EarlyInMatch: some && self.rule != Stream::MATCH,
+            EarlyInLink: some && self.rule != Stream::LINK,
             EarlyInFresh: some && !self.takes_any()
         ) {
             return true;
@@ -233,18 +298,27 @@ impl Stream {
         let network = usize::from(second_network);
         rise(&mut self.arrivals[rule!(network, NetworkZeroCounts: 0)]);
         let any = self.takes_any();
-        let decision = if rule!(false, FreshKnows65535: any && number == self.anchor) {
+        let known = rule!(
+            false,
+            FreshKnows65535: number == self.anchor,
+            LinkFreshAsZero: self.rule == Stream::LINK && number > Stream::LINK_STEPS
+        );
+        let decision = if any && known {
             Decision::Duplicate
         } else if any {
             self.take_any = 0;
             self.anchor = number;
-            // A match record keeps its history zero, and n with it.
+            // The other rules keep the history zero, and n with it.
             let vector = self.rule == Stream::VECTOR;
             self.history = history::EMPTY;
-            if vector {
+            if rule!(vector, LinkMarksHistory: self.rule != Stream::MATCH) {
                 history::mark(&mut self.history, 0);
             }
-            if rule!(vector, MatchHasEarly: true) {
+            if rule!(
+                vector,
+                MatchHasEarly: self.rule != Stream::LINK,
+                LinkHasEarly: self.rule != Stream::MATCH
+            ) {
                 self.early = rule!(
                     self.most_early(),
                     EarlyIsL: self.window,
@@ -252,6 +326,8 @@ impl Stream {
                 );
             }
             Decision::HandedUp
+        } else if self.rule == Stream::LINK {
+            self.decide_link(number)
         } else {
             // Modulo 65536, then read as signed. Comparing the numbers as
             // plain numbers is one of the "Errors that look right".
@@ -381,6 +457,27 @@ impl Stream {
         if d != 1 {
             rise(&mut self.out_of_order);
         }
+        self.anchor = number;
+        Decision::HandedUp
+    }
+
+    /// All that is not handed up is a duplicate; out of order and lost stay.
+    fn decide_link(&mut self, number: u16) -> Decision {
+        let last = self.anchor;
+        if !is_ahead(last, number) {
+            rule!((), LinkDuplicateMoves: self.anchor = number);
+            return rule!(
+                Decision::Duplicate,
+                LinkHasRogue: if number == last { Decision::Duplicate } else { Decision::Rogue }
+            );
+        }
+        rule!(
+            (),
+            LinkCountsDisorder: if wrong::passed_over(last, number) > 0 {
+                rise(&mut self.out_of_order);
+            },
+            LinkCountsLost: self.lost = self.lost.wrapping_add(wrong::passed_over(last, number))
+        );
         self.anchor = number;
         Decision::HandedUp
     }

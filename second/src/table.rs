@@ -1,12 +1,12 @@
 //! The calls on a table of streams. Document 01: "Calls and the order of
-//! checks". Document 02: orders 1 and 5. Open and close stand here as without the
-//! index; the public ones are those of order 9 (`index`).
+//! checks". Document 02: orders 1, 5 and 10. Open and close stand here as without
+//! the index; the public ones are those of order 9 (`index`).
 //!
 //! Each call makes all its checks before it changes anything, so a refusal
 //! leaves every byte as it was.
 
-use crate::frame;
-use crate::stream::Decision;
+use crate::frame::{self, Numbered};
+use crate::stream::{Decision, Family};
 use crate::wrong::{self, rule};
 use crate::{Refusal, Stream};
 
@@ -15,7 +15,7 @@ use crate::{Refusal, Stream};
 pub struct Arrival {
     /// The slot of the stream.
     pub slot: usize,
-    /// The number in the tag.
+    /// The number in the tag, or in a virtual link's last byte.
     pub number: u16,
     /// What became of the frame.
     pub verdict: Verdict,
@@ -24,12 +24,14 @@ pub struct Arrival {
 /// The three verdicts.
 #[derive(Clone, Copy, Debug, PartialEq, Eq)]
 pub enum Verdict {
-    /// The frame without its tag stands in the output, this many bytes long.
+    /// The frame without its tag, or without its last byte, stands in the
+    /// output, this many bytes long.
     HandedUp {
         /// Bytes written to the output.
         length: usize,
     },
-    /// The number came before. Nothing was written.
+    /// The number came before, or is not ahead in a virtual link. Nothing was
+    /// written.
     Duplicate,
     /// The number is outside the window. Nothing was written.
     Rogue,
@@ -49,9 +51,9 @@ pub struct Ticked {
 pub struct Settings {
     /// First half of the key.
     pub destination: [u8; 6],
-    /// Second half of the key, 0 to 4094.
+    /// Second half of the key, 0 to 4094, and 0 alone for a virtual link.
     pub vlan: u16,
-    /// 1 vector, 2 match.
+    /// 1 vector, 2 match, 3 virtual link.
     pub rule: u8,
     /// L, 2 to 512.
     pub window: u16,
@@ -77,9 +79,15 @@ pub(crate) fn check_network(network: u8) -> Result<(), Refusal> {
     }
 }
 
-/// The lowest slot in use with the key, damaged or not.
-fn find(table: &[Stream], destination: [u8; 6], vlan: u16) -> Option<usize> {
-    let mine = |s: &Stream| s.has_key(destination, vlan);
+/// The lowest slot in use with the key, damaged or not, of those that the call
+/// looks at.
+fn find(
+    table: &[Stream],
+    destination: [u8; 6],
+    vlan: u16,
+    looks_at: impl Fn(&Stream) -> bool,
+) -> Option<usize> {
+    let mine = |s: &Stream| looks_at(s) && s.has_key(destination, vlan);
     rule!(
         table.iter().position(mine),
         SearchEndsAtVlan: wrong::until_other_vlan(table, vlan).iter().position(mine),
@@ -95,11 +103,8 @@ fn slot_in_use(table: &mut [Stream], slot: usize) -> Result<&mut Stream, Refusal
     }
 }
 
-/// A frame came in on a network. Refusals 1 to 5, 14, 6, 7, 8 in this order.
-///
-/// The room in the output is checked before the number is marked, for every
-/// verdict. Otherwise a frame could be claimed and lost, and its twin would be
-/// a duplicate.
+/// A frame came in on a network. Refusals 1 to 5, 14, 6, 7, 8 in this order. It
+/// looks at no slot of rule 3.
 pub fn arrival(
     table: &mut [Stream],
     network: u8,
@@ -109,36 +114,102 @@ pub fn arrival(
     check_table(table)?;
     rule!(Ok(()), LengthBeforeNetwork: frame::check_length(frame))?;
     check_network(network)?;
-    let tagged = frame::read_tagged(frame)
-        .map_err(|why| rule!(why, GroupBeforeNoTag: wrong::group_before_no_tag(frame, why)))?;
+    let tagged = frame::read_tagged(frame).map_err(
+        |why| rule!(why, GroupBeforeNoTag: wrong::group_before(Refusal::NoTag, frame, why)),
+    )?;
     let source = frame::check_source(frame);
     rule!(source, StreamBeforeGroup: Ok(()))?;
-    let slot = find(table, tagged.destination, tagged.vlan).ok_or(Refusal::NoStream)?;
+    // A slot whose rule is none is looked at too, and found damaged.
+    let looks_at = |s: &Stream| {
+        rule!(
+            s.family() == Family::Rest,
+            ArrivalHearsLinks: true,
+            ArrivalHearsTwoRules: s.rule == Stream::VECTOR || s.rule == Stream::MATCH
+        )
+    };
+    let slot = find(table, tagged.destination, tagged.vlan, looks_at).ok_or(Refusal::NoStream)?;
     rule!(Ok(()), StreamBeforeGroup: source)?;
+    decided(table, slot, network, frame, tagged, output)
+}
+
+/// A frame of a virtual link came in on a network. Refusals 1, 2, 3, 4, 14, 6, 7,
+/// 8 in this order. It looks at slots of rule 3 alone.
+pub fn link_arrival(
+    table: &mut [Stream],
+    network: u8,
+    frame: &[u8],
+    output: &mut [u8],
+) -> Result<Arrival, Refusal> {
+    check_table(table)?;
+    rule!(Ok(()), LinkLengthBeforeNetwork: frame::check_length(frame))?;
+    check_network(network)?;
+    let link = frame::read_link(frame)?;
+    let source = frame::check_source(frame);
+    rule!(source, LinkTakesGroup: Ok(()), LinkStreamBeforeGroup: Ok(()))?;
+    let looks_at = |s: &Stream| {
+        let mine = s.family() == Family::Links;
+        rule!(mine, LinkHearsOthers: true, LinkPassesDamage: mine && s.is_lawful())
+    };
+    let slot = rule!(
+        find(table, link.destination, link.vlan, looks_at),
+        LinkOfAnyVlan: wrong::link_to(table, link.destination)
+    )
+    .ok_or(Refusal::NoStream)?;
+    rule!(Ok(()), LinkStreamBeforeGroup: source)?;
+    decided(table, slot, network, frame, link, output)
+}
+
+/// What is left of an arrival of either kind once its slot is found: refusals 7
+/// and 8, then the verdict and its marking.
+///
+/// The room in the output is checked before the number is marked, for every
+/// verdict. Otherwise a frame could be claimed and lost, and its twin would be
+/// a duplicate.
+fn decided(
+    table: &mut [Stream],
+    slot: usize,
+    network: u8,
+    frame: &[u8],
+    read: Numbered,
+    output: &mut [u8],
+) -> Result<Arrival, Refusal> {
     let stream = table[slot];
-    let room = frame::check_room(frame.len() - frame::TAG_LENGTH, output);
-    rule!(Ok(()), RoomBeforeDamage: room)?;
+    let length = frame.len() - read.width;
+    let needed = rule!(length, LinkNeedsWhole: wrong::if_link(stream, frame.len(), length));
+    let room = frame::check_room(needed, output);
+    rule!(
+        Ok(()),
+        RoomBeforeDamage: room,
+        LinkRoomBeforeDamage: wrong::if_link(stream, room, Ok(()))
+    )?;
     if !stream.is_lawful() {
         return Err(Refusal::Damaged);
     }
-    rule!(room, MarksBeforeRoom: Ok(()))?;
+    let (after, decision) = stream.decide(network == 1, read.number);
+    rule!(
+        room,
+        MarksBeforeRoom: Ok(()),
+        LinkDuplicateNoRoom: match decision {
+            Decision::Duplicate => wrong::if_link(stream, Ok(()), room),
+            _ => room,
+        }
+    )?;
 
-    let (after, decision) = stream.decide(network == 1, tagged.number);
     table[slot] = after;
     rule!(Ok(()), MarksBeforeRoom: room)?;
     let verdict = match decision {
         Decision::HandedUp => Verdict::HandedUp {
-            length: frame::write_without_tag(frame, tagged, output),
+            length: frame::write_bare(frame, read, output),
         },
         Decision::Duplicate => {
-            rule!(0, DuplicateWrites: frame::write_without_tag(frame, tagged, output));
+            rule!(0, DuplicateWrites: frame::write_bare(frame, read, output));
             Verdict::Duplicate
         }
         Decision::Rogue => Verdict::Rogue,
     };
     Ok(Arrival {
         slot,
-        number: tagged.number,
+        number: read.number,
         verdict,
     })
 }
@@ -157,7 +228,9 @@ pub(crate) fn open(table: &mut [Stream], settings: Settings) -> Result<usize, Re
         reset_time: settings.reset_time,
         ..Stream::FREE
     };
-    let key = match find(table, settings.destination, settings.vlan) {
+    // It looks at all slots: a key is one stream's, whatever its rule.
+    let looks_at = |s: &Stream| rule!(true, OpenLooksAtOwn: s.family() == stream.family());
+    let key = match find(table, settings.destination, settings.vlan, looks_at) {
         Some(_) => Err(Refusal::KeyInUse),
         None => Ok(()),
     };
@@ -219,6 +292,8 @@ pub fn tick(table: &mut [Stream]) -> Result<Ticked, Refusal> {
         if !stream.is_lawful() {
             ticked.damaged += 1;
             rule!((), TickAgesDamage: stream.remaining = stream.remaining.saturating_sub(1));
+        } else if rule!(false, LinkNeverAges: stream.family() == Family::Links) {
+            continue;
         } else if stream.remaining == 1 {
             stream.restart();
             ticked.reset += 1;

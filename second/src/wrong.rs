@@ -1,7 +1,7 @@
 //! Wrong variants of this program, each with one slip. A comparison with
 //! another program is only worth something if it finds them, so it is tried
 //! against each. Document 01 names some under "Errors that look right"; the
-//! others are slips that its text, or that of orders 1 to 9 of document 02, makes
+//! others are slips that its text, or that of orders 1 to 10 of document 02, makes
 //! easy.
 //!
 //! No variant is set at first. In the code a slip stands behind the right rule:
@@ -14,7 +14,8 @@ use crate::batch::LENGTH_BYTES;
 use crate::frame::{carries_tag, check_source, Header, TAG_MARK, VLAN_MARK};
 use crate::history::History;
 use crate::prp::Trailer;
-use crate::{arrival, table, Arrival, Refusal, Settings, Stream, Verdict};
+use crate::stream::steps;
+use crate::{arrival, table, Arrival, Family, Refusal, Settings, Stream, Verdict};
 
 /// Where the slip can be seen.
 #[derive(Clone, Copy, Debug, PartialEq, Eq)]
@@ -24,9 +25,10 @@ pub enum Seen {
     /// Only where calls are compared: the slip is in a counter, an output byte,
     /// the treatment of a damaged record or of a small output, in the tag
     /// writer, in taking a tag out, in a batch, in a send, in a turn from PRP or
-    /// to PRP, or in the index. `events` shows none of these. As to its own
-    /// index: it is always the rebuilt one, no two slots have one key, and no two
-    /// keys of `generate` share a place.
+    /// to PRP, in the index, or in what becomes of a virtual link's frames.
+    /// `events` shows none of these. As to its own index: it is always the rebuilt
+    /// one, no two slots have one key, and no two keys of `generate` share a place.
+    /// As to virtual links: they can be opened, and no frame reaches them.
     CallsOnly,
 }
 
@@ -266,6 +268,54 @@ variants! {
     SettingsBeforeIndex, CallsOnly, "in open refusal 9 comes before 18";
     RefusedOpenRebuilds, CallsOnly, "an open refused with 9, 10 or 11 rebuilds the index";
     BatchIndexUnchecked, CallsOnly, "a batch takes any index and never gives 18";
+    LinkUnknown, Files, "rule 3 is outside the sizes";
+    LinkAnyVlan, Files, "rule 3 goes with every VLAN id";
+    LinkWiderL, Files, "with rule 3 L may be 1 and 513 too";
+    FreshLinkDamaged, Files, "a fresh record of rule 3 is damaged, its anchor being above 255";
+    ArrivalHearsLinks, Files, "an arrival looks at slots of rule 3 too";
+    OpenLooksAtOwn, Files, "open's 10 looks at rule 3 alone, or at the rest alone, as the new stream is";
+    RebuildLeavesLinks, Files, "no slot of rule 3 is entered in the index";
+    LinkRingOf256, CallsOnly, "the steps of a link go round a ring of 256";
+    LinkZeroAfterZero, CallsOnly, "a link hands up a 0 behind a 0";
+    LinkZeroOnRing, CallsOnly, "a link hands up a 0 only where 255 would be";
+    LinkTakes128, CallsOnly, "a link hands up 128 steps forward";
+    LinkLeaves127, CallsOnly, "127 steps forward are a duplicate in a link";
+    LinkAfterZeroAll, CallsOnly, "a link hands up every number from 1 on behind a 0";
+    LinkFreshAsZero, CallsOnly, "a fresh link hands up 0 to 127 alone";
+    LinkDuplicateMoves, CallsOnly, "a link counts its steps from the last number that came";
+    LinkHasRogue, CallsOnly, "a link finds 128 to 254 steps a rogue";
+    LinkCountsDisorder, CallsOnly, "more than one step forward is out of order in a link";
+    LinkCountsLost, CallsOnly, "the numbers that a link's steps pass over are lost";
+    LinkMarksHistory, CallsOnly, "the first number of a link sets bit 0 of the history";
+    LinkHasEarly, CallsOnly, "n is L - 1 when take-any ends in a link too";
+    LinkNeverAges, CallsOnly, "a tick leaves lawful records of rule 3";
+    LinkAnyAnchor, CallsOnly, "any anchor is lawful in a link without take-any";
+    LinkAnchor256, CallsOnly, "anchor 256 is lawful in a link without take-any";
+    LinkAnyHistory, CallsOnly, "any history is lawful in a link without take-any";
+    EarlyInLink, CallsOnly, "any n is lawful in a link";
+    LinkLongest1994, CallsOnly, "a link's frame above 1994 bytes is too long";
+    LinkLongest2001, CallsOnly, "a link's frame of 2001 bytes is taken, as 2000 are handed up";
+    LinkShortAt14, CallsOnly, "a link's frame of 14 bytes is not short";
+    LinkShortWithVlan, CallsOnly, "with 8100 a link's frame is short below 18";
+    LinkReadsVlan, CallsOnly, "the key of a link's frame has the VLAN id behind 8100";
+    LinkGives5, CallsOnly, "a link arrival gives 4 and 5 as an arrival does";
+    LinkRefusesTagged, CallsOnly, "a link arrival refuses a frame that carries F1C1";
+    LinkKeepsLastByte, CallsOnly, "a link's frame is handed up with its last byte";
+    LinkLengthBeforeNetwork, CallsOnly, "in a link arrival refusal 3 comes before 2";
+    LinkGroupBeforeShort, CallsOnly, "in a link arrival refusal 14 comes before 4";
+    LinkTakesGroup, CallsOnly, "a link arrival takes a group source";
+    LinkStreamBeforeGroup, CallsOnly, "in a link arrival refusal 6 comes before 14";
+    LinkRoomBeforeDamage, CallsOnly, "in a link arrival refusal 8 comes before 7";
+    LinkNeedsWhole, CallsOnly, "a link arrival gives 8 where its frame fits without the last byte alone";
+    LinkDuplicateNoRoom, CallsOnly, "a duplicate needs no room in a link arrival";
+    LinkHearsOthers, CallsOnly, "a link arrival looks at slots of other rules too";
+    LinkPassesDamage, CallsOnly, "a link arrival passes over damaged slots";
+    LinkOfAnyVlan, CallsOnly, "a link arrival looks at slots of rule 3 with any VLAN id";
+    ArrivalHearsTwoRules, CallsOnly, "an arrival looks at rules 1 and 2 alone, not at those that are none";
+    BatchHearsLinks, CallsOnly, "a batch takes slots of rule 3 for match";
+    AgreementOnce, CallsOnly, "the agreement is asked of each key once, whatever the rules";
+    AgreementOfRest, CallsOnly, "the agreement is not asked of slots of rule 3";
+    FollowStopsAtFamily, CallsOnly, "following stops where the key is that of a slot of the other family";
 }
 
 #[cfg(feature = "wrong")]
@@ -314,12 +364,56 @@ pub(crate) fn vlan_behind_tag(frame: &[u8]) -> u16 {
     }
 }
 
-/// What an arrival is refused with, if a group source comes before 5.
-pub(crate) fn group_before_no_tag(frame: &[u8], why: Refusal) -> Refusal {
-    match why {
-        Refusal::NoTag => check_source(frame).err().unwrap_or(why),
-        _ => why,
+/// What an arrival is refused with, if a group source comes before this refusal.
+/// A short frame may have no source at all.
+pub(crate) fn group_before(this: Refusal, frame: &[u8], why: Refusal) -> Refusal {
+    if why == this && frame.len() >= 12 {
+        check_source(frame).err().unwrap_or(why)
+    } else {
+        why
     }
+}
+
+/// The first for a record of rule 3, the second for any other.
+pub(crate) fn if_link<T>(stream: Stream, link: T, other: T) -> T {
+    match stream.family() {
+        Family::Links => link,
+        Family::Rest => other,
+    }
+}
+
+/// The lowest slot in use of rule 3 with this destination.
+pub(crate) fn link_to(table: &[Stream], destination: [u8; 6]) -> Option<usize> {
+    let mine = |s: &Stream| s.family() == Family::Links && s.destination == destination;
+    table.iter().position(|s| s.is_in_use() && mine(s))
+}
+
+/// How many numbers of its ring a link passes over. A 0 passes over none.
+pub(crate) fn passed_over(last: u16, number: u16) -> u64 {
+    match number {
+        0 => 0,
+        _ => u64::from(steps(last, number) - 1),
+    }
+}
+
+/// An arrival that takes slots of rule 3 for match ones.
+pub(crate) fn links_heard(
+    table: &mut [Stream],
+    network: u8,
+    frame: &[u8],
+    room: &mut [u8],
+) -> Result<Arrival, Refusal> {
+    let mut tried = table.to_vec();
+    for link in tried.iter_mut().filter(|s| s.family() == Family::Links) {
+        link.rule = Stream::MATCH;
+    }
+    let answer = arrival(&mut tried, network, frame, room)?;
+    let slot = answer.slot;
+    table[slot] = Stream {
+        rule: table[slot].rule,
+        ..tried[slot]
+    };
+    Ok(answer)
 }
 
 /// The slots in front of the first one in use with another VLAN id.

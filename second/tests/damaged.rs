@@ -14,8 +14,9 @@ fn damaged() -> Vec<(&'static str, Stream, bool)> {
     let g = fresh(Stream::MATCH, 4, 3);
     vec![
         ("rule 0", Stream { rule: 0, ..f }, true),
-        ("rule 3", Stream { rule: 3, ..f }, true),
+        ("rule 4", Stream { rule: 4, ..f }, true),
         ("rule 255", Stream { rule: 255, ..v }, true),
+        ("rule 4, match", Stream { rule: 4, ..m }, true),
         ("L 0", Stream { window: 0, ..f }, true),
         ("L 1", Stream { window: 1, ..f }, true),
         ("L 1, match", Stream { window: 1, ..m }, true),

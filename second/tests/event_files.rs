@@ -180,7 +180,7 @@ fn refusals_of_open() {
     bodies.push(open_body(8, 0, 1, 4, 3));
     bodies.push(open_body(7, 0, 1, 4, 3));
     bodies.push(open_body(7, 0, 0, 4, 3));
-    bodies.push(open_body(7, 0, 3, 4, 3));
+    bodies.push(open_body(7, 0, 4, 4, 3));
     bodies.push(open_body(7, 0, 1, 1, 3));
     bodies.push(open_wide_body(7, 0, 1, 513, 3));
     bodies.push(open_body(7, 0, 1, 4, 0));
@@ -222,7 +222,7 @@ fn opens_of_both_kinds() {
         (open_wide_body(1, 0, 1, 65535, 3), "no 9"),
         (open_wide_body(1, 4095, 1, 4, 3), "no 9"),
         (open_wide_body(1, 0, 0, 4, 3), "no 9"),
-        (open_wide_body(1, 0, 3, 4, 3), "no 9"),
+        (open_wide_body(1, 0, 4, 4, 3), "no 9"),
         (open_wide_body(1, 0, 1, 4, 0), "no 9"),
     ];
     let mut bodies = Vec::new();

@@ -340,7 +340,7 @@ fn a_group_source_among_the_other_checks() {
     let no_room: &mut [u8] = &mut [];
 
     let lawful = fresh(Stream::VECTOR, 4, 3);
-    let damaged = Stream { rule: 3, ..lawful };
+    let damaged = Stream { rule: 4, ..lawful };
     // 14 before 6, 7 and 8.
     for record in [Stream::FREE, damaged, lawful] {
         let mut table = [record];

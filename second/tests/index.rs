@@ -10,9 +10,10 @@ use second::generate::file;
 use second::random::Random;
 use second::wrong::{self, Wrong};
 use second::{
-    agrees, arrival, batch, close, follow, mixed, open, own_place, rebuild, Refusal, Settings,
-    Stream,
+    agrees, arrival, batch, close, follow, mixed, open, own_place, rebuild, Family, Refusal,
+    Settings, Stream,
 };
+use Family::{Links, Rest};
 
 /// An index with these names in these places, and all others empty.
 fn with_places(named: &[(usize, u8)]) -> Vec<u8> {
@@ -155,8 +156,9 @@ fn names_that_do_not_fit_are_passed_over() {
     let [mine, other] = [keys[0], keys[1]];
     let table = [stream_of(other), stream_of(mine), closed(stream_of(mine))];
     let find = |index: &[u8]| {
-        let found = follow(&table, index, mine.0, mine.1);
-        assert_eq!(found, followed(&table, index, mine));
+        let found = follow(&table, index, mine.0, mine.1, Rest);
+        assert_eq!(found, followed(&table, index, mine, Rest));
+        assert_eq!(follow(&table, index, mine.0, mine.1, Links), None);
         found
     };
     // Slot 1 behind a place that names another key, a free slot, the slot just
@@ -176,7 +178,7 @@ fn names_that_do_not_fit_are_passed_over() {
     // In front of its own place it is not looked for.
     assert_eq!(find(&with_places(&[(39, 2)])), None);
     for length in [0, 1, 41, 127, 129, 255] {
-        assert_eq!(follow(&table, &vec![2; length], mine.0, mine.1), None);
+        assert_eq!(follow(&table, &vec![2; length], mine.0, mine.1, Rest), None);
     }
 }
 
@@ -190,11 +192,11 @@ fn following_goes_round_the_end() {
     assert_eq!(index, with_places(&expected));
     assert!(agreed(&table, &index));
     for (slot, key) in keys[..6].iter().enumerate() {
-        assert_eq!(follow(&table, &index, key.0, key.1), Some(slot));
+        assert_eq!(follow(&table, &index, key.0, key.1, Rest), Some(slot));
     }
     // A key that no slot has goes on to place 4, which is empty.
     let (destination, vlan) = keys[6];
-    assert_eq!(follow(&table, &index, destination, vlan), None);
+    assert_eq!(follow(&table, &index, destination, vlan, Rest), None);
     // With the name at the end cut off from those behind it, none is found.
     let mut broken = index;
     broken[0] = 0;
@@ -213,7 +215,7 @@ fn all_places_may_name_slot_0() {
     let other = ([2, 0, 0, 0, 0, 9], 5);
     assert_eq!(open(&mut table, &mut index, settings_of(other)), Ok(1));
     assert_eq!(index[..], rebuilt(&table));
-    assert_eq!(follow(&table, &index, other.0, other.1), Some(1));
+    assert_eq!(follow(&table, &index, other.0, other.1, Rest), Some(1));
     // With a second slot in use it agrees no more.
     let index = [1; 128];
     assert!(!agreed(&table, &index));
@@ -250,7 +252,8 @@ fn two_slots_with_one_key_and_the_lower_closed() {
         assert_eq!(close(&mut table, &mut index, 0), Ok(()));
         assert_eq!(index, with_places(&[(own, 3)]));
         assert!(agreed(&table, &index));
-        assert_eq!(follow(&table, &index, one.destination, one.vlan), Some(2));
+        let found = follow(&table, &index, one.destination, one.vlan, Rest);
+        assert_eq!(found, Some(2));
         // And the higher one, after the lower: then no slot has the key.
         assert_eq!(close(&mut table, &mut index, 2), Ok(()));
         assert_eq!(index, with_places(&[]));
@@ -338,7 +341,7 @@ fn a_table_of_no_slots_agrees_with_every_index() {
         assert!(agreed(&[], &index));
         let mut after = index.clone();
         assert_eq!(number_of(open(&mut [], &mut after, settings(1, 4, 3))), 11);
-        assert_eq!(number_of(open(&mut [], &mut after, settings(3, 4, 3))), 9);
+        assert_eq!(number_of(open(&mut [], &mut after, settings(4, 4, 3))), 9);
         assert_eq!(number_of(close(&mut [], &mut after, 0)), 12);
         let done = batch(&mut [], &after, 0, 1, &packed(&[tagged(7)]), &mut []).unwrap();
         assert_eq!(done.answers[0], Some(Err(Refusal::NoStream)));
@@ -514,10 +517,10 @@ fn following_and_agreement_on_random_tables_and_indices() {
         let keys: Vec<Key> = slots.chain(pool.iter().copied()).collect();
         if index.len() == 128 {
             let mut all = true;
-            for &key in &keys {
-                let found = follow(&table, &index, key.0, key.1);
-                assert_eq!(found, followed(&table, &index, key));
-                all &= found == lowest(&table, key);
+            for (&key, family) in keys.iter().flat_map(|key| FAMILIES.map(|f| (key, f))) {
+                let found = follow(&table, &index, key.0, key.1, family);
+                assert_eq!(found, followed(&table, &index, key, family));
+                all &= found == lowest(&table, key, family);
             }
             assert_eq!(agrees(&table, &index), all);
         }
@@ -526,6 +529,11 @@ fn following_and_agreement_on_random_tables_and_indices() {
         if good && table.len() <= 64 {
             let same = index == rebuilt(&table);
             seen.note("of the rebuilt one", u8::from(same));
+            let both = in_use(&table).iter().any(|&slot| {
+                let of = |family| lowest(&table, key(&table[slot]), family);
+                of(Links).is_some() && of(Rest).is_some()
+            });
+            seen.note("with a key in both families", u8::from(both));
             let full = !index.contains(&0);
             seen.note("without an empty place", u8::from(full));
             let wraps = in_use(&table).iter().any(|&slot| {
@@ -554,6 +562,7 @@ fn following_and_agreement_on_random_tables_and_indices() {
     for what in [
         "agreement",
         "of the rebuilt one",
+        "with a key in both families",
         "without an empty place",
         "round the end",
     ] {
@@ -582,11 +591,20 @@ fn random_runs_keep_the_agreement() {
             let (before, index_before) = (table.clone(), index.clone());
             let target = random.pick(&pool);
             let slot = random.below(table.len() as u64 + 2) as usize;
-            let was = lowest(&table, target);
+            let was = FAMILIES.iter().find_map(|&f| lowest(&table, target, f));
             let free = (0..table.len()).find(|&slot| table[slot].in_use == 0);
             match random.below(3) {
                 0 => {
-                    let answer = open(&mut table, &mut index, settings_of(target));
+                    // A virtual link has VLAN id 0.
+                    let rule = match target.1 {
+                        0 => random.pick(&[Stream::VECTOR, Stream::LINK]),
+                        _ => Stream::VECTOR,
+                    };
+                    let settings = Settings {
+                        rule,
+                        ..settings_of(target)
+                    };
+                    let answer = open(&mut table, &mut index, settings);
                     let number = match (was, free) {
                         (Some(_), _) => 10,
                         (None, None) => 11,
@@ -596,7 +614,10 @@ fn random_runs_keep_the_agreement() {
                     seen.note("open", number);
                     if let Ok(slot) = answer {
                         assert_eq!(Some(slot), free);
-                        assert_eq!(follow(&table, &index, target.0, target.1), free);
+                        let family = table[slot].family();
+                        let found = follow(&table, &index, target.0, target.1, family);
+                        assert_eq!(found, free);
+                        seen.note("open of rule", rule);
                     }
                 }
                 1 => {
@@ -604,7 +625,8 @@ fn random_runs_keep_the_agreement() {
                     let answer = close(&mut table, &mut index, slot);
                     assert_eq!(number_of(answer), if held { 0 } else { 12 });
                     seen.note("close", number_of(answer));
-                    let twin = held && lowest(&table, key(&table[slot])).is_some();
+                    let twin = |s: &Stream| lowest(&table, key(s), s.family()).is_some();
+                    let twin = held && twin(&table[slot]);
                     seen.note("close of one of two", u8::from(twin));
                 }
                 _ => {
@@ -623,7 +645,7 @@ fn random_runs_keep_the_agreement() {
                         if let Ok(single) = single {
                             let vlan = u16::from_be_bytes([frame[14], frame[15]]);
                             let destination = frame[..6].try_into().unwrap();
-                            let found = follow(&table, &index, destination, vlan);
+                            let found = follow(&table, &index, destination, vlan, Rest);
                             assert_eq!(found, Some(single.slot));
                         }
                     }
@@ -640,6 +662,7 @@ fn random_runs_keep_the_agreement() {
         }
     }
     seen.all_met("open", &[0, 10, 11]);
+    seen.all_met("open of rule", &[1, 3]);
     seen.all_met("close", &[0, 12]);
     seen.all_met("close of one of two", &[0, 1]);
     seen.all_met("frame", &[0, 6, 7]);

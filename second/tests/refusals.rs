@@ -3,7 +3,8 @@
 //! The answer is compared with a list: each refusal number has its own
 //! condition, and the first number in the call's order whose condition holds
 //! must be the answer ("Calls and the order of checks", orders 6 and 7 for sends
-//! and for turns from PRP and to PRP, and order 9 for opens and closes).
+//! and for turns from PRP and to PRP, order 9 for opens and closes, and order 10
+//! for link arrivals).
 //! A refused call must change no byte of table, index, sender and outputs; any
 //! other call only its own slot, and opens and closes the index.
 
@@ -12,8 +13,8 @@ mod common;
 use common::*;
 use second::random::Random;
 use second::{
-    arrival, close, from_prp, open, reset, take_tag, tick, to_prp, write_tag, Sender, Sent,
-    Settings, Stream, Turned, Verdict,
+    arrival, close, from_prp, link_arrival, open, reset, take_tag, tick, to_prp, write_tag,
+    Arrival, Family, Sender, Sent, Settings, Stream, Turned, Verdict,
 };
 
 /// The first number in the order whose condition holds, else 0.
@@ -37,21 +38,28 @@ fn group_source(frame: &[u8]) -> bool {
     frame.get(6).map_or(false, |first| first % 2 == 1)
 }
 
+/// The key of a virtual link's frame.
+fn key_of(frame: &[u8]) -> Option<Key> {
+    Some((frame.get(..6)?.try_into().ok()?, 0))
+}
+
+/// The slot that a tagged frame is for.
 fn slot_of(table: &[Stream], frame: &[u8]) -> Option<usize> {
-    let destination = frame.get(..6)?;
-    let vlan = if at(frame, 12, [0x81, 0x00]) {
-        u16::from_be_bytes([*frame.get(14)?, *frame.get(15)?]) % 4096
-    } else {
-        0
-    };
-    (0..table.len()).find(|&slot| {
-        let s = &table[slot];
-        s.in_use != 0 && s.destination == destination && s.vlan == vlan
-    })
+    let (destination, mut vlan) = key_of(frame)?;
+    if at(frame, 12, [0x81, 0x00]) {
+        vlan = u16::from_be_bytes([*frame.get(14)?, *frame.get(15)?]) % 4096;
+    }
+    lowest(table, (destination, vlan), Family::Rest)
+}
+
+/// The slot that a virtual link's frame is for.
+fn link_of(table: &[Stream], frame: &[u8]) -> Option<usize> {
+    lowest(table, key_of(frame)?, Family::Links)
 }
 
 fn settings_bad(s: &Stream) -> bool {
-    !(1..=2).contains(&s.rule)
+    !(1..=3).contains(&s.rule)
+        || (s.rule == 3 && s.vlan != 0)
         || !(2..=512).contains(&s.window)
         || !(1..=65535).contains(&s.reset_time)
         || !(0..=4094).contains(&s.vlan)
@@ -73,6 +81,7 @@ fn is_damaged(s: &Stream) -> bool {
         (false, 1..) if s.rule == 1 => {
             !bits.contains(&0) || bits.iter().any(|&k| k >= usize::from(s.window))
         }
+        (false, 1..) if s.rule == 3 => s.anchor > 255 || !bits.is_empty(),
         (false, 1..) => !bits.is_empty(),
         _ => true,
     }
@@ -94,6 +103,67 @@ fn any_output(random: &mut Random, need: usize) -> Vec<u8> {
 fn others_same(before: &[Stream], after: &[Stream], slot: usize) -> bool {
     before.len() == after.len()
         && (0..before.len()).all(|other| other == slot || before[other] == after[other])
+}
+
+/// What an arrival call must leave that was not refused: `bare` is the frame as it
+/// is handed up.
+fn changed_rightly(
+    a: Arrival,
+    network: u8,
+    bare: &[u8],
+    before: (&[Stream], &[u8]),
+    after: (&[Stream], &[u8]),
+) {
+    assert!(others_same(before.0, after.0, a.slot));
+    let (old, new) = (before.0[a.slot], after.0[a.slot]);
+    assert!(!is_damaged(&new));
+    // Whatever the verdict, key, settings and resets stay and exactly one
+    // arrival counter rises.
+    let mut arrivals = old.arrivals;
+    let counter = &mut arrivals[usize::from(network)];
+    *counter = counter.wrapping_add(1);
+    let same = Stream {
+        in_use: old.in_use,
+        destination: old.destination,
+        vlan: old.vlan,
+        rule: old.rule,
+        window: old.window,
+        reset_time: old.reset_time,
+        resets: old.resets,
+        arrivals,
+        ..new
+    };
+    assert_eq!(new, same);
+    match a.verdict {
+        Verdict::HandedUp { length } => {
+            assert_eq!(length, bare.len());
+            assert_eq!(after.1[..length], *bare);
+            assert_eq!(after.1[length..], before.1[length..]);
+            assert_eq!(new.passed, old.passed.wrapping_add(1));
+            assert_eq!(new.remaining, new.reset_time);
+            assert_eq!((new.discarded, new.rogue), (old.discarded, old.rogue));
+        }
+        Verdict::Duplicate => {
+            assert_eq!(after.1, before.1);
+            let discarded = old.discarded.wrapping_add(1);
+            let expected = Stream {
+                arrivals,
+                discarded,
+                ..old
+            };
+            assert_eq!(new, expected);
+        }
+        Verdict::Rogue => {
+            assert_eq!(after.1, before.1);
+            let rogue = old.rogue.wrapping_add(1);
+            let expected = Stream {
+                arrivals,
+                rogue,
+                ..old
+            };
+            assert_eq!(new, expected);
+        }
+    }
 }
 
 #[test]
@@ -126,76 +196,106 @@ fn arrivals() {
         if group_source(&frame) {
             seen.note("arrival of a group", expected);
         }
-        let a = match answer {
-            Ok(a) => a,
-            Err(_) => {
-                assert_eq!(table, table_before);
-                assert_eq!(output, output_before);
-                continue;
-            }
-        };
-        assert_eq!(Some(a.slot), slot);
-        assert!(others_same(&table_before, &table, a.slot));
-        let (old, new) = (table_before[a.slot], table[a.slot]);
-        assert!(!is_damaged(&new));
-        // Whatever the verdict, key, settings and resets stay and exactly one
-        // arrival counter rises.
-        let mut arrivals = old.arrivals;
-        let counter = &mut arrivals[usize::from(network)];
-        *counter = counter.wrapping_add(1);
-        let same = Stream {
-            in_use: old.in_use,
-            destination: old.destination,
-            vlan: old.vlan,
-            rule: old.rule,
-            window: old.window,
-            reset_time: old.reset_time,
-            resets: old.resets,
-            arrivals,
-            ..new
-        };
-        assert_eq!(new, same);
-        match a.verdict {
-            Verdict::HandedUp { length } => {
-                assert_eq!(length, need);
-                let place = type_place(&frame);
-                let bare = [&frame[..place], &frame[place + 6..]].concat();
-                assert_eq!(output[..length], bare[..]);
-                assert_eq!(output[length..], output_before[length..]);
-                assert_eq!(new.passed, old.passed.wrapping_add(1));
-                assert_eq!(new.remaining, new.reset_time);
-                assert_eq!((new.discarded, new.rogue), (old.discarded, old.rogue));
-                seen.note("up", 0);
-            }
-            Verdict::Duplicate => {
-                assert_eq!(output, output_before);
-                let discarded = old.discarded.wrapping_add(1);
-                let expected = Stream {
-                    arrivals,
-                    discarded,
-                    ..old
-                };
-                assert_eq!(new, expected);
-                seen.note("duplicate", 0);
-            }
-            Verdict::Rogue => {
-                assert_eq!(output, output_before);
-                let rogue = old.rogue.wrapping_add(1);
-                let expected = Stream {
-                    arrivals,
-                    rogue,
-                    ..old
-                };
-                assert_eq!(new, expected);
-                seen.note("rogue", 0);
-            }
+        if slot.is_none() && link_of(&table, &frame).is_some() {
+            seen.note("arrival for a link", expected);
+        }
+        let before = (&table_before[..], &output_before[..]);
+        let after = (&table[..], &output[..]);
+        if let Ok(a) = answer {
+            assert_eq!(Some(a.slot), slot);
+            let place = type_place(&frame);
+            let bare = [&frame[..place], &frame[place + 6..]].concat();
+            changed_rightly(a, network, &bare, before, after);
+            seen.note(word(a), 0);
+        } else {
+            assert_eq!(after, before);
         }
     }
     seen.all_met("arrival", &[0, 1, 2, 3, 4, 5, 14, 6, 7, 8]);
     seen.all_met("arrival of a group", &[1, 2, 3, 4, 5, 14]);
+    seen.all_met("arrival for a link", &[6]);
     seen.all_met("up", &[0]);
     seen.all_met("duplicate", &[0]);
     seen.all_met("rogue", &[0]);
+}
+
+#[test]
+fn link_arrivals() {
+    let mut random = Random::new(19);
+    let mut seen = Seen::default();
+    for _ in 0..60_000 {
+        let mut table = any_table(&mut random);
+        let network = random.pick(&[0, 1, 0, 1, 0, 1, 2, 255]);
+        let frame = any_numbered(&mut random);
+        let need = frame.len().saturating_sub(1);
+        let mut output = any_output(&mut random, need);
+        let (table_before, output_before) = (table.clone(), output.clone());
+
+        let slot = link_of(&table, &frame);
+        let expected = first(&[
+            (1, table.len() > 64),
+            (2, network > 1),
+            (3, frame.len() > 2000),
+            (4, frame.len() < 15),
+            (14, group_source(&frame)),
+            (6, slot.is_none()),
+            (7, slot.map_or(false, |slot| is_damaged(&table[slot]))),
+            (8, output.len() < need),
+        ]);
+        let answer = link_arrival(&mut table, network, &frame, &mut output);
+        assert_eq!(number_of(answer), expected);
+        seen.note("arrival", expected);
+        if group_source(&frame) {
+            seen.note("arrival of a group", expected);
+        }
+        if slot.is_none()
+            && key_of(&frame)
+                .and_then(|key| lowest(&table, key, Family::Rest))
+                .is_some()
+        {
+            seen.note("arrival for another rule", expected);
+        }
+        if at(&frame, 12, [0x81, 0x00]) {
+            seen.note("arrival with 8100", expected);
+        }
+        if has_mark(&frame) {
+            seen.note("arrival with F1C1", expected);
+        }
+        let before = (&table_before[..], &output_before[..]);
+        let after = (&table[..], &output[..]);
+        if let Ok(a) = answer {
+            assert_eq!(Some(a.slot), slot);
+            let (number, bare) = frame.split_last().unwrap();
+            assert_eq!(a.number, u16::from(*number));
+            changed_rightly(a, network, bare, before, after);
+            let (old, new) = (table_before[a.slot], table[a.slot]);
+            // Of what the record knows only the last number moves.
+            let up = Stream {
+                arrivals: new.arrivals,
+                passed: new.passed,
+                anchor: a.number,
+                take_any: 0,
+                remaining: old.reset_time,
+                ..old
+            };
+            match a.verdict {
+                Verdict::HandedUp { .. } => assert_eq!(new, up),
+                Verdict::Duplicate => assert_eq!(old.take_any, 0),
+                Verdict::Rogue => panic!("a link has no rogue"),
+            }
+            seen.note(word(a), 0);
+        } else {
+            assert_eq!(after, before);
+        }
+    }
+    let all = [0, 1, 2, 3, 4, 14, 6, 7, 8];
+    seen.all_met("arrival", &all);
+    seen.all_met("arrival of a group", &[1, 2, 3, 4, 14]);
+    seen.all_met("arrival for another rule", &[6]);
+    seen.all_met("arrival with 8100", &all);
+    seen.all_met("arrival with F1C1", &[0, 1, 2, 3, 14, 6, 7, 8]);
+    seen.all_met("up", &[0]);
+    seen.all_met("duplicate", &[0]);
 }
 
 #[test]

@@ -114,7 +114,7 @@ fn settings_at_their_edges() {
             assert_eq!(try_open(settings), answer);
         }
     }
-    for (rule, answer) in [(0, 9), (1, 0), (2, 0), (3, 9), (255, 9)] {
+    for (rule, answer) in [(0, 9), (1, 0), (2, 0), (3, 0), (4, 9), (255, 9)] {
         assert_eq!(try_open(settings(rule, 4, 3)), answer);
     }
 }
@@ -280,7 +280,7 @@ fn open_checks_in_order() {
 #[test]
 fn arrival_checks_in_order() {
     let mut damaged = fresh(Stream::VECTOR, 4, 3);
-    damaged.rule = 3;
+    damaged.rule = 4;
     let mut tables = [vec![damaged; 65], vec![damaged]];
     let mut long = tagged(1);
     long.resize(2001, 0);

@@ -11,7 +11,8 @@ use common::*;
 use second::random::Random;
 use second::wrong::{self, Seen, Wrong, VARIANTS};
 use second::{
-    arrival, from_prp, rebuild, reset, take_tag, tick, to_prp, write_tag, Sender, Settings, Stream,
+    arrival, from_prp, link_arrival, rebuild, reset, take_tag, tick, to_prp, write_tag, Sender,
+    Settings, Stream,
 };
 
 const DESTINATIONS: [[u8; 6]; 2] = [DESTINATION, [2, 0, 0, 0, 0, 2]];
@@ -86,6 +87,54 @@ fn calls(seed: u64) -> Vec<(String, Vec<Stream>, Vec<u8>)> {
     seen
 }
 
+/// Random link arrivals and ticks, and batches and plain arrivals among them, on a
+/// table of virtual links and others: every answer, and table and output after
+/// each.
+fn links(seed: u64) -> Vec<(String, Vec<Stream>, Vec<u8>)> {
+    let mut random = Random::new(seed);
+    let mut table: Vec<Stream> = (0..6)
+        .map(|_| {
+            let stream = any_stream(&mut random, &DESTINATIONS, &[0, 0, 0, 5]);
+            let rule = random.pick(&[3, 3, stream.rule]);
+            Stream { rule, ..stream }
+        })
+        .collect();
+    let mut output = vec![FILL; 2003];
+    let mut seen = Vec::new();
+    for _ in 0..40 {
+        let number = random.pick(&[0, 1, 2, 3, 126, 127, 128, 129, 130, 255]);
+        let destination = random.pick(&DESTINATIONS);
+        let tci = random.pick(&[None, None, Some(0), Some(5)]);
+        let network = random.pick(&[0, 1, 0, 1, 2]);
+        let mut frame = match random.below(4) {
+            0 => tagged_to(destination, tci, 7),
+            _ => untagged_to(destination, tci),
+        };
+        match random.below(8) {
+            0 => frame.truncate(random.pick(&[13, 14, 15, 16])),
+            1 => frame.resize(random.pick(&[1994, 1995, 2000, 2001, 2002]), 0),
+            _ => {}
+        }
+        *frame.last_mut().unwrap() = number;
+        let frame = from_source(random.pick(&[2, 2, 2, 2, 3]), &frame);
+        let room = random.pick(&[frame.len() - 2, frame.len() - 1, frame.len() - 1, 2003]);
+        let answer = match random.below(8) {
+            0 => format!("{:?}", tick(&mut table)),
+            1 => {
+                let input = packed(&[frame]);
+                format!("{:?}", batch(&mut table, 0, 1, &input, &mut output))
+            }
+            2 => format!("{:?}", arrival(&mut table, network, &frame, &mut output)),
+            _ => {
+                let answer = link_arrival(&mut table, network, &frame, &mut output[..room]);
+                format!("{answer:?}")
+            }
+        };
+        seen.push((answer, table.clone(), output.clone()));
+    }
+    seen
+}
+
 /// Random calls that take an index: every answer, and table and index after each.
 /// The keys share places, at the end of the index too, and some slots a key.
 fn indexed(seed: u64) -> Vec<(String, Vec<Stream>, Vec<u8>)> {
@@ -106,10 +155,11 @@ fn indexed(seed: u64) -> Vec<(String, Vec<Stream>, Vec<u8>)> {
         let (destination, vlan) = random.pick(&keys);
         let answer = match random.below(4) {
             0 => {
+                let rule = random.pick(&[1, 3]);
                 let settings = Settings {
                     destination,
                     vlan,
-                    ..settings(1, random.pick(&[1, 4, 4]), 2)
+                    ..settings(rule, random.pick(&[1, 4, 4]), 2)
                 };
                 format!("{:?}", second::open(&mut table, &mut index, settings))
             }
@@ -185,12 +235,15 @@ fn turns(seed: u64) -> Vec<(String, Vec<u8>)> {
 
 #[test]
 fn every_variant_for_calls_is_seen_in_calls() {
+    let all = |seed| {
+        let tables = (calls(seed), links(seed), indexed(seed));
+        (tables, sends(seed), turns(seed))
+    };
     for variant in VARIANTS.iter().filter(|v| v.seen == Seen::CallsOnly) {
         let differs = (0..2000).any(|seed| {
-            let all = || (calls(seed), indexed(seed), sends(seed), turns(seed));
-            let right = all();
+            let right = all(seed);
             wrong::set(Some(variant.wrong));
-            let wrong = all();
+            let wrong = all(seed);
             wrong::set(None);
             right != wrong
         });

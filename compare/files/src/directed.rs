@@ -24,6 +24,7 @@ pub fn files() -> Vec<(&'static str, Vec<u8>)> {
             slots(),
         ),
         ("every network", networks()),
+        ("virtual links, which no event gives a frame", links()),
         ("every first byte of a source", sources()),
         ("every number on two networks", numbers()),
         ("every number on two networks, 511 apart", far_numbers()),
@@ -120,7 +121,7 @@ fn lengths() -> Vec<u8> {
 
 fn windows() -> Vec<u8> {
     let mut file = File::new();
-    for rule in 0..=3 {
+    for rule in 0..=4 {
         for window in 0..=255 {
             file.open(KEY, rule, window, 9);
             file.body(&[kind::CLOSE, 0]);
@@ -261,7 +262,7 @@ fn slots() -> Vec<u8> {
         // A setting outside the sizes, a key in use, both.
         file.open(key(99), Stream::VECTOR, 1, 9);
         file.open(key(1), Stream::VECTOR, 4, 9);
-        file.open(key(1), 3, 4, 9);
+        file.open(key(1), 4, 4, 9);
         file.body(&[kind::CLOSE, 0]);
         file.open(key(1), Stream::VECTOR, 4, 9);
     }
@@ -293,6 +294,35 @@ fn networks() -> Vec<u8> {
         for length in [0, 13, 2000, 2001] {
             file.frame(network, &KEY.0, length);
         }
+    }
+    file.0
+}
+
+/// Links with every VLAN id, then one with each L, and what its key meets while it
+/// is there and while another stream has it.
+fn links() -> Vec<u8> {
+    let mut file = File::new();
+    for vlan in (1..=4100).chain([8191, 65535]) {
+        file.open((KEY.0, vlan), Stream::LINK, 4, 9);
+    }
+    for window in (0..=600).chain([1028, 65535]) {
+        file.open_wide(KEY, Stream::LINK, window, 9);
+        for rule in [Stream::VECTOR, Stream::MATCH, Stream::LINK] {
+            file.open_wide(KEY, rule, window, 9);
+        }
+        file.number(0, window);
+        file.body(&[kind::RESET, 0]);
+        file.body(&[kind::TICK]);
+        file.number(1, window);
+        // With another VLAN id the key is another one.
+        file.open((KEY.0, 5), Stream::VECTOR, 4, 9);
+        file.body(&tagged(0, (KEY.0, 5), window));
+        file.body(&[kind::CLOSE, 0]);
+        file.open(KEY, Stream::VECTOR, 4, 9);
+        file.open(KEY, Stream::LINK, 4, 9);
+        file.number(0, window);
+        file.body(&[kind::CLOSE, 0]);
+        file.body(&[kind::CLOSE, 1]);
     }
     file.0
 }

@@ -13,6 +13,9 @@
 //!   while a longer frame has been refused with 3;
 //! - 13 is the tag writer's, which no event calls.
 //!
+//! No event gives a frame to a virtual link. So such a stream is opened, reset,
+//! closed, and in the way of another with its key, and an arrival passes it over.
+//!
 //! A line of any other shape is a failure as well.
 
 use std::collections::BTreeMap;
@@ -39,9 +42,10 @@ pub struct Tally {
 fn expected() -> Vec<String> {
     let mut all: Vec<String> = Vec::new();
     all.extend((0..SLOTS).map(|slot| format!("O {slot}")));
-    all.extend(["vector", "match"].map(|rule| format!("O, rule {rule}")));
+    all.extend(["vector", "match", "link"].map(|rule| format!("O, rule {rule}")));
     all.extend([9, 10, 11].map(|n| format!("O no {n}")));
     all.extend(["C ok", "C no 12", "R ok", "R no 12"].map(String::from));
+    all.extend(LINKS.map(String::from));
     all.extend(["up", "dup", "rogue"].map(|verdict| format!("A {verdict} vector")));
     // The match rule has no rogue.
     all.extend(["up", "dup"].map(|verdict| format!("A {verdict} match")));
@@ -55,7 +59,16 @@ fn expected() -> Vec<String> {
     all
 }
 
-const INPUTS: [&str; 20] = [
+/// What is answered where a virtual link is there.
+const LINKS: [&str; 5] = [
+    "C ok, of a link",
+    "R ok, of a link",
+    "O no 10, a link has the key",
+    "O no 10, for a link",
+    "A no 6, a link has the key",
+];
+
+const INPUTS: [&str; 21] = [
     "a body of length 0",
     "a body of 32768 bytes or more",
     "a frame of 2000 bytes",
@@ -70,6 +83,7 @@ const INPUTS: [&str; 20] = [
     "F1C1 behind F1C1",
     "8100 behind F1C1",
     "an open with VLAN 4095",
+    "an open of a link with a VLAN id",
     "R of 32768 or more",
     "L above 64 in an open of kind 1",
     "L up to 255 in an open of kind 6",
@@ -101,6 +115,8 @@ impl Tally {
         let mut bodies = records(file);
         // The rule in each slot, and the number that was last handed up.
         let mut slots = [(0, 0); SLOTS];
+        // The destination of each slot that is a virtual link's.
+        let mut links = [None; SLOTS];
         for line in lines.lines() {
             let words: Vec<&str> = line.split(' ').collect();
             if words.len() == 1 {
@@ -111,14 +127,23 @@ impl Tally {
             // Every line with a number has its record.
             let body = bodies.next().unwrap_or_default();
             self.input(body);
+            if let Some(shape) = of_links(&words[1..], body, &links) {
+                self.count(shape, line);
+            }
             let shape = match words[1..] {
                 [letter, "no", number] => format!("{letter} no {number}"),
+                ["C", "ok"] => {
+                    links[usize::from(body[1]) % SLOTS] = None;
+                    words[1..].join(" ")
+                }
                 ["O", slot] => {
                     let rule = body[9];
                     self.count(&format!("O, rule {}", name(rule)), line);
                     let window = window(body).unwrap_or(0);
                     self.count(&format!("input: L = {window}"), line);
-                    slots[slot.parse::<usize>().unwrap_or(0) % SLOTS] = (rule, 0);
+                    let at = slot.parse::<usize>().unwrap_or(0) % SLOTS;
+                    slots[at] = (rule, 0);
+                    links[at] = (rule == Stream::LINK).then(|| destination(&body[1..]));
                     format!("O {slot}")
                 }
                 ["A", verdict, slot, number] => {
@@ -152,6 +177,10 @@ impl Tally {
         has(body.len() >= 32768, "a body of 32768 bytes or more");
         if let Some(window) = window(body) {
             has(body[7..9] == [0x0F, 0xFF], "an open with VLAN 4095");
+            has(
+                body[9] == Stream::LINK && body[7..9] != [0, 0],
+                "an open of a link with a VLAN id",
+            );
             has(body[body.len() - 2] >= 128, "R of 32768 or more");
             if body[0] == kind::OPEN {
                 has(window > 64, "L above 64 in an open of kind 1");
@@ -222,6 +251,33 @@ impl Tally {
     }
 }
 
+/// Which of [`LINKS`] a line is, where the virtual links in the slots have these
+/// destinations.
+fn of_links(words: &[&str], body: &[u8], links: &[Option<[u8; 6]>; SLOTS]) -> Option<&'static str> {
+    let is_link = |slot: u8| links[usize::from(slot) % SLOTS].is_some();
+    let is_to_link = |bytes: &[u8]| links.contains(&Some(destination(bytes)));
+    match *words {
+        ["C", "ok"] if is_link(body[1]) => Some("C ok, of a link"),
+        ["R", "ok"] if is_link(body[1]) => Some("R ok, of a link"),
+        ["O", "no", "10"] if body[9] == Stream::LINK => Some("O no 10, for a link"),
+        // A link's VLAN id is 0.
+        ["O", "no", "10"] if body[7..9] == [0, 0] && is_to_link(&body[1..]) => {
+            Some("O no 10, a link has the key")
+        }
+        ["A", "no", "6"] if body[14..16] != VLAN_MARK && is_to_link(&body[2..]) => {
+            Some("A no 6, a link has the key")
+        }
+        _ => None,
+    }
+}
+
+/// The destination that stands first in these bytes.
+fn destination(bytes: &[u8]) -> [u8; 6] {
+    let mut six = [0; 6];
+    six.copy_from_slice(&bytes[..6]);
+    six
+}
+
 /// The L of a body that is an open of the right length.
 fn window(body: &[u8]) -> Option<u16> {
     match *body {
@@ -237,6 +293,7 @@ fn name(rule: u8) -> &'static str {
     match rule {
         Stream::VECTOR => "vector",
         Stream::MATCH => "match",
+        Stream::LINK => "link",
         _ => "none",
     }
 }

@@ -2,8 +2,8 @@
 //! answer, the whole table, the whole index, the sender's next number and the whole outputs must be equal, and a refused call must
 //! have changed nothing.
 //!
-//!     calls                    the comparison, 4,000,000 calls, more sends in a row than there are numbers, and PRP frames
-//!                              turned into tagged ones and back
+//!     calls                    the comparison, 4,000,000 calls, more sends in a row than there are numbers, every number of a
+//!                              virtual link behind every other, and PRP frames turned into tagged ones and back
 //!     calls SEED COUNT         the same from another seed, or with fewer or more calls
 //!     calls wrong              each wrong variant of the second program that shows in calls alone must be found
 //!     calls cases COUNT        writes so many calls for compare/replay.c, with what they answer and leave
@@ -52,6 +52,10 @@ const FRAMES_TRIED: u64 = 40;
 const INPUT_MOST: usize = 60_000;
 /// Outputs that are too small for any frame of a batch, or for more than one.
 const SMALL_ROOMS: [usize; 5] = [0, 1, 2, 15, 16];
+
+/// Highest number of a virtual link, and the most steps forward that are handed up.
+const RING: u16 = 255;
+const STEPS: usize = 127;
 
 /// Sends in a row without a reset: the numbers twice, and some more.
 const IN_A_ROW: u32 = 2 * 65536 + 3;
@@ -198,10 +202,43 @@ fn any_history(random: &mut Random) -> [u64; WORDS] {
     history
 }
 
+/// Is it a virtual link? One arrival call looks at those alone, the others at the rest.
+fn is_link(s: &Stream) -> bool {
+    s.rule == Stream::LINK_RULE
+}
+
+/// One of the three rules, most often vector, which has the most to show.
+fn rule(random: &mut Random) -> u8 {
+    match random.below(16) {
+        0..=7 => Stream::VECTOR_RULE,
+        8..=12 => Stream::MATCH_RULE,
+        _ => Stream::LINK_RULE,
+    }
+}
+
+/// The VLAN id that a stream of this rule may have in place of this one.
+fn lawful_vlan(rule: u8, vlan: u16) -> u16 {
+    match rule {
+        Stream::LINK_RULE => 0,
+        _ => vlan.min(Stream::VLAN_MOST),
+    }
+}
+
+/// The last number of a virtual link, often one at an end.
+fn link_anchor(random: &mut Random) -> u16 {
+    let any = random.byte().into();
+    random.pick(&[0, 1, 127, 128, 254, RING, any, any, any])
+}
+
 /// A lawful record in use.
 fn lawful(random: &mut Random) -> Stream {
+    let rule = rule(random);
+    lawful_with(random, rule)
+}
+
+/// The same with this rule.
+fn lawful_with(random: &mut Random, rule: u8) -> Stream {
     let (destination, vlan) = key(random);
-    let rule = 1 + random.below(2) as u8;
     let (window, time) = (window(random), time(random));
     let state = if random.chance(1, 6) {
         State {
@@ -226,7 +263,9 @@ fn lawful(random: &mut Random) -> Stream {
         };
         State {
             history,
-            anchor: if random.chance(1, 3) {
+            anchor: if rule == Stream::LINK_RULE {
+                link_anchor(random)
+            } else if random.chance(1, 3) {
                 random.pick(&[0, 1, 65535, 32768, 65534])
             } else {
                 random.word()
@@ -242,7 +281,7 @@ fn lawful(random: &mut Random) -> Stream {
     };
     Stream {
         dest: nippitsun::dest_of(destination),
-        vlan: vlan.min(Stream::VLAN_MOST),
+        vlan: lawful_vlan(rule, vlan),
         window,
         time,
         rule,
@@ -256,12 +295,41 @@ fn lawful(random: &mut Random) -> Stream {
     }
 }
 
+/// Windows that no stream may have.
+const NO_WINDOWS: [u16; 8] = [0, 1, 513, 514, 576, 768, 1028, 65535];
+
+/// The record of a virtual link with one fault.
+fn damaged_link(random: &mut Random, mut s: Stream) -> Stream {
+    let state = &mut s.state;
+    match random.below(20) {
+        // 0 and 255 are wrong in a fresh one alone, and 65535 in any other alone.
+        0..=2 => state.anchor = random.pick(&[0, RING, 256, 256, 256, 257, 511, 65535]),
+        3 => state.anchor = 256 | random.word(),
+        4 => mark(&mut state.history, 0),
+        5 => state.history = any_history(random),
+        6 => state.early = random.pick(&[1, s.window - 1, s.window, 65535]),
+        7..=11 => s.vlan = random.pick(&[1, 4094]),
+        12 => s.vlan = random.pick(&[4095, 4096, 65535]),
+        13 | 14 => s.window = random.pick(&NO_WINDOWS),
+        15 => s.time = 0,
+        16 => state.remaining = s.time.wrapping_add(1),
+        17 => state.remaining = 0,
+        18 => state.any = 1 - state.any.min(1),
+        // No call can name such a key, but a tick and a reset find it sound.
+        _ => s.dest |= random.pick(&[1, 2, 0xFFFF]) << 48,
+    }
+    s
+}
+
 /// A record with one fault, or with anything in it.
 fn damaged(random: &mut Random) -> Stream {
     let mut s = lawful(random);
+    if is_link(&s) {
+        return damaged_link(random, s);
+    }
     match random.below(26) {
-        0 => s.rule = random.pick(&[0, 3, 255]),
-        1 => s.window = random.pick(&[0, 1, 513, 514, 576, 768, 1028, 65535]),
+        0 => s.rule = random.pick(&[0, 3, 4, 255]),
+        1 => s.window = random.pick(&NO_WINDOWS),
         2 => s.time = 0,
         3 => s.vlan = random.pick(&[4095, 4096, 65535]),
         4 => s.state.remaining = s.time.wrapping_add(1),
@@ -352,13 +420,23 @@ fn table(random: &mut Random) -> Vec<Stream> {
         _ => random.below(66),
     };
     let mut table: Vec<Stream> = (0..slots).map(|_| record(random)).collect();
-    // One slot in use, or one key alone.
+    // One slot in use, one key alone, or pairs of a virtual link and another stream with its key.
     match random.below(16) {
         0 => table.iter_mut().skip(1).for_each(|s| s.used = 0),
         1 => {
             let (destination, vlan) = key(random);
             for s in &mut table {
                 (s.dest, s.vlan) = (nippitsun::dest_of(destination), vlan);
+            }
+        }
+        2 | 3 => {
+            for pair in table.chunks_exact_mut(2) {
+                let link = lawful_with(random, Stream::LINK_RULE);
+                (pair[0].dest, pair[0].vlan) = (link.dest, link.vlan);
+                pair[1] = link;
+                if random.chance(1, 2) {
+                    pair.swap(0, 1);
+                }
             }
         }
         _ => {}
@@ -383,11 +461,11 @@ fn rebuilt(table: &[Stream]) -> Vec<u8> {
     index
 }
 
-/// Of each key, the lowest slot in use with it.
+/// Of each key, the lowest virtual link in use with it, and the lowest other slot.
 fn lowest(table: &[Stream]) -> Vec<usize> {
     let is_lowest = |&slot: &usize| {
         let s = &table[slot];
-        let mut lower = with_key(&table[..slot], s.dest, s.vlan);
+        let mut lower = with_key(&table[..slot], Key::of(s));
         s.is_used() && lower.next().is_none()
     };
     (0..table.len()).filter(is_lowest).collect()
@@ -471,6 +549,16 @@ fn index(random: &mut Random, table: &[Stream]) -> Vec<u8> {
         10 => index.truncate(INDEX - 1),
         11 => index.push(random.byte()),
         12 => index.clear(),
+        // Another slot with its key stands where a slot was named, or none.
+        13 | 14 if !table.is_empty() => {
+            let slot = random.below(table.len() as u64) as usize;
+            let key = |slot: usize| (table[slot].dest, table[slot].vlan);
+            let is_other = |&other: &usize| other != slot && key(other) == key(slot);
+            let other = (0..table.len()).find(is_other);
+            for place in index.iter_mut().filter(|place| **place == name(slot)) {
+                *place = other.map_or(EMPTY, name);
+            }
+        }
         _ => {}
     }
     index
@@ -501,6 +589,16 @@ fn difference(random: &mut Random, window: u16) -> i64 {
     }
 }
 
+/// Writes so many bytes of a frame to this destination, from a source that is seldom a group.
+fn start(random: &mut Random, pool: &[u8], f: &mut [u8; 2100], length: usize, to: [u8; 6]) {
+    let from = random.below((pool.len() - length) as u64) as usize;
+    f[..length].copy_from_slice(&pool[from..from + length]);
+    // Whole heads are written where there may be no room for them: f is long enough, and the length cuts them.
+    f[..6].copy_from_slice(&to);
+    // The pool's bytes alone would make every second source a group.
+    f[6] = f[6] & 0xFE | u8::from(random.chance(1, 16));
+}
+
 /// Writes a frame and gives its length. Most often it is one that a slot of the table takes.
 fn frame(random: &mut Random, pool: &[u8], table: &[Stream], f: &mut [u8; 2100]) -> usize {
     let length = match random.below(32) {
@@ -508,8 +606,6 @@ fn frame(random: &mut Random, pool: &[u8], table: &[Stream], f: &mut [u8; 2100])
         2 => random.pick(&[1993, 1994, 1995, 1999, 2000, 2001, 2002]),
         _ => 20 + random.below(28),
     } as usize;
-    let from = random.below((pool.len() - length) as u64) as usize;
-    f[..length].copy_from_slice(&pool[from..from + length]);
     let (mut destination, mut vlan) = key(random);
     let mut number = random.word();
     if !table.is_empty() && !random.chance(1, 16) {
@@ -522,10 +618,7 @@ fn frame(random: &mut Random, pool: &[u8], table: &[Stream], f: &mut [u8; 2100])
             .anchor
             .wrapping_add(difference(random, s.window) as u16);
     }
-    // Whole heads are written where there may be no room for them: f is long enough, and `length` cuts them.
-    f[..6].copy_from_slice(&destination);
-    // The pool's bytes alone would make every second source a group.
-    f[6] = f[6] & 0xFE | u8::from(random.chance(1, 16));
+    start(random, pool, f, length, destination);
     let mut at = 12;
     if vlan != 0 || random.chance(1, 6) {
         f[12..14].copy_from_slice(&[0x81, 0x00]);
@@ -547,20 +640,100 @@ fn frame(random: &mut Random, pool: &[u8], table: &[Stream], f: &mut [u8; 2100])
     length
 }
 
-fn settings(random: &mut Random) -> Settings {
+/// A number for a virtual link that had this one last, most often at an end of what is handed up then.
+fn link_number(random: &mut Random, last: u16) -> u8 {
+    match random.below(12) {
+        0 => random.byte(),
+        1 | 2 => random.pick(&[0, 0, 1, 126, 127, 128, 129, 254, 255]),
+        3 => last as u8,
+        // Round the ring of 256 too.
+        4 => (last as u8).wrapping_add(random.pick(&[1, 127, 128])),
+        _ => {
+            let steps = random.pick(&[1, 1, 1, 2, 126, 127, 128, 129, RING - 2, RING - 1, RING]);
+            ((last % 256 + steps + RING - 1) % RING + 1) as u8
+        }
+    }
+}
+
+/// Writes a frame for a virtual link and gives its length. Most often it is one that a slot of the table takes.
+fn link_frame(random: &mut Random, pool: &[u8], table: &[Stream], f: &mut [u8; 2100]) -> usize {
+    let length = match random.below(16) {
+        0 => random.below(24),
+        1 | 2 => random.pick(&[13, 14, 15, 16, 17, 18, 22]),
+        3 => random.pick(&[1994, 1995, 1999, 2000, 2001, 2002]),
+        _ => 15 + random.below(40),
+    } as usize;
+    let (mut destination, vlan) = key(random);
+    let mut last = link_anchor(random);
+    let links: Vec<&Stream> = table.iter().filter(|s| is_link(s)).collect();
+    let s = match random.below(8) {
+        0 => None,
+        1 => table.get(random.below(64) as usize),
+        _ if links.is_empty() => None,
+        _ => Some(random.pick(&links)),
+    };
+    if let Some(s) = s {
+        let [_, _, six @ ..] = s.dest.to_be_bytes();
+        destination = six;
+        last = s.state.anchor;
+    }
+    start(random, pool, f, length, destination);
+    // Tags, which mean nothing here.
+    let head = [0x81, 0x00, (vlan >> 8) as u8, vlan as u8, 0xF1, 0xC1];
+    match random.below(8) {
+        0 | 1 => f[12..16].copy_from_slice(&head[..4]),
+        2 => f[12..18].copy_from_slice(&head),
+        3 => f[12..14].copy_from_slice(&head[4..]),
+        _ => {}
+    }
+    if length > 0 {
+        f[length - 1] = link_number(random, last);
+    }
+    length
+}
+
+/// A link arrival. Now and then its frame is one for the other streams.
+fn link<'a>(
+    random: &mut Random,
+    pool: &[u8],
+    table: &[Stream],
+    f: &'a mut [u8; 2100],
+) -> (Call<'a>, [usize; 2]) {
+    let length = if random.chance(1, 16) {
+        frame(random, pool, table, f)
+    } else {
+        link_frame(random, pool, table, f)
+    };
+    let call = Call::LinkArrival {
+        network: network(random),
+        frame: &f[..length],
+    };
+    (call, [room(random, length.saturating_sub(1)), 0])
+}
+
+fn settings(random: &mut Random, table: &[Stream]) -> Settings {
     let (destination, vlan) = key(random);
+    let rule = rule(random);
     let mut s = Settings {
         destination,
-        vlan: vlan.min(Stream::VLAN_MOST),
-        rule: 1 + random.below(2) as u8,
+        vlan: lawful_vlan(rule, vlan),
+        rule,
         window: window(random),
         time: time(random),
     };
     match random.below(16) {
         0 => s.vlan = random.pick(&[4095, 4096, 65535]),
-        1 => s.rule = random.pick(&[0, 3, 255]),
-        2 => s.window = random.pick(&[0, 1, 513, 514, 576, 768, 1028, 65535]),
+        1 => s.rule = random.pick(&[0, 3, 4, 255]),
+        2 => s.window = random.pick(&NO_WINDOWS),
         3 => s.time = 0,
+        // Wrong with a virtual link alone.
+        4 => s.vlan = vlan.min(Stream::VLAN_MOST),
+        // The key of a slot.
+        5 if !table.is_empty() => {
+            let of = random.pick(table);
+            let [_, _, six @ ..] = of.dest.to_be_bytes();
+            (s.destination, s.vlan) = (six, of.vlan);
+        }
         _ => {}
     }
     s
@@ -829,17 +1002,18 @@ fn call<'a>(
     table: &[Stream],
     f: &'a mut Frames,
 ) -> (Call<'a>, [usize; 2]) {
-    match random.below(52) {
+    match random.below(56) {
         0 => return batch(random, pool, table, f),
         1..=3 => return send(random, pool, table, &mut f.single),
         4..=6 => return turn(random, pool, table, &mut f.single),
         7 => return (Call::Rebuild, [0, 0]),
+        8..=11 => return link(random, pool, table, &mut f.single),
         _ => {}
     }
     let f = &mut f.single;
     let kind = random.below(32);
     match kind {
-        18..=21 => return (Call::Open(settings(random)), [0, 0]),
+        18..=21 => return (Call::Open(settings(random, table)), [0, 0]),
         22 | 23 => return (Call::Close(slot(random, table)), [0, 0]),
         24 | 25 => return (Call::Reset(slot(random, table)), [0, 0]),
         26 | 27 => return (Call::Tick, [0, 0]),
@@ -865,7 +1039,7 @@ fn call<'a>(
 
 // ---- what came up
 
-const CALLS: [&str; 13] = [
+const CALLS: [&str; 14] = [
     "arrival",
     "open",
     "close",
@@ -879,9 +1053,10 @@ const CALLS: [&str; 13] = [
     "from PRP",
     "to PRP",
     "rebuild",
+    "link arrival",
 ];
 /// The refusals that each call can give.
-const REFUSALS: [&[u8]; 13] = [
+const REFUSALS: [&[u8]; CALLS.len()] = [
     &[1, 2, 3, 4, 5, 14, 6, 7, 8],
     &[1, 18, 9, 10, 11],
     &[1, 18, 12],
@@ -895,6 +1070,7 @@ const REFUSALS: [&[u8]; 13] = [
     &[3, 4, 13, 16, 8],
     &[2, 3, 4, 5, 8],
     &[1, 18],
+    &[1, 2, 3, 4, 14, 6, 7, 8],
 ];
 /// The lengths that an index may not have.
 const LENGTHS: [usize; 3] = [0, INDEX - 1, INDEX + 1];
@@ -1452,7 +1628,7 @@ struct Histories {
 /// The windows that opens must have.
 const OPENED: [u16; 11] = [2, 63, 64, 65, 127, 128, 255, 256, 257, 511, 512];
 
-/// Which of [`HISTORY_FAULTS`] a record has that is damaged by its history alone.
+/// Which of [`HISTORY_FAULTS`] a record has that is damaged by its history alone, and no virtual link.
 fn history_fault(s: &Stream) -> Option<usize> {
     let (history, vector) = (&s.state.history, s.rule == Stream::VECTOR_RULE);
     let high = history[1..].iter().any(|&word| word != 0);
@@ -1472,7 +1648,7 @@ fn history_fault(s: &Stream) -> Option<usize> {
     };
     let mut other = *s;
     other.state.history = [u64::from(vector && s.state.any == 0), 0, 0, 0, 0, 0, 0, 0];
-    fault.filter(|_| s.state.early == 0 && is_damaged(*s) && !is_damaged(other))
+    fault.filter(|_| !is_link(s) && s.state.early == 0 && is_damaged(*s) && !is_damaged(other))
 }
 
 impl Histories {
@@ -1586,8 +1762,353 @@ impl Histories {
     }
 }
 
+/// The steps forward in a virtual link, the numbers behind a 0 and the first numbers that must come up.
+const LINK_STEPS: [u16; 9] = [0, 1, 2, 126, 127, 128, 129, 253, 254];
+const BEHIND_0: [u16; 8] = [0, 1, 126, 127, 128, 129, 254, 255];
+const LINK_FIRST: [u16; 5] = [0, 1, 127, 128, 255];
+/// The lengths that a virtual link's frames must have.
+const LINK_LENGTHS: [usize; 12] = [13, 14, 15, 16, 17, 18, 22, 1994, 1995, 1999, 2000, 2001];
+
+/// How one thing in a record is mended.
+type Mend = fn(&mut Stream);
+/// What alone may make the record of a virtual link damaged, and how that is mended.
+const LINK_FAULTS: [(&str, Mend); 7] = [
+    ("a VLAN id", |s| s.vlan = 0),
+    ("L", |s| s.window = 2),
+    ("R", |s| s.time = 65535),
+    ("the anchor", |s| {
+        s.state.anchor = if s.state.any == 0 { 0 } else { 65535 }
+    }),
+    ("a history", |s| s.state.history = [0; WORDS]),
+    ("n", |s| s.state.early = 0),
+    ("what remains", |s| {
+        s.state.remaining = u16::from(s.state.any == 0)
+    }),
+];
+/// The calls that meet such a record.
+const LINK_MET: [&str; 4] = ["a link arrival", "a tick", "a reset", "a close"];
+/// The calls that look at no virtual link.
+const NOT_LINKS: [&str; 2] = ["an arrival", "a frame of a batch"];
+
+/// What must come up with virtual links.
+#[derive(Default)]
+struct Links {
+    /// By the steps from the last number, where that is no 0; by the number behind a 0; and by the first number.
+    steps: BTreeMap<u16, u64>,
+    behind_0: BTreeMap<u16, u64>,
+    first: BTreeMap<u16, u64>,
+    started_again: u64,
+    round_the_end: u64,
+    /// By the frame's length, where the answer is 3, 4 or a verdict.
+    lengths: BTreeMap<usize, u64>,
+    vlan_tag: u64,
+    vlan_tag_cut: u64,
+    redundancy_tag: u64,
+    /// Handed up and duplicate, then by the size of the output, as [`SIZES`] has them.
+    rooms: [[u64; 4]; 2],
+    /// By refusal, where the output is too small too.
+    before_room: [u64; 15],
+    network_before_length: u64,
+    short_before_group: u64,
+    group_before_stream: u64,
+    /// By [`LINK_FAULTS`], then [`LINK_MET`], and those of an anchor of 256.
+    faults: [[u64; 4]; 7],
+    anchor_256: [u64; 4],
+    behind_other: u64,
+    others_key: u64,
+    other_vlan: u64,
+    /// By [`NOT_LINKS`].
+    behind_link: [u64; 2],
+    links_key: [u64; 2],
+    links_key_with_vlan: [u64; 2],
+    no_rule: [u64; 2],
+    opened: u64,
+    opened_with_vlan: u64,
+    opened_beside_other: u64,
+    other_opened_beside: u64,
+    other_opened_beside_vlan: u64,
+    reset_by_tick: u64,
+    reset_by_call: u64,
+    closed: u64,
+}
+
+impl Links {
+    /// A call, its answer, what it started from and what it left.
+    fn note(&mut self, call: &Call, answer: &Answer, given: Areas, left: Areas) {
+        let table = given.table;
+        match (call, answer) {
+            (&Call::LinkArrival { network, frame }, _) => {
+                self.arrival(network, frame, answer, given)
+            }
+            (&Call::Arrival { frame, .. }, _) => self.other_arrival(0, frame, answer, table),
+            (&Call::Batch { count, frames, .. }, Answer::Batch(told)) => {
+                let (frames, _) = frames_of(count, frames);
+                for (frame, told) in frames.into_iter().zip(&told.answers) {
+                    if let Some(answer) = Answer::of_frame(told) {
+                        self.other_arrival(1, frame, &answer, table);
+                    }
+                }
+            }
+            (Call::Open(s), _) => self.open(s, answer, table),
+            (Call::Tick, Answer::Ticked { .. }) => {
+                for (b, a) in table.iter().zip(left.table).filter(|(b, _)| b.is_used()) {
+                    self.met(1, b);
+                    self.reset_by_tick += u64::from(is_link(b) && a.counts != b.counts);
+                }
+            }
+            (&Call::Reset(slot), Answer::Done | Answer::Refused(7)) => {
+                self.met(2, &table[slot]);
+                let sound = is_link(&table[slot]) && !is_damaged(table[slot]);
+                self.reset_by_call += u64::from(sound);
+            }
+            (&Call::Close(slot), Answer::Done) => {
+                self.met(3, &table[slot]);
+                self.closed += u64::from(is_link(&table[slot]));
+            }
+            _ => {}
+        }
+    }
+
+    /// A slot in use that one of [`LINK_MET`] has met.
+    fn met(&mut self, by: usize, s: &Stream) {
+        if !is_link(s) || !is_damaged(*s) {
+            return;
+        }
+        for ((_, mend), seen) in LINK_FAULTS.iter().zip(&mut self.faults) {
+            let mut mended = *s;
+            mend(&mut mended);
+            let alone = !is_damaged(mended);
+            seen[by] += u64::from(alone);
+            let is_256 = s.state.anchor == 256 && mended.state.anchor == 0;
+            self.anchor_256[by] += u64::from(alone && is_256);
+        }
+    }
+
+    fn arrival(&mut self, network: u8, frame: &[u8], answer: &Answer, given: Areas) {
+        let (table, room) = (given.table, given.outs[0].len());
+        let needed = frame.len().saturating_sub(1);
+        let group = frame.get(6).map_or(false, |first| first & 1 == 1);
+        if let Answer::Refused(n) = *answer {
+            match n {
+                2 => self.network_before_length += u64::from(frame.len() > Stream::FRAME_MOST),
+                4 => self.short_before_group += u64::from(group),
+                8 => {
+                    // It changed nothing, so it can be tried again with enough room.
+                    let mut out = [0; Stream::FRAME_MOST];
+                    let call = Call::LinkArrival { network, frame };
+                    let told = Product::new(table).call(call, [&mut out, &mut []]);
+                    let up = matches!(told, Answer::HandedUp { .. });
+                    self.rooms[usize::from(!up)][size_of(room, needed)] += 1;
+                }
+                14 => {
+                    let none = with_key(table, Key::of_link(frame)).next().is_none();
+                    self.group_before_stream += u64::from(none);
+                }
+                6 => self.unheard(Key::of_link(frame), table),
+                7 => {
+                    let found = with_key(table, Key::of_link(frame)).next();
+                    self.met(0, found.expect("a link has the key"));
+                }
+                _ => {}
+            }
+            self.before_room[usize::from(n)] += u64::from(room < needed);
+        }
+        let verdict = match *answer {
+            Answer::HandedUp { slot, number, .. } => Some((slot, number, 0)),
+            Answer::Duplicate { slot, number } => Some((slot, number, 1)),
+            _ => None,
+        };
+        if verdict.is_some() || matches!(answer, Answer::Refused(3 | 4)) {
+            *self.lengths.entry(frame.len()).or_default() += 1;
+        }
+        if let Some((slot, number, kind)) = verdict {
+            self.rooms[kind][size_of(room, needed)] += 1;
+            let vlan = type_place(frame) == 16;
+            let id = frame.get(14..16).map_or(0, |id| id[0] & 0x0F | id[1]);
+            self.vlan_tag += u64::from(vlan && id != 0);
+            self.vlan_tag_cut += u64::from(vlan && frame.len() < 18);
+            self.redundancy_tag += u64::from(frame[12..14] == [0xF1, 0xC1]);
+            let other = Key::of(&table[slot]).in_other_family();
+            let lower = with_key(&table[..slot], other).next().is_some();
+            self.behind_other += u64::from(lower);
+            self.decided(&table[slot], number, kind == 0);
+        }
+    }
+
+    fn decided(&mut self, s: &Stream, number: u16, up: bool) {
+        let last = s.state.anchor;
+        let (seen, by) = match (s.state.any, last, number) {
+            (1.., _, _) => (&mut self.first, number),
+            (_, 0, _) => (&mut self.behind_0, number),
+            (_, _, 0) => {
+                self.started_again += u64::from(up);
+                return;
+            }
+            _ => (&mut self.steps, (number + RING - last) % RING),
+        };
+        *seen.entry(by).or_default() += 1;
+        self.round_the_end += u64::from(up && number < last);
+    }
+
+    /// A link arrival for which no link has the key.
+    fn unheard(&mut self, key: Key, table: &[Stream]) {
+        let mut others = with_key(table, key.in_other_family());
+        self.others_key += u64::from(others.next().is_some());
+        let mut links = table.iter().filter(|s| s.is_used() && is_link(s));
+        self.other_vlan += u64::from(links.any(|s| s.dest == key.dest));
+    }
+
+    /// What another arrival, as [`NOT_LINKS`] has them, makes of its frame.
+    fn other_arrival(&mut self, by: usize, frame: &[u8], answer: &Answer, table: &[Stream]) {
+        match *answer {
+            Answer::Refused(6) => {
+                let link = Key::of_tagged(frame).in_other_family();
+                let seen = match link.vlan {
+                    0 => &mut self.links_key[by],
+                    _ => &mut self.links_key_with_vlan[by],
+                };
+                *seen += u64::from(with_key(table, link).next().is_some());
+            }
+            Answer::Refused(7) => {
+                let found = with_key(table, Key::of_tagged(frame)).next();
+                let rule = found.expect("a slot has the key").rule;
+                let known = matches!(rule, Stream::VECTOR_RULE | Stream::MATCH_RULE);
+                self.no_rule[by] += u64::from(!known);
+            }
+            Answer::HandedUp { slot, .. } | Answer::Duplicate { slot, .. } => {
+                let link = Key::of(&table[slot]).in_other_family();
+                let lower = with_key(&table[..slot], link).next().is_some();
+                self.behind_link[by] += u64::from(lower);
+            }
+            _ => {}
+        }
+    }
+
+    fn open(&mut self, s: &Settings, answer: &Answer, table: &[Stream]) {
+        let link = s.rule == Stream::LINK_RULE;
+        match *answer {
+            Answer::Opened(_) => self.opened += u64::from(link),
+            Answer::Refused(9) => {
+                let vlan = (1..=Stream::VLAN_MOST).contains(&s.vlan);
+                self.opened_with_vlan += u64::from(link && vlan);
+            }
+            Answer::Refused(10) => {
+                let key = Key {
+                    dest: nippitsun::dest_of(s.destination),
+                    vlan: s.vlan,
+                    link,
+                };
+                let seen = match (link, s.vlan) {
+                    (true, _) => &mut self.opened_beside_other,
+                    (false, 0) => &mut self.other_opened_beside,
+                    (false, _) => &mut self.other_opened_beside_vlan,
+                };
+                // The other family alone has it.
+                *seen += u64::from(with_key(table, key).next().is_none());
+            }
+            _ => {}
+        }
+    }
+
+    fn list(&self, list: &mut Vec<(String, u64)>) {
+        let mut add = |what: String, n| list.push((what, n));
+        for (what, seen, numbers) in [
+            ("steps forward in a link", &self.steps, &LINK_STEPS[..]),
+            ("behind a 0 in a link", &self.behind_0, &BEHIND_0),
+            ("first in a link", &self.first, &LINK_FIRST),
+        ] {
+            for number in numbers {
+                let n = seen.get(number).copied().unwrap_or(0);
+                add(format!("{} {}", number, what), n);
+            }
+        }
+        for length in LINK_LENGTHS {
+            let n = self.lengths.get(&length).copied().unwrap_or(0);
+            add(format!("a link's frame of {} bytes", length), n);
+        }
+        for (verdict, rooms) in ["handed up", "duplicate"].iter().zip(self.rooms) {
+            for (size, n) in SIZES.iter().zip(rooms) {
+                add(format!("in a link, {}: output {}", verdict, size), n);
+            }
+        }
+        for n in [2, 3, 4, 14, 6, 7] {
+            let what = format!("a link arrival: {} where the output is too small too", n);
+            add(what, self.before_room[n]);
+        }
+        for ((fault, _), met) in LINK_FAULTS.iter().zip(self.faults) {
+            for (call, n) in LINK_MET.iter().zip(met) {
+                // No frame leads to a link that has a VLAN id.
+                if (*fault, *call) != ("a VLAN id", "a link arrival") {
+                    add(format!("{} meets a link damaged by {}", call, fault), n);
+                }
+            }
+        }
+        for (call, n) in LINK_MET.iter().zip(self.anchor_256) {
+            add(format!("{} meets a link with anchor 256", call), n);
+        }
+        for (place, call) in NOT_LINKS.iter().enumerate() {
+            for (what, n) in [
+                ("decided, a link with its key is lower", self.behind_link),
+                ("6 where a link has its key", self.links_key),
+                (
+                    "6 where a link with a VLAN id has it",
+                    self.links_key_with_vlan,
+                ),
+                ("7 for a rule that is none", self.no_rule),
+            ] {
+                add(format!("{}: {}", call, what), n[place]);
+            }
+        }
+        for (what, n) in [
+            ("a 0 behind another number", self.started_again),
+            ("a lower number handed up", self.round_the_end),
+            ("8100 and an id that is not 0", self.vlan_tag),
+            ("8100 in fewer than 18 bytes", self.vlan_tag_cut),
+            ("F1C1 at 12", self.redundancy_tag),
+            ("2 where the frame is too long", self.network_before_length),
+            ("4 where the source is a group", self.short_before_group),
+            ("14 where no link has the key", self.group_before_stream),
+            (
+                "decided, another stream with its key is lower",
+                self.behind_other,
+            ),
+            ("6 where another stream has its key", self.others_key),
+            (
+                "6 where a link with a VLAN id has its destination",
+                self.other_vlan,
+            ),
+        ] {
+            add(format!("a link arrival: {}", what), n);
+        }
+        for (what, n) in [
+            ("an open of a link", self.opened),
+            (
+                "an open of a link refused with a VLAN id",
+                self.opened_with_vlan,
+            ),
+            (
+                "10 for a link, another stream alone has the key",
+                self.opened_beside_other,
+            ),
+            (
+                "10 for another stream, a link alone has the key",
+                self.other_opened_beside,
+            ),
+            (
+                "10 for another stream, a link with a VLAN id alone has the key",
+                self.other_opened_beside_vlan,
+            ),
+            ("a tick that resets a link", self.reset_by_tick),
+            ("a reset of a lawful link", self.reset_by_call),
+            ("a close of a link", self.closed),
+        ] {
+            add(String::from(what), n);
+        }
+    }
+}
+
 /// What there may be about an index that agrees.
-const AGREES: [&str; 11] = [
+const AGREES: [&str; 13] = [
     "the rebuilt index",
     "another index",
     "an index without an empty place",
@@ -1599,13 +2120,17 @@ const AGREES: [&str; 11] = [
     "a key followed round the end",
     "one own place of two keys",
     "two keys that differ above the sixth byte alone",
+    "a virtual link beside another stream with its key",
+    "one of those two followed over the name of the other",
 ];
 /// What may be wrong with an index of 128 places.
-const DIFFERS: [&str; 4] = [
+const DIFFERS: [&str; 6] = [
     "a key that is not named",
     "a key named behind an empty place alone",
     "a higher slot found before the lowest",
     "zeros",
+    "a virtual link alone, beside another stream with its key",
+    "another stream alone, beside a virtual link with its key",
 ];
 /// The calls that ask for the agreement, with the refusals that come behind 18.
 const ASKING: [(usize, &[usize]); 3] = [(1, &[9, 10, 11]), (2, &[12]), (7, &[2, 15])];
@@ -1614,16 +2139,16 @@ const ASKING: [(usize, &[usize]); 3] = [(1, &[9, 10, 11]), (2, &[12]), (7, &[2, 
 #[derive(Default)]
 struct Indexes {
     /// By the call, then [`AGREES`], where the call is not refused.
-    agrees: [[u64; 11]; 13],
+    agrees: [[u64; AGREES.len()]; CALLS.len()],
     /// By the call, then [`DIFFERS`], where the answer is 18.
-    differs: [[u64; 4]; 13],
+    differs: [[u64; DIFFERS.len()]; CALLS.len()],
     /// By the call, then [`LENGTHS`]: where the answer is 18, and where it is 1.
-    lengths: [[u64; 3]; 13],
-    lengths_behind_1: [[u64; 3]; 13],
+    lengths: [[u64; 3]; CALLS.len()],
+    lengths_behind_1: [[u64; 3]; CALLS.len()],
     /// By the call, then the refusal that would have come behind 18.
-    before: [[u64; 19]; 13],
+    before: [[u64; 19]; CALLS.len()],
     /// By the call, then its refusal, where the index is another than the rebuilt one.
-    left: [[u64; 19]; 13],
+    left: [[u64; 19]; CALLS.len()],
     rebuilt_from_other: u64,
     rebuilt_from_unlike: u64,
     lower_closed: u64,
@@ -1638,6 +2163,7 @@ struct Followed {
     beyond: bool,
     free: bool,
     other: bool,
+    other_family: bool,
 }
 
 fn followed(table: &[Stream], index: &[u8], key: &Stream) -> Followed {
@@ -1653,6 +2179,7 @@ fn followed(table: &[Stream], index: &[u8], key: &Stream) -> Followed {
             None => on.beyond = true,
             Some(s) if !s.is_used() => on.free = true,
             Some(s) if (s.dest, s.vlan) != (key.dest, key.vlan) => on.other = true,
+            Some(s) if is_link(s) != is_link(key) => on.other_family = true,
             Some(_) => {
                 on.slot = Some(slot);
                 return on;
@@ -1697,14 +2224,20 @@ impl Indexes {
     fn differs(&mut self, kind: usize, table: &[Stream], index: &[u8]) {
         let seen = &mut self.differs[kind];
         seen[3] += u64::from(index.iter().all(|&place| place == EMPTY));
-        let wrong = lowest(table).into_iter().find_map(|slot| {
-            let found = followed(table, index, &table[slot]).slot;
-            (found != Some(slot)).then_some((slot, found))
-        });
-        match wrong {
-            Some((_, Some(_))) => seen[2] += 1,
-            Some((slot, None)) => seen[usize::from(index.contains(&name(slot)))] += 1,
-            None => {}
+        let found = |slot: usize| followed(table, index, &table[slot]).slot;
+        let (right, wrong): (Vec<usize>, Vec<usize>) = lowest(table)
+            .into_iter()
+            .partition(|&slot| found(slot) == Some(slot));
+        if let Some(&slot) = wrong.first() {
+            match found(slot) {
+                Some(_) => seen[2] += 1,
+                None => seen[usize::from(index.contains(&name(slot)))] += 1,
+            }
+        }
+        if let [slot] = wrong[..] {
+            let other = Key::of(&table[slot]).in_other_family();
+            let beside = right.iter().any(|&slot| Key::of(&table[slot]) == other);
+            seen[if other.link { 5 } else { 4 }] += u64::from(beside);
         }
     }
 
@@ -1723,7 +2256,7 @@ impl Indexes {
         let is_higher = |slot: &usize| table[*slot].is_used() && !lowest.contains(slot);
         let is_named = |slot: &usize| index.contains(&name(*slot));
         if let Call::Close(closed) = *call {
-            let key = |slot: usize| (table[slot].dest, table[slot].vlan);
+            let key = |slot: usize| Key::of(&table[slot]);
             let behind = (closed + 1..table.len()).filter(|&slot| key(slot) == key(closed));
             let mut higher = behind.filter(is_higher);
             if let (true, Some(next)) = (lowest.contains(&closed), higher.next()) {
@@ -1732,8 +2265,8 @@ impl Indexes {
             }
         }
         let mut passed = Followed::default();
-        let mut places = [false; INDEX];
-        let (mut one_place, mut above) = (false, false);
+        let mut places = [None; INDEX];
+        let (mut one_place, mut above, mut both) = (false, false, false);
         for &slot in &lowest {
             let s = &table[slot];
             let on = followed(table, index, s);
@@ -1741,11 +2274,17 @@ impl Indexes {
             passed.free |= on.free;
             passed.other |= on.other;
             passed.round |= on.round;
-            one_place |= std::mem::replace(&mut places[own_place(s)], true);
+            passed.other_family |= on.other_family;
+            let key = (s.dest, s.vlan);
+            one_place |= places[own_place(s)].map_or(false, |other| other != key);
+            places[own_place(s)] = Some(key);
             let is_like = |&n: &usize| {
-                n != slot && table[n].vlan == s.vlan && (table[n].dest ^ s.dest) << 16 == 0
+                let (dest, vlan) = (table[n].dest, table[n].vlan);
+                dest != s.dest && vlan == s.vlan && (dest ^ s.dest) << 16 == 0
             };
             above |= s.dest >> 48 != 0 && lowest.iter().any(is_like);
+            let other = Key::of(s).in_other_family();
+            both |= with_key(table, other).next().is_some();
         }
         let seen = [
             own,
@@ -1760,6 +2299,8 @@ impl Indexes {
             passed.round,
             one_place,
             above,
+            both,
+            passed.other_family,
         ];
         for (n, seen) in self.agrees[place(call)].iter_mut().zip(seen) {
             *n += u64::from(seen);
@@ -1805,10 +2346,10 @@ impl Indexes {
 
 /// How often each thing came up.
 struct Seen {
-    calls: [u64; 13],
-    refused: [[u64; 19]; 13],
+    calls: [u64; CALLS.len()],
+    refused: [[u64; 19]; CALLS.len()],
     /// By rule, then handed up, duplicate, rogue.
-    verdicts: [[u64; 3]; 2],
+    verdicts: [[u64; 3]; 3],
     /// By window and difference, in vector streams without take-any.
     differences: BTreeMap<(u16, i32), u64>,
     take_any: u64,
@@ -1826,6 +2367,7 @@ struct Seen {
     prp: Prp,
     early: Early,
     histories: Histories,
+    links: Links,
     indexes: Indexes,
 }
 
@@ -1847,6 +2389,7 @@ fn frames_of(count: usize, mut input: &[u8]) -> (Vec<&[u8]>, &[u8]) {
 fn from_group(call: &Call) -> bool {
     match call {
         Call::Arrival { frame, .. }
+        | Call::LinkArrival { frame, .. }
         | Call::TakeTag { frame }
         | Call::WriteTag { frame, .. }
         | Call::Send { frame } => frame.get(6).map_or(false, |first| first & 1 == 1),
@@ -1869,6 +2412,7 @@ fn place(call: &Call) -> usize {
         Call::FromPrp { .. } => 10,
         Call::ToPrp { .. } => 11,
         Call::Rebuild => 12,
+        Call::LinkArrival { .. } => 13,
     }
 }
 
@@ -1985,12 +2529,12 @@ fn is_damaged(s: Stream) -> bool {
     archive::tick(&mut [s]).damaged == 1
 }
 
-/// Which of [`EARLY_FAULTS`] a record has that is damaged by its n alone.
+/// Which of [`EARLY_FAULTS`] a record has that is damaged by its n alone, and no virtual link.
 fn early_fault(s: &Stream) -> Option<usize> {
     let early = s.state.early;
     let mut other = *s;
     other.state.early = 0;
-    if early == 0 || !is_damaged(*s) || is_damaged(other) {
+    if early == 0 || is_link(s) || !is_damaged(*s) || is_damaged(other) {
         return None;
     }
     Some(match (s.state.any, s.rule) {
@@ -2052,9 +2596,8 @@ impl Early {
     fn handed_up(&mut self, number: u16, b: &Stream, a: &Stream) {
         self.verdict(b);
         if b.state.any != 0 {
-            let vector = b.rule == Stream::VECTOR_RULE;
-            self.first_vector += u64::from(vector);
-            self.first_match += u64::from(!vector);
+            self.first_vector += u64::from(b.rule == Stream::VECTOR_RULE);
+            self.first_match += u64::from(b.rule == Stream::MATCH_RULE);
         }
         let early = b.state.early;
         if early == 0 {
@@ -2134,9 +2677,9 @@ fn is_older(number: u16, s: &Stream) -> bool {
 impl Seen {
     fn new() -> Seen {
         Seen {
-            calls: [0; 13],
-            refused: [[0; 19]; 13],
-            verdicts: [[0; 3]; 2],
+            calls: [0; CALLS.len()],
+            refused: [[0; 19]; CALLS.len()],
+            verdicts: [[0; 3]; 3],
             differences: BTreeMap::new(),
             take_any: 0,
             reserved: 0,
@@ -2153,6 +2696,7 @@ impl Seen {
             prp: Prp::default(),
             early: Early::default(),
             histories: Histories::default(),
+            links: Links::default(),
             indexes: Indexes::default(),
         }
     }
@@ -2168,6 +2712,7 @@ impl Seen {
         let (before, after, room) = (given.table, left.table, given.outs[0].len());
         self.early.note(call, answer, before, after);
         self.histories.note(call, answer, before, after);
+        self.links.note(call, answer, given, left);
         self.calls[kind] += 1;
         self.slots[before.len()] += 1;
         if let Call::Batch {
@@ -2186,15 +2731,7 @@ impl Seen {
             Answer::Refused(n) => {
                 self.refused[kind][usize::from(n)] += 1;
                 if let (Call::Arrival { frame, .. }, 7 | 14) = (call, n) {
-                    let vlan = if frame[12..14] == [0x81, 0x00] {
-                        u16::from_be_bytes([frame[14], frame[15]]) & 0x0FFF
-                    } else {
-                        0
-                    };
-                    let dest = nippitsun::dest_of([
-                        frame[0], frame[1], frame[2], frame[3], frame[4], frame[5],
-                    ]);
-                    let mut slots = with_key(before, dest, vlan);
+                    let mut slots = with_key(before, Key::of_tagged(frame));
                     self.groups[3] += u64::from(n == 14 && slots.clone().next().is_none());
                     if let (7, Some(damaged)) = (n, slots.next()) {
                         self.early.met(0, damaged);
@@ -2243,7 +2780,7 @@ impl Seen {
 
     fn arrived(&mut self, call: &Call, verdict: usize, number: u16, s: &Stream, table: &[Stream]) {
         self.verdicts[usize::from(s.rule) - 1][verdict] += 1;
-        self.shared_key += u64::from(with_key(table, s.dest, s.vlan).count() > 1);
+        self.shared_key += u64::from(with_key(table, Key::of(s)).count() > 1);
         if let Call::Arrival { frame, .. } = call {
             let at = type_place(frame);
             self.reserved += u64::from(frame[at + 2..at + 4] != [0, 0]);
@@ -2270,10 +2807,10 @@ impl Seen {
             }
         }
         let verdicts = ["handed up", "duplicate", "rogue"];
-        for (rule, name) in ["vector", "match"].iter().enumerate() {
+        for (rule, name) in ["vector", "match", "link"].iter().enumerate() {
             for (v, verdict) in verdicts.iter().enumerate() {
-                // The match rule has no rogue.
-                if (rule, v) != (1, 2) {
+                // The vector rule alone has a rogue.
+                if rule == 0 || v < 2 {
                     list.push((
                         format!("{} under the {} rule", verdict, name),
                         self.verdicts[rule][v],
@@ -2299,6 +2836,7 @@ impl Seen {
         self.prp.list(&mut list);
         self.early.list(&mut list);
         self.histories.list(&mut list);
+        self.links.list(&mut list);
         self.indexes.list(&mut list);
         for slots in [0, 1, 63, 64, 65] {
             list.push((format!("calls on {} slots", slots), self.slots[slots]));
@@ -2334,11 +2872,59 @@ fn counted(window: u16, d: i32) -> bool {
             || WIDE.contains(&window) && (far <= 1 || far >= ends - 2 || (far + 1) % 64 <= 2))
 }
 
+/// What an arrival looks for: a key among the virtual links, or among the rest.
+#[derive(Clone, Copy, PartialEq, Eq)]
+struct Key {
+    dest: u64,
+    vlan: u16,
+    link: bool,
+}
+
+impl Key {
+    fn of(s: &Stream) -> Key {
+        Key {
+            dest: s.dest,
+            vlan: s.vlan,
+            link: is_link(s),
+        }
+    }
+
+    fn in_other_family(self) -> Key {
+        Key {
+            link: !self.link,
+            ..self
+        }
+    }
+
+    /// Of a virtual link's frame that is not short.
+    fn of_link(frame: &[u8]) -> Key {
+        let six = [frame[0], frame[1], frame[2], frame[3], frame[4], frame[5]];
+        Key {
+            dest: nippitsun::dest_of(six),
+            vlan: 0,
+            link: true,
+        }
+    }
+
+    /// Of another frame that is not short.
+    fn of_tagged(frame: &[u8]) -> Key {
+        let vlan = match type_place(frame) {
+            16 => u16::from_be_bytes([frame[14], frame[15]]) & 0x0FFF,
+            _ => 0,
+        };
+        Key {
+            vlan,
+            link: false,
+            ..Key::of_link(frame)
+        }
+    }
+}
+
 /// Slots in use with this key.
-fn with_key(table: &[Stream], dest: u64, vlan: u16) -> impl Iterator<Item = &Stream> + Clone {
+fn with_key(table: &[Stream], key: Key) -> impl Iterator<Item = &Stream> + Clone {
     table
         .iter()
-        .filter(move |s| s.is_used() && s.dest == dest && s.vlan == vlan)
+        .filter(move |s| s.is_used() && Key::of(s) == key)
 }
 
 // ---- the run
@@ -2381,6 +2967,74 @@ fn send_in_a_row() -> Result<(), String> {
     println!(
         "{} sends in a row: each number is the index modulo 65536",
         IN_A_ROW
+    );
+    Ok(())
+}
+
+/// A virtual link that had this number last, or a fresh one.
+fn link_behind(last: Option<u8>) -> Stream {
+    Stream {
+        dest: nippitsun::dest_of(DESTINATIONS[0]),
+        window: 2,
+        time: 3,
+        rule: Stream::LINK_RULE,
+        used: 1,
+        state: State {
+            anchor: last.map_or(65535, u16::from),
+            remaining: if last.is_some() { 2 } else { 0 },
+            any: u16::from(last.is_none()),
+            ..State::default()
+        },
+        ..Stream::default()
+    }
+}
+
+/// Every number of a virtual link behind every other, and in a fresh one, which hands up any. Behind another those are that
+/// a sender comes to in 1 to 127 steps, and the 0 that it starts with again.
+fn link_numbers() -> Result<(), String> {
+    let next = |number: &u8| Some(number.checked_add(1).unwrap_or(1));
+    let mut up = 0;
+    for last in (0..=255).map(Some).chain([None]) {
+        let steps = std::iter::successors(last, next).skip(1).take(STEPS);
+        let mut ahead: Vec<u8> = steps.collect();
+        match last {
+            None => ahead.extend(0..=255),
+            Some(0) => {}
+            Some(_) => ahead.push(0),
+        }
+        up += ahead.len();
+        for number in 0..=255 {
+            let frame = [&DESTINATIONS[0][..], &[2; 8], &[number]].concat();
+            let (network, number) = (number % 2, number.into());
+            let call = Call::LinkArrival {
+                network,
+                frame: &frame,
+            };
+            let wanted = if ahead.contains(&(number as u8)) {
+                Answer::HandedUp {
+                    slot: 0,
+                    number,
+                    length: 14,
+                }
+            } else {
+                Answer::Duplicate { slot: 0, number }
+            };
+            let table = [link_behind(last)];
+            let (mut product, mut second) = (Product::new(&table), Second::new(&table));
+            let (mut a, mut b) = ([vec![0; 15], Vec::new()], [vec![0; 15], Vec::new()]);
+            let told = made(&mut product, call, &mut a);
+            let other = made(&mut second, call, &mut b);
+            let same = told == other && a == b && product.record(0) == second.record(0);
+            if !same || told != wanted {
+                let what = format!("DIFFERENT: {} behind {:?} in a link", number, last);
+                return Err(format!("{}: {:?}, {:?}, {:?}", what, told, other, wanted));
+            }
+        }
+    }
+    println!(
+        "every number of a virtual link behind every other and first: {} of {} handed up",
+        up,
+        257 * 256
     );
     Ok(())
 }
@@ -2633,6 +3287,7 @@ fn run(seed: u64, count: u64, mut kept: Option<&mut Vec<u8>>) -> Result<Seen, St
 
 fn compare(seed: u64, count: u64) -> Result<(), String> {
     send_in_a_row()?;
+    link_numbers()?;
     there_and_back(seed)?;
     let seen = run(seed, count, None)?;
     let list = seen.list();

@@ -1,5 +1,5 @@
 //! A fixed list of calls that are run and not proved, with what each answers and changes: document 01, "Run but not proved",
-//! and the places where a slip is likely, orders 1, 3 to 7 and 9 of document 02 among them.
+//! and the places where a slip is likely, orders 1, 3 to 7, 9 and 10 of document 02 among them.
 //!
 //!     vectors product    the list on the compiled product
 //!     vectors second     the list on the second program
@@ -67,6 +67,14 @@ fn frame(length: usize, tags: Tags) -> Vec<u8> {
 /// The frame with another first byte of its source.
 fn from_source(first: u8, mut frame: Vec<u8>) -> Vec<u8> {
     frame[6] = first;
+    frame
+}
+
+/// The frame with another last byte, which is the number in a virtual link.
+fn ending(number: u8, mut frame: Vec<u8>) -> Vec<u8> {
+    if let Some(last) = frame.last_mut() {
+        *last = number;
+    }
     frame
 }
 
@@ -180,6 +188,26 @@ fn wide(window: u16, places: impl IntoIterator<Item = u16>) -> Stream {
 fn with_early(mut record: Stream, early: u16) -> Stream {
     record.state.early = early;
     record
+}
+
+/// A virtual link that handed this number up last, and one tick since.
+fn link(last: u16) -> Stream {
+    Stream {
+        rule: Stream::LINK_RULE,
+        state: State {
+            history: low(0),
+            anchor: last,
+            ..running().state
+        },
+        ..running()
+    }
+}
+
+fn fresh_link() -> Stream {
+    Stream {
+        rule: Stream::LINK_RULE,
+        ..fresh()
+    }
 }
 
 fn settings(rule: u8, window: u16, time: u16) -> Settings {
@@ -471,6 +499,18 @@ impl<S: Side> List<S> {
         );
     }
 
+    fn link_arrival(&mut self, what: &str, network: u8, frame: &[u8], room: usize) {
+        let what = format!("link arrival, {}", what);
+        self.call(&what, Call::LinkArrival { network, frame }, room);
+    }
+
+    /// The arrival of a virtual link's number on a network.
+    fn link_number(&mut self, what: &str, network: u8, number: u8) {
+        let what = format!("{} on {}, {}", number, network, what);
+        let f = ending(number, frame(20, PLAIN));
+        self.link_arrival(&what, network, &f, Stream::FRAME_MOST);
+    }
+
     /// A batch on a stream that runs (slot 0) and on a damaged one with VLAN 5 (slot 1).
     fn batch(&mut self, what: &str, network: u8, count: usize, frames: &[u8], room: usize) {
         let damaged = Stream {
@@ -659,7 +699,7 @@ impl<S: Side> List<S> {
             self.arrival("2001 bytes on network 2", 2, &frame(2001, PLAIN));
             self.call("tick", Call::Tick, 0);
             self.call("open the last one's key", Call::Open(settings(1, 4, 3)), 0);
-            self.call("open with rule 3", Call::Open(settings(3, 4, 3)), 0);
+            self.call("open with rule 4", Call::Open(settings(4, 4, 3)), 0);
             self.call("open another key", Call::Open(other), 0);
             for slot in [63, 64, 65, usize::MAX] {
                 self.call(&format!("reset slot {}", slot), Call::Reset(slot), 0);
@@ -866,7 +906,8 @@ impl<S: Side> List<S> {
         };
         let list = [
             ("rule 0", settings(0, 4, 3)),
-            ("rule 3", settings(3, 4, 3)),
+            ("rule 4", settings(4, 4, 3)),
+            ("rule 255", settings(255, 4, 3)),
             ("L = 0", settings(1, 0, 3)),
             ("L = 260", settings(1, 260, 3)),
             ("match, L = 65", settings(2, 65, 3)),
@@ -917,7 +958,7 @@ impl<S: Side> List<S> {
         let (plain_group, known_group) = (group(plain.clone()), group(known.clone()));
         let stranger_group = group(stranger.clone());
         self.one(Stream {
-            rule: 3,
+            rule: 0,
             ..running()
         });
         for (what, network, frame) in [
@@ -1713,7 +1754,7 @@ impl<S: Side> List<S> {
     fn index_order(&mut self) {
         self.section("The order of checks with an index, on one stream in a full table: every place names it, no place does, and 127 places");
         let calls = [
-            ("open with rule 3", Call::Open(settings(3, 4, 3))),
+            ("open with rule 4", Call::Open(settings(4, 4, 3))),
             ("open with L = 513", Call::Open(settings(1, 513, 3))),
             ("open its key", Call::Open(settings(1, 4, 3))),
             ("open another", Call::Open(settings_to(GROUP))),
@@ -1783,9 +1824,16 @@ impl<S: Side> List<S> {
                 },
             ),
             (
-                "rule 3",
+                "rule 4",
                 Stream {
-                    rule: 3,
+                    rule: 4,
+                    ..running()
+                },
+            ),
+            (
+                "rule 255",
+                Stream {
+                    rule: 255,
                     ..running()
                 },
             ),
@@ -1930,10 +1978,10 @@ impl<S: Side> List<S> {
                 },
             ),
             (
-                "free: rule 3",
+                "free: rule 4",
                 Stream {
                     used: 0,
-                    rule: 3,
+                    rule: 4,
                     ..running()
                 },
             ),
@@ -1953,30 +2001,31 @@ impl<S: Side> List<S> {
             ),
         ];
         for (what, record) in cases {
-            let tags = Tags {
-                vlan: Some(record.vlan),
-                ..tagged(101)
-            };
-            let key = Settings {
-                vlan: record.vlan,
-                ..settings(1, 4, 3)
-            };
-            for (name, call) in [
-                ("tick", Call::Tick),
-                (
-                    "arrival",
-                    Call::Arrival {
-                        network: 0,
-                        frame: &frame(24, tags),
-                    },
-                ),
-                ("open its key", Call::Open(key)),
-                ("reset", Call::Reset(0)),
-                ("close", Call::Close(0)),
-            ] {
-                self.one(record);
-                self.call(&format!("{}: {}", what, name), call, 2000);
-            }
+            self.record_calls(what, record);
+        }
+    }
+
+    /// Each call on a table with that record alone.
+    fn record_calls(&mut self, what: &str, record: Stream) {
+        let tags = Tags {
+            vlan: Some(record.vlan),
+            ..tagged(101)
+        };
+        let key = Settings {
+            vlan: record.vlan,
+            ..settings(1, 4, 3)
+        };
+        let (network, f) = (0, &frame(24, tags));
+        for (name, call) in [
+            ("tick", Call::Tick),
+            ("arrival", Call::Arrival { network, frame: f }),
+            ("link arrival", Call::LinkArrival { network, frame: f }),
+            ("open its key", Call::Open(key)),
+            ("reset", Call::Reset(0)),
+            ("close", Call::Close(0)),
+        ] {
+            self.one(record);
+            self.call(&format!("{}: {}", what, name), call, 2000);
         }
     }
 
@@ -2142,6 +2191,394 @@ impl<S: Side> List<S> {
         self.number("the first, match", 0, 100);
         self.number("d = 3, match", 0, 103);
     }
+
+    fn link_numbers(&mut self) {
+        self.section("Virtual links: a number behind another, and the first");
+        let edges = [0, 1, 126, 127, 128, 129, 254, 255];
+        self.link_row(&[0, 1, 126, 127, 128, 129, 254, 255], None);
+        for last in [0, 1, 2, 126, 127, 128, 129, 254, 255] {
+            let mut numbers = edges.to_vec();
+            for steps in [0, 1, 2, 126, 127, 128, 129, 253, 254] {
+                numbers.push(((u16::from(last) + steps + 254) % 255 + 1) as u8);
+            }
+            numbers.sort_unstable();
+            numbers.dedup();
+            self.link_row(&numbers, Some(last));
+        }
+
+        self.section("Virtual links: a sender that starts again, on two networks");
+        self.table(&[Stream::default()]);
+        self.call("open", Call::Open(settings(3, 2, 3)), 0);
+        for (what, network, number) in [
+            ("the first", 0, 0),
+            ("its twin", 1, 0),
+            ("one step", 1, 1),
+            ("its twin", 0, 1),
+            ("three steps", 0, 4),
+            ("passed over", 1, 3),
+            ("127 steps", 0, 131),
+            ("128 steps", 0, 4),
+            ("124 steps", 1, 255),
+            ("one step round the end", 1, 1),
+            ("its twin", 0, 1),
+            ("the sender starts again", 0, 0),
+            ("one behind it", 0, 1),
+            ("the slower network's last", 1, 1),
+            ("the slower network's 0", 1, 0),
+            ("its 1", 1, 1),
+        ] {
+            self.link_number(what, network, number);
+        }
+
+        self.section("Virtual links: ticks, a reset, a close, and an open");
+        self.one(link(200));
+        self.call("tick where 2 remain", Call::Tick, 0);
+        self.link_number("127 steps", 0, 72);
+        self.call("tick where 3 remain", Call::Tick, 0);
+        self.link_number("128 steps", 1, 200);
+        self.call("tick", Call::Tick, 0);
+        self.link_number("its twin", 1, 72);
+        self.call("tick", Call::Tick, 0);
+        self.call("tick of a fresh one", Call::Tick, 0);
+        self.link_number("any number", 1, 200);
+        self.call("reset", Call::Reset(0), 0);
+        self.link_number("the same again", 0, 200);
+        self.call("close", Call::Close(0), 0);
+        self.link_number("after the close", 0, 201);
+        self.call("open", Call::Open(settings(3, 512, 1)), 0);
+        self.link_number("the same again", 0, 200);
+        self.call("tick", Call::Tick, 0);
+
+        self.section("Virtual links: counters at 2^64 - 1");
+        for (what, network, number) in [
+            ("one step", 0, 101),
+            ("127 steps", 1, 227),
+            ("128 steps", 0, 228),
+            ("a 0", 1, 0),
+        ] {
+            self.one(Stream {
+                counts: full_counts(),
+                ..link(100)
+            });
+            self.link_number(what, network, number);
+        }
+    }
+
+    /// Each number in a link that had this one last, or in a fresh one.
+    fn link_row(&mut self, numbers: &[u8], last: Option<u8>) {
+        for &number in numbers {
+            self.one(last.map_or(fresh_link(), |last| link(last.into())));
+            let what = last.map_or(String::from("first"), |last| format!("behind {}", last));
+            self.link_number(&what, number % 2, number);
+        }
+    }
+
+    fn link_frames(&mut self) {
+        self.section("Virtual links: each length with and without 8100 and F1C1, beside a stream with VLAN 5 (slot 1)");
+        let vlan = Some(5);
+        let number = Some((0, 7));
+        let kinds = [
+            ("plain", None, None),
+            ("8100", vlan, None),
+            ("F1C1", None, number),
+            ("8100 F1C1", vlan, number),
+        ];
+        let other = Stream { vlan: 5, ..fresh() };
+        for length in [
+            0, 1, 13, 14, 15, 16, 17, 18, 19, 22, 1994, 1995, 1999, 2000, 2001,
+        ] {
+            for (kind, vlan, redundancy) in kinds {
+                // Where a mark does not fit before the last byte, the frame is the same without it.
+                if (vlan.is_some() && length < 15)
+                    || (redundancy.is_some() && length < if vlan.is_some() { 19 } else { 15 })
+                {
+                    continue;
+                }
+                let f = ending(9, frame(length, Tags { vlan, redundancy }));
+                self.table(&[link(8), other]);
+                let what = format!("{} bytes, {}", length, kind);
+                self.link_arrival(&what, 0, &f, 2000);
+                self.arrival(&what, 0, &f);
+            }
+        }
+
+        self.section("Virtual links: outputs of just the size, and one byte too small");
+        for length in [15, 24, 2000] {
+            for (what, number) in [("new", 9), ("duplicate", 8), ("128 steps", 136)] {
+                let f = ending(number, frame(length, PLAIN));
+                for room in [0, length - 7, length - 2, length - 1, length, length + 1] {
+                    self.one(link(8));
+                    let what = format!("{}, {} bytes, output of {}", what, length, room);
+                    self.link_arrival(&what, 0, &f, room);
+                }
+            }
+        }
+
+        self.section(
+            "Virtual links: the first byte of the source, and a group for a destination (slot 1)",
+        );
+        let to_group = Stream {
+            dest: dest_of(GROUP),
+            ..link(8)
+        };
+        for first in [0x00, 0x01, 0x02, 0x03, 0x80, 0xFE, 0xFF] {
+            let mut f = from_source(first, ending(9, frame(20, PLAIN)));
+            let what = format!("source {:02x}..", first);
+            self.table(&[link(8), to_group]);
+            self.link_arrival(&what, 0, &f, 2000);
+            f[..6].copy_from_slice(&GROUP);
+            self.link_arrival(&format!("{}, to the group", what), 1, &f, 2000);
+        }
+
+        self.section("Virtual links: the order of checks: each call has every later fault too, and an output of 0 bytes");
+        let group = |length| from_source(3, ending(9, frame(length, PLAIN)));
+        let (mut stranger, known) = (group(20), ending(9, frame(20, PLAIN)));
+        stranger[5] = 9;
+        let unknown = from_source(2, stranger.clone());
+        let damaged = link(256);
+        let calls = [
+            ("network 2, 2001 bytes", 2, group(2001)),
+            ("network 255, 14 bytes", 255, group(14)),
+            ("2001 bytes", 1, group(2001)),
+            ("14 bytes", 1, group(14)),
+            ("group source", 1, stranger),
+            ("another destination", 1, unknown),
+            ("damaged", 1, known),
+        ];
+        let mut long = vec![Stream::default(); 65];
+        long[0] = damaged;
+        for (slots, table) in [("1 slot", &[damaged][..]), ("65 slots", &long)] {
+            self.table(table);
+            for (what, network, f) in &calls {
+                self.link_arrival(&format!("{}, {}", slots, what), *network, f, 0);
+            }
+        }
+
+        self.section("Virtual links: tables of 0, 64 and 65 slots, the link in the last one");
+        for slots in [0, 64, 65] {
+            let mut records = vec![Stream::default(); slots];
+            if let Some(last) = records.last_mut() {
+                *last = link(8);
+            }
+            self.table(&records);
+            self.link_number(&format!("{} slots", slots), 0, 9);
+            self.call("open its key", Call::Open(settings(3, 4, 3)), 0);
+            self.call("tick", Call::Tick, 0);
+        }
+    }
+
+    fn link_records(&mut self) {
+        self.section("Virtual links: settings of an open");
+        let with_vlan = |vlan| Settings {
+            vlan,
+            ..settings(3, 4, 3)
+        };
+        for (what, s) in [
+            ("L = 1", settings(3, 1, 3)),
+            ("L = 2", settings(3, 2, 3)),
+            ("L = 512", settings(3, 512, 3)),
+            ("L = 513", settings(3, 513, 3)),
+            ("R = 0", settings(3, 4, 0)),
+            ("R = 65535", settings(3, 4, 65535)),
+            ("VLAN 1", with_vlan(1)),
+            ("VLAN 5", with_vlan(5)),
+            ("VLAN 4094", with_vlan(4094)),
+            ("VLAN 4095", with_vlan(4095)),
+            ("VLAN 65535", with_vlan(65535)),
+        ] {
+            self.table(&[Stream::default()]);
+            self.call(&format!("open a link, {}", what), Call::Open(s), 0);
+        }
+        self.one(running());
+        let open = Call::Open(with_vlan(5));
+        self.call("open a link, VLAN 5, table full", open, 0);
+        let open = Call::Open(settings(3, 4, 3));
+        self.call("open a link, key in use, table full", open, 0);
+
+        self.section("Virtual links: damaged records of every kind, and lawful ones");
+        let state = |change: fn(&mut State)| {
+            let mut s = link(100);
+            change(&mut s.state);
+            s
+        };
+        let fresh_state = |change: fn(&mut State)| {
+            let mut s = fresh_link();
+            change(&mut s.state);
+            s
+        };
+        let vlan = |vlan| Stream { vlan, ..link(100) };
+        let window = |window| Stream {
+            window,
+            ..link(100)
+        };
+        for (what, record) in [
+            ("anchor 256", link(256)),
+            ("anchor 257", link(257)),
+            ("anchor 356", link(356)),
+            ("anchor 65535", link(65535)),
+            ("bit 0", state(|s| s.history = low(1))),
+            ("bit 511", state(|s| s.history = marked([511]))),
+            ("n = 1", state(|s| s.early = 1)),
+            ("n = L - 1, bit 0", {
+                let mut s = with_early(link(100), 3);
+                s.state.history = low(1);
+                s
+            }),
+            ("remaining 0", state(|s| s.remaining = 0)),
+            ("remaining above R", state(|s| s.remaining = 4)),
+            ("take-any, anchor 0", fresh_state(|s| s.anchor = 0)),
+            ("take-any, anchor 255", fresh_state(|s| s.anchor = 255)),
+            (
+                "take-any, bit 64",
+                fresh_state(|s| s.history = marked([64])),
+            ),
+            ("take-any, remaining 1", fresh_state(|s| s.remaining = 1)),
+            ("take-any, n = 1", fresh_state(|s| s.early = 1)),
+            ("L = 1", window(1)),
+            ("L = 513", window(513)),
+            (
+                "R = 0",
+                Stream {
+                    time: 0,
+                    ..link(100)
+                },
+            ),
+            ("VLAN 1", vlan(1)),
+            ("VLAN 5", vlan(5)),
+            ("VLAN 4094", vlan(4094)),
+            ("VLAN 4095", vlan(4095)),
+            (
+                "fresh, VLAN 5",
+                Stream {
+                    vlan: 5,
+                    ..fresh_link()
+                },
+            ),
+            ("lawful: anchor 0", link(0)),
+            ("lawful: anchor 100", link(100)),
+            ("lawful: anchor 255", link(255)),
+            ("lawful: L = 2", window(2)),
+            ("lawful: L = 512", window(512)),
+            ("lawful: fresh", fresh_link()),
+            (
+                "lawful: in use 2, take-any 256",
+                Stream {
+                    used: 2,
+                    ..fresh_state(|s| s.any = 256)
+                },
+            ),
+            (
+                "lawful: a destination of seven bytes",
+                Stream {
+                    dest: 1 << 48 | dest_of(DESTINATION),
+                    ..link(100)
+                },
+            ),
+            (
+                "free: anchor 256",
+                Stream {
+                    used: 0,
+                    ..link(256)
+                },
+            ),
+        ] {
+            self.record_calls(what, record);
+        }
+    }
+
+    fn families(&mut self) {
+        self.section("A virtual link and another stream with one key, side by side: each call looks at its own, and an open at both");
+        let batch = packed(&numbered(&[101, 101]));
+        let damaged = Stream {
+            window: 513,
+            ..running()
+        };
+        let none = Stream {
+            rule: 4,
+            ..running()
+        };
+        for (what, records) in [
+            ("the link first", [link(100), running()]),
+            ("the link last", [running(), link(100)]),
+            ("a damaged link first", [link(256), running()]),
+            ("a damaged one first", [damaged, link(100)]),
+            ("a rule that is none first", [none, link(100)]),
+            ("a rule that is none last", [link(100), none]),
+            ("two links, the lower damaged", [link(256), link(100)]),
+            ("two links", [link(100), link(200)]),
+            (
+                "a free link first",
+                [
+                    Stream {
+                        used: 0,
+                        ..link(100)
+                    },
+                    running(),
+                ],
+            ),
+            (
+                "a free one first",
+                [
+                    Stream {
+                        used: 0,
+                        ..running()
+                    },
+                    link(100),
+                ],
+            ),
+        ] {
+            self.table(&[records[0], records[1], Stream::default()]);
+            self.link_number(what, 0, 101);
+            self.number(what, 0, 101);
+            self.batch_here(what, 1, 2, &batch, 60);
+            self.call("open its key", Call::Open(settings(1, 4, 3)), 0);
+            self.call("open its key for a link", Call::Open(settings(3, 4, 3)), 0);
+            self.call("tick", Call::Tick, 0);
+            self.call("close slot 0", Call::Close(0), 0);
+            self.link_number("the same", 1, 102);
+            self.number("the same", 1, 102);
+            self.call("close slot 1", Call::Close(1), 0);
+            self.call("open its key for a link", Call::Open(settings(3, 4, 3)), 0);
+            self.batch_here("to the link", 0, 2, &batch, 60);
+        }
+
+        self.section("A virtual link and another stream with one key, whose own place is 127, in slots 0 and 2; slot 1 is free");
+        let (key, other) = (at_place(127, 0), at_place(127, 1));
+        let a_link = Stream {
+            dest: dest_of(key),
+            ..link(100)
+        };
+        let free = Stream {
+            used: 0,
+            ..running()
+        };
+        for (order, records) in [
+            ("link, other", [a_link, free, running_to(key)]),
+            ("other, link", [running_to(key), free, a_link]),
+            ("link, link", [a_link, free, a_link]),
+        ] {
+            for (what, index) in [
+                ("the rebuilt one", index_of(0, &[(127, 1), (0, 3)])),
+                ("the higher first", index_of(0, &[(127, 3), (0, 1)])),
+                ("the lower alone", index_of(0, &[(127, 1)])),
+                ("the higher alone", index_of(0, &[(127, 3)])),
+                ("an empty place between", index_of(0, &[(127, 1), (1, 3)])),
+                ("all name the lower", index_of(1, &[])),
+                ("all name the higher", index_of(3, &[])),
+                (
+                    "no empty place, all name the lower but one",
+                    index_of(1, &[(64, 3)]),
+                ),
+                (
+                    "no empty place, all name the higher but one",
+                    index_of(3, &[(64, 1)]),
+                ),
+            ] {
+                let what = format!("{}, {}", order, what);
+                self.index_calls(&what, &records, &index, [key, key, other]);
+            }
+        }
+    }
 }
 
 fn full_counts() -> Counts {
@@ -2188,6 +2625,10 @@ fn run<S: Side>() -> List<S> {
     list.shared_names();
     list.index_tables();
     list.index_order();
+    list.link_numbers();
+    list.link_frames();
+    list.link_records();
+    list.families();
     list
 }
 

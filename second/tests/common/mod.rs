@@ -8,7 +8,7 @@ use std::panic::catch_unwind;
 use second::history::History;
 use second::random::Random;
 use second::wrong::{self, Wrong};
-use second::{arrival, rebuild, Arrival, Batch, Refusal, Settings, Stream, Verdict};
+use second::{arrival, rebuild, Arrival, Batch, Family, Refusal, Settings, Stream, Verdict};
 
 /// The destination most tests use.
 pub const DESTINATION: [u8; 6] = [2, 0, 0, 0, 0, 1];
@@ -122,6 +122,18 @@ pub fn untagged_to(destination: [u8; 6], tci: Option<u16>) -> Vec<u8> {
     }
     frame.extend([0x08, 0x00, 0x77]);
     frame
+}
+
+/// A virtual link's frame to this destination with this number.
+pub fn numbered_to(destination: [u8; 6], number: u8) -> Vec<u8> {
+    let mut frame = untagged_to(destination, None);
+    frame.push(number);
+    frame
+}
+
+/// A virtual link's frame with this number.
+pub fn numbered(number: u8) -> Vec<u8> {
+    numbered_to(DESTINATION, number)
 }
 
 /// Do these two bytes stand at the place?
@@ -245,31 +257,35 @@ pub fn keys_at(place: usize) -> Vec<Key> {
         .collect()
 }
 
-/// Is the slot in use with this key?
-fn has(stream: &Stream, key: Key) -> bool {
-    stream.in_use != 0 && (stream.destination, stream.vlan) == key
+/// Both families of slots.
+pub const FAMILIES: [Family; 2] = [Family::Links, Family::Rest];
+
+/// Is the slot in use with this key, and of this family?
+fn has(stream: &Stream, key: Key, family: Family) -> bool {
+    let links = family == Family::Links;
+    stream.in_use != 0 && (stream.destination, stream.vlan) == key && (stream.rule == 3) == links
 }
 
 /// What following from the key finds in 128 places: the places in their order
 /// round the end, up to an empty one, and of those the first that names a slot
-/// in use with the key.
-pub fn followed(table: &[Stream], index: &[u8], key: Key) -> Option<usize> {
+/// in use with the key and of the family.
+pub fn followed(table: &[Stream], index: &[u8], key: Key, family: Family) -> Option<usize> {
     let own = place_of(key);
     [&index[own..], &index[..own]]
         .concat()
         .into_iter()
         .take_while(|&place| place != 0)
         .map(|place| usize::from(place) - 1)
-        .find(|&slot| slot < table.len() && has(&table[slot], key))
+        .find(|&slot| slot < table.len() && has(&table[slot], key, family))
 }
 
 /// What following from the key must find.
-pub fn lowest(table: &[Stream], key: Key) -> Option<usize> {
-    (0..table.len()).find(|&slot| has(&table[slot], key))
+pub fn lowest(table: &[Stream], key: Key, family: Family) -> Option<usize> {
+    (0..table.len()).find(|&slot| has(&table[slot], key, family))
 }
 
 /// Do index and table agree, tried with the keys of all slots, free ones among
-/// them, and with some others?
+/// them, and with some others, each in both families?
 pub fn agree(table: &[Stream], index: &[u8]) -> bool {
     let slots = table.iter().map(|s| (s.destination, s.vlan));
     let others = DESTINATIONS
@@ -280,7 +296,8 @@ pub fn agree(table: &[Stream], index: &[u8]) -> bool {
         && slots
             .chain(others)
             .chain(any)
-            .all(|key| followed(table, index, key) == lowest(table, key))
+            .flat_map(|key| FAMILIES.map(|family| (key, family)))
+            .all(|(key, family)| followed(table, index, key, family) == lowest(table, key, family))
 }
 
 /// The index with these slots entered, in this order, each at the first empty
@@ -319,11 +336,18 @@ pub fn any_index(random: &mut Random, table: &[Stream]) -> Vec<u8> {
             slots.swap(at, random.below(at as u64 + 1) as usize);
         }
     }
-    // Only the lowest slot of each key, as an index may have it.
+    // Only the lowest slot of each key, as an index may have it, in each family
+    // or, which will not do with both, of all.
     if random.chance(1, 3) {
+        let of_all = random.chance(1, 4);
         slots.retain(|&slot| {
             let key = (table[slot].destination, table[slot].vlan);
-            lowest(table, key) == Some(slot)
+            match of_all {
+                true => FAMILIES.iter().all(|&family| {
+                    lowest(table, key, family).map_or(true, |lowest| lowest >= slot)
+                }),
+                false => lowest(table, key, table[slot].family()) == Some(slot),
+            }
         });
     }
     if random.chance(1, 12) {
@@ -384,7 +408,7 @@ pub fn number_of<T>(answer: Result<T, Refusal>) -> u8 {
 
 /// A record with anything in it, often nearly lawful.
 pub fn any_stream(random: &mut Random, destinations: &[[u8; 6]], vlans: &[u16]) -> Stream {
-    let rule = random.pick(&[1, 1, 1, 2, 2, 0, 3]);
+    let rule = random.pick(&[1, 1, 1, 1, 2, 2, 3, 3, 0, 4]);
     let window = random.pick(&[
         2, 3, 4, 8, 63, 64, 64, 65, 127, 128, 255, 256, 257, 300, 511, 512, 512, 1, 0, 513, 65535,
     ]);
@@ -406,6 +430,9 @@ pub fn any_stream(random: &mut Random, destinations: &[[u8; 6]], vlans: &[u16]) 
     if random.chance(2, 3) {
         stream.take_any = 0;
         stream.anchor = random.pick(&[0, 1, 2, 65534, 65535, 32767, 32768, 7]);
+        if rule == 3 {
+            stream.anchor = random.pick(&[0, 1, 2, 126, 127, 128, 129, 254, 255, 256]);
+        }
         stream.remaining = reset_time.min(random.pick(&[1, 1, 2, 65535]));
         if rule == 1 {
             for (at, word) in stream.history.iter_mut().enumerate() {
@@ -499,6 +526,18 @@ pub fn any_frame(random: &mut Random) -> Vec<u8> {
         0 => frame.truncate(random.pick(&[0, 5, 13, 14, 17, 18, 19, 20, 23, 24])),
         1 => frame.resize(random.pick(&[1994, 1995, 2000, 2001, 2010]), 0x44),
         _ => {}
+    }
+    frame
+}
+
+/// A frame of a virtual link of such a table, which may look like a tagged one.
+pub fn any_numbered(random: &mut Random) -> Vec<u8> {
+    let mut frame = any_frame(random);
+    if random.chance(1, 12) {
+        frame.truncate(random.pick(&[13, 14, 15, 16, 17]));
+    }
+    if let Some(last) = frame.last_mut() {
+        *last = random.pick(&[0, 0, 1, 2, 125, 126, 127, 128, 129, 253, 254, 255]);
     }
     frame
 }
