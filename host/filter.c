@@ -87,6 +87,17 @@ unsigned short filter_write(struct sock_filter program[FILTER_MOST], const nippi
 {
     struct sock_filter *at = program;
     PUT(at, coming_in);
+    for (size_t i = 0; i < NIPPITSUN_SLOTS_MOST; i++) {
+        if (!table[i].used || table[i].rule != NIPPITSUN_RULE_LINK) continue;
+        const struct sock_filter link[] = {
+            BPF_STMT(BPF_LD | BPF_W | BPF_ABS, 2),
+            BPF_JUMP(BPF_JMP | BPF_JEQ | BPF_K, (uint32_t)table[i].dest, 0, 3),
+            BPF_STMT(BPF_LD | BPF_H | BPF_ABS, 0),
+            BPF_JUMP(BPF_JMP | BPF_JEQ | BPF_K, (uint32_t)(table[i].dest >> 32), 0, 1),
+            BPF_STMT(BPF_RET | BPF_K, UINT32_MAX), // all of the frame
+        };
+        PUT(at, link);
+    }
     if (prp == NO_PRP) PUT(at, tagged);
     else {
         if (prp == NIPPITSUN_PRP_2012) PUT(at, trailer);
@@ -94,7 +105,7 @@ unsigned short filter_write(struct sock_filter program[FILTER_MOST], const nippi
     }
     PUT(at, keep_id);
     for (size_t i = 0; i < NIPPITSUN_SLOTS_MOST; i++) {
-        if (!table[i].used) continue;
+        if (!table[i].used || table[i].rule == NIPPITSUN_RULE_LINK) continue;
         // The low four bytes of the destination differ more often than the high two.
         const struct sock_filter key[FILTER_KEY] = {
             BPF_STMT(BPF_LD | BPF_W | BPF_ABS, 2),

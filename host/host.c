@@ -163,13 +163,20 @@ void write_address(char text[ADDRESS_TEXT], uint64_t dest)
     for (int i = 0; i < ADDRESS; i++) snprintf(text + 3 * i, 4, "%02x%s", (unsigned)(dest >> 8 * (ADDRESS - 1 - i) & 255), i < ADDRESS - 1 ? ":" : "");
 }
 
+static const char *const rules[] = {[NIPPITSUN_RULE_VECTOR] = "vector", [NIPPITSUN_RULE_MATCH] = "match", [NIPPITSUN_RULE_LINK] = "afdx"};
+
+const char *rule_words(uint8_t rule)
+{
+    return rule < NIPPITSUN_RULE_VECTOR || rule > NIPPITSUN_RULE_LINK ? "none" : rules[rule];
+}
+
 // A name or, for the library to judge, any number that a rule's byte holds.
 static uint8_t read_rule(const char *text)
 {
-    if (strcmp(text, "vector") == 0) return NIPPITSUN_RULE_VECTOR;
-    if (strcmp(text, "match") == 0) return NIPPITSUN_RULE_MATCH;
+    for (uint8_t rule = NIPPITSUN_RULE_VECTOR; rule <= NIPPITSUN_RULE_LINK; rule++)
+        if (strcmp(text, rules[rule]) == 0) return rule;
     uint64_t n;
-    if (!find_number(text, 0, UINT8_MAX, &n)) refuse("rule '%s' is neither vector nor match", text);
+    if (!find_number(text, 0, UINT8_MAX, &n)) refuse("rule '%s' is not vector, match or afdx", text);
     return (uint8_t)n;
 }
 

@@ -64,6 +64,9 @@ void write_address(char text[ADDRESS_TEXT], uint64_t dest);
 // DEST,VLAN,RULE,L,R, or refuse.
 struct settings read_settings(const char *text);
 
+// How a stream's rule is called there; afdx is a virtual link.
+const char *rule_words(uint8_t rule);
+
 // The kind of trailer on a PRP line (enum nippitsun_prp): first or 2012, or refuse.
 int read_prp(const char *text);
 

@@ -34,6 +34,10 @@ static struct up up;
 static struct watches watches = {.table = table, .ports = ports};
 static struct report report = {.table = table, .ports = ports, .order = &order, .up = &up, .watches = &watches};
 
+// The destinations of virtual links. All frames that go there are theirs: no other stream has one of these.
+static uint64_t links[NIPPITSUN_SLOTS_MOST];
+static size_t link_count;
+
 // Ticks of the wait at the start that are still to come. Until then the table is empty, and nothing is called.
 static uint16_t ticks_to_wait;
 static volatile sig_atomic_t asked_to_end, asked_to_say;
@@ -46,10 +50,23 @@ static void on_signal(int signal)
 
 // ---- calls
 
+// Does a frame go to a virtual link's destination?
+static int goes_to_link(const uint8_t *frame, size_t length)
+{
+    if (link_count == 0 || length < ADDRESS) return 0;
+    uint64_t dest = 0;
+    for (int i = 0; i < ADDRESS; i++) dest = dest << 8 | frame[i];
+    size_t i = 0;
+    while (i < link_count && links[i] != dest) i++;
+    return i < link_count;
+}
+
 static void arrive(int network, const uint8_t *frame, size_t length)
 {
     uint8_t out[NIPPITSUN_FRAME_MOST];
-    nippitsun_arrival_answer a = nippitsun_arrival(table, NIPPITSUN_SLOTS_MOST, (uint8_t)network, frame, length, out, sizeof out);
+    nippitsun_arrival_answer a = goes_to_link(frame, length)
+        ? nippitsun_link_arrival(table, NIPPITSUN_SLOTS_MOST, (uint8_t)network, frame, length, out, sizeof out)
+        : nippitsun_arrival(table, NIPPITSUN_SLOTS_MOST, (uint8_t)network, frame, length, out, sizeof out);
     if (a.verdict == NIPPITSUN_VERDICT_HANDED_UP) up_put(&up, a, out);
     report.refused[a.refusal]++;
     if (a.verdict != NIPPITSUN_VERDICT_NONE) watch_arrival(&watches, a, network, order.time);
@@ -314,6 +331,12 @@ static unsigned ring_slots(void)
     return RING_MOST;
 }
 
+static void list_links(void)
+{
+    EACH_SLOT(wishes.table, i)
+        if (wishes.table[i].rule == NIPPITSUN_RULE_LINK) links[link_count++] = wishes.table[i].dest;
+}
+
 static void open_ports(void)
 {
     static struct sock_filter program[FILTER_MOST];
@@ -369,6 +392,7 @@ int main(int count, char **words)
     report.prp = wishes.prp;
     report.file = wishes.stats;
     watches.alarm = wishes.alarm;
+    list_links();
     name_ports();
     report_lock(&report);
     sigset_t held, outside;

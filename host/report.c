@@ -29,8 +29,8 @@ static void say_stream(const struct report *r, size_t slot)
     write_address(dest, s->dest);
     say("slot %zu dest %s vlan %u rule %s L %u R %u arrivals0 %" PRIu64 " arrivals1 %" PRIu64 " passed %" PRIu64 " discarded %" PRIu64 " rogue %" PRIu64
         " out_of_order %" PRIu64 " lost %" PRIu64 " resets %" PRIu64 " silences0 %" PRIu64 " returns0 %" PRIu64 " silences1 %" PRIu64 " returns1 %" PRIu64,
-        slot, dest, s->vlan, s->rule == NIPPITSUN_RULE_VECTOR ? "vector" : "match", s->window, s->time, c->arrivals0, c->arrivals1, c->passed, c->discarded,
-        c->rogue, c->disorder, c->lost, c->resets, w->silences[0], w->returns[0], w->silences[1], w->returns[1]);
+        slot, dest, s->vlan, rule_words(s->rule), s->window, s->time, c->arrivals0, c->arrivals1, c->passed, c->discarded, c->rogue, c->disorder, c->lost,
+        c->resets, w->silences[0], w->returns[0], w->silences[1], w->returns[1]);
 }
 
 static void say_network(const struct report *r, int network)

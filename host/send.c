@@ -1,6 +1,7 @@
 // send: the frames of a stream on two network interfaces, numbered and tagged by the proved sender, with losses and skew; or of
-// many streams by the clock; with tags, or with the trailers of a PRP line. Each frame carries its index, so that a test can tell
-// which came through. A copy that can't be sent is dropped, and the other network's goes out all the same.
+// many streams by the clock; with tags, or with the trailers of a PRP line. Or the frames of virtual links, which are numbered here:
+// no proved sender does it. Each frame carries its index, so that a test can tell which came through. A copy that can't be sent is
+// dropped, and the other network's goes out all the same.
 #include "clock.h"
 #include "host.h"
 #include "nippitsun.h"
@@ -35,23 +36,27 @@ enum { INDEX_BYTES = 8, LONGEST_HEAD = TYPE_AT + VLAN_TAG + 2 };
 // 88FB with the kind of 2012.
 enum { CARD_LEAST = 60, TRAILER_FIRST = 4, TRAILER_2012 = 6 };
 
+// The number of a virtual link's frame stands in its last byte: 0 at a start, then 1 to 255, and 1 again.
+enum { LINK_NUMBER = 1, LINK_LAST = 255 };
+
 static const char usage[] =
     "usage: send [OPTION].. INTERFACE0 INTERFACE1\n"
     "  --dest DEST    destination address in hex (020000000001)\n"
     "  --vlan ID      put a VLAN tag in; none without this option\n"
-    "  --first N      the first index (0); the sender begins with N modulo 65536 as its number\n"
+    "  --first N      the first index (0); the sender begins with N modulo 65536 as its number, or with the number of the N-th frame behind a start (--afdx)\n"
     "  --count N      indices to send (1000)\n"
     "  --restart N    after every N indices the sender is reset: the next frame has number 0, and indices go on; and\n"
     "    --silent MS  nothing is sent for MS milliseconds before that (0)\n"
-    "  --size N       bytes of a frame before the tag is put in (60)\n"
+    "  --size N       bytes of a frame before the tag, or what is in its place, is put in (60)\n"
     "  --prp KIND     a PRP line: trailers of the first edition (first) or of 2012 (2012) in place of tags\n"
+    "  --afdx         an AFDX virtual link: the number is the last byte, 0 and then 1 to 255 again and again, in place of a tag\n"
     "  --network N    send on network N alone\n"
     "  --skew N       either network is ahead of the other by up to N indices (16)\n"
     "  --lossless     lose none; else each network loses one in 10, never both the same\n"
     "  --seed N       another seed, other losses and another skew (1)\n"
     "  --every US     by the clock: an index every US microseconds, lossless, and\n"
     "    --apart US   the second copy US microseconds behind the first; network 0 has the first of every other index (0)\n"
-    "    --streams N  as many streams as that, with VLAN ids from that of --vlan on, one after the other in equal steps (1)\n"
+    "    --streams N  as many streams as that, with VLAN ids from that of --vlan on, or with addresses from --dest on (--afdx), one after the other in equal steps (1)\n"
     "    --unequal N  network 0 loses every N-th index\n"
     "  --help         print this text\n";
 
@@ -59,6 +64,7 @@ struct plan {
     uint8_t dest[ADDRESS];
     int vlan, lossless, alone; // alone: the only network; -1: both
     int prp;                   // the kind of trailer (enum nippitsun_prp), or NO_PRP
+    int afdx;
     uint64_t first, indices, restart, skew, seed, streams, unequal; // restart: indices from one reset of the sender to the next
     int64_t every, apart, silent;
     size_t size;
@@ -120,16 +126,17 @@ static struct line {
 // By how many nanoseconds a copy went out late, at most: a machine that is busy holds the sender up.
 static int64_t latest;
 
-// One for each stream.
+// One for each stream; a virtual link's has the next number in the same field, and begins with 0 as all do.
 static nippitsun_sender senders[NIPPITSUN_SLOTS_MOST];
 
 // The copies that wait for their network: place k is in room k modulo rooms.
 static uint8_t *waiting;
 static uint64_t rooms;
 
-static size_t tagged_length(const struct plan *p)
+// Of a copy with its tag, or with the number of a virtual link.
+static size_t copy_length(const struct plan *p)
 {
-    return p->size + NIPPITSUN_TAG_LENGTH;
+    return p->size + (p->afdx ? LINK_NUMBER : NIPPITSUN_TAG_LENGTH);
 }
 
 static size_t trailer_length(const struct plan *p)
@@ -144,8 +151,19 @@ static void make_room(const struct plan *p)
     rooms = p->every == 0 ? p->skew : ((uint64_t)p->apart + 1) * p->streams / (uint64_t)p->every + 1;
     // None waits over a restart.
     if (rooms > p->restart * p->streams) rooms = p->restart * p->streams;
-    waiting = calloc(rooms, tagged_length(p));
+    waiting = calloc(rooms, copy_length(p));
     if (waiting == NULL) refuse("no memory for %" PRIu64 " copies that wait for their network", rooms);
+}
+
+// Both copies of a virtual link's frame are the same: its number stands behind the payload.
+static void number_link(nippitsun_sender *s, const uint8_t *plain, size_t size, uint8_t *out0, uint8_t *out1)
+{
+    for (int network = 0; network < NETWORKS; network++) {
+        uint8_t *out = network == 0 ? out0 : out1;
+        memcpy(out, plain, size);
+        out[size] = (uint8_t)s->next;
+    }
+    s->next = s->next == LINK_LAST ? 1 : s->next + 1;
 }
 
 // The copy of a place for a network: place k is index k / streams of stream k modulo streams. When it is asked for first, one
@@ -153,14 +171,23 @@ static void make_room(const struct plan *p)
 static const uint8_t *copy_for(const struct plan *p, int network, uint64_t place, int is_first)
 {
     static uint8_t now[NIPPITSUN_FRAME_MOST];
-    uint8_t *later = waiting + place % rooms * tagged_length(p);
+    uint8_t *later = waiting + place % rooms * copy_length(p);
     if (!is_first) return later;
     uint64_t stream = place % p->streams, index = p->first + place / p->streams;
     uint8_t plain[NIPPITSUN_UNTAGGED_MOST];
-    size_t index_at = make_frame(plain, p->dest, p->vlan < 0 ? -1 : p->vlan + (int)stream, p->size);
+    // Streams differ in the VLAN id, and virtual links in the address.
+    uint8_t dest[ADDRESS];
+    memcpy(dest, p->dest, ADDRESS);
+    if (p->afdx) dest[ADDRESS - 1] = (uint8_t)(dest[ADDRESS - 1] + stream);
+    int vlan = p->vlan < 0 || p->afdx ? p->vlan : p->vlan + (int)stream;
+    size_t index_at = make_frame(plain, dest, vlan, p->size);
     for (int i = 0; i < INDEX_BYTES; i++) plain[index_at + i] = (uint8_t)(index >> 8 * (INDEX_BYTES - 1 - i));
     uint8_t *out0 = network == 0 ? now : later, *out1 = network == 0 ? later : now;
-    nippitsun_tag_answer a = nippitsun_send(&senders[stream], plain, p->size, out0, tagged_length(p), out1, tagged_length(p));
+    if (p->afdx) {
+        number_link(&senders[stream], plain, p->size, out0, out1);
+        return now;
+    }
+    nippitsun_tag_answer a = nippitsun_send(&senders[stream], plain, p->size, out0, copy_length(p), out1, copy_length(p));
     if (a.refusal != 0) refuse("tag: %u, %s", a.refusal, refusal_words(a.refusal));
     return now;
 }
@@ -212,7 +239,7 @@ static int give(const struct plan *p, int network, const uint8_t *frame, size_t 
 static void send_copy(const struct plan *p, int network, const uint8_t *copy)
 {
     if (p->alone >= 0 && p->alone != network) return;
-    size_t length = tagged_length(p);
+    size_t length = copy_length(p);
     uint8_t turned[NIPPITSUN_FRAME_MOST];
     if (p->prp != NO_PRP) {
         nippitsun_prp_answer a = nippitsun_to_prp(copy, length, (uint8_t)network, (uint8_t)p->prp, turned, sizeof turned);
@@ -303,7 +330,8 @@ int main(int count, char **words)
         {"size", required_argument, NULL, 'z'},    {"network", required_argument, NULL, 'w'}, {"skew", required_argument, NULL, 'k'},
         {"lossless", no_argument, NULL, 'n'},      {"seed", required_argument, NULL, 's'},    {"every", required_argument, NULL, 'e'},
         {"apart", required_argument, NULL, 'a'},   {"streams", required_argument, NULL, 'm'}, {"unequal", required_argument, NULL, 'u'},
-        {"prp", required_argument, NULL, 'p'},     {"help", no_argument, NULL, 'h'},          {NULL, 0, NULL, 0},
+        {"prp", required_argument, NULL, 'p'},     {"afdx", no_argument, NULL, 'x'},          {"help", no_argument, NULL, 'h'},
+        {NULL, 0, NULL, 0},
     };
     const uint64_t hour = UINT64_C(3600000000);
     struct plan p = {{2, 0, 0, 0, 0, 1}, .vlan = -1, .alone = -1, .prp = NO_PRP, .indices = 1000, .skew = 16, .seed = 1, .streams = 1, .size = 60};
@@ -317,6 +345,7 @@ int main(int count, char **words)
         case 'q': p.silent = (int64_t)read_number("silent", optarg, 0, hour / 1000) * MILLISECOND; break;
         case 'z': p.size = read_number("size", optarg, LONGEST_HEAD + INDEX_BYTES, NIPPITSUN_UNTAGGED_MOST); break;
         case 'p': p.prp = read_prp(optarg); break;
+        case 'x': p.afdx = 1; break;
         case 'w': p.alone = (int)read_number("network", optarg, 0, NETWORKS - 1); break;
         case 'k': p.skew = read_number("skew", optarg, 1, 65535); break;
         case 'n': p.lossless = 1; break;
@@ -333,12 +362,17 @@ int main(int count, char **words)
         say_usage(usage, 0);
     }
     if (p.every == 0 && (p.apart != 0 || p.streams != 1 || p.unequal != 0)) refuse("--apart, --streams and --unequal go with --every");
-    if (p.streams > 1 && (p.vlan < 0 || p.vlan + (int)p.streams - 1 > NIPPITSUN_VLAN_MOST)) refuse("--streams needs --vlan, and room for as many ids");
+    if (p.afdx && p.prp != NO_PRP) refuse("--prp and --afdx: a frame of a virtual link has no trailer");
+    if (p.afdx && p.dest[ADDRESS - 1] + p.streams - 1 > UINT8_MAX) refuse("--streams with --afdx needs room for as many addresses in the last byte of --dest");
+    if (!p.afdx && p.streams > 1 && (p.vlan < 0 || p.vlan + (int)p.streams - 1 > NIPPITSUN_VLAN_MOST))
+        refuse("--streams needs --vlan, and room for as many ids");
     if (p.restart == 0 && p.silent != 0) refuse("--silent goes with --restart");
     if (p.restart >= p.indices) refuse("--restart %" PRIu64 " is never reached: --count is %" PRIu64, p.restart, p.indices);
     if (p.restart == 0) p.restart = p.indices;
-    // A card pads a frame of fewer bytes, behind the trailer, and its size then fits no more: so the frame is padded before.
-    if (p.prp != NO_PRP && p.size < CARD_LEAST - trailer_length(&p)) p.size = CARD_LEAST - trailer_length(&p);
+    // A card pads a frame of fewer bytes, behind the trailer, whose size then fits no more, or behind the number: so the frame is padded
+    // before.
+    size_t behind = p.afdx ? LINK_NUMBER : trailer_length(&p);
+    if ((p.afdx || p.prp != NO_PRP) && p.size < CARD_LEAST - behind) p.size = CARD_LEAST - behind;
     if (output_is_closed()) refuse("standard output is closed");
     make_room(&p);
     for (int i = 0; i < NETWORKS; i++) {
@@ -347,7 +381,8 @@ int main(int count, char **words)
         lines[i].port = p.alone < 0 || p.alone == i ? open_sender(lines[i].interface) : -1;
     }
 
-    for (uint64_t i = 0; i < p.streams; i++) senders[i].next = (uint16_t)p.first;
+    uint64_t first = p.afdx && p.first > 0 ? (p.first - 1) % LINK_LAST + 1 : p.first;
+    for (uint64_t i = 0; i < p.streams; i++) senders[i].next = (uint16_t)first;
     for (uint64_t from = 0, to; from < p.indices; from = to) {
         to = p.indices - from < p.restart ? p.indices : from + p.restart;
         if (from > 0) {

@@ -6,7 +6,8 @@
 #include <stdio.h>
 
 // Hand-ups of a block. By the formulas the window is twice as wide as networks that are in order lie apart: so at least half of as many
-// frames have their second copies within them, however the networks change places.
+// frames have their second copies within them, however the networks change places. A virtual link has no window, and its L is for this
+// alone.
 static unsigned block_of(const nippitsun_stream *s)
 {
     enum { LEAST = 16 };

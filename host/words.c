@@ -10,7 +10,7 @@
 
 static const char usage[] =
     "usage: receive [OPTION].. INTERFACE0 INTERFACE1\n"
-    "  --open DEST,VLAN,RULE,L,R   a stream: address in hex, id, vector or match, window, reset time in ticks; again for more\n"
+    "  --open DEST,VLAN,RULE,L,R   a stream: address in hex, id, vector or match, window, reset time in ticks; again for more. DEST,0,afdx,L,R is an AFDX virtual link\n"
     "  --conf FILE                 the words of FILE in this place: a line OPTIONS=WORDS and a line INTERFACES=WORDS\n"
     "  --tick MS                   a tick every MS milliseconds (100)\n"
     "  --at-once                   no wait at the start. Without this it lasts R ticks, the largest R, and nothing is handed up in it: copies of what was handed up before a restart may still come\n"
@@ -54,13 +54,20 @@ static void add(char list[256], const char *format, ...)
     va_end(more);
 }
 
+static int is_link(const struct settings *s)
+{
+    return s->rule == NIPPITSUN_RULE_LINK;
+}
+
 // What refusal 9 is about.
 static void list_outside(char list[256], const struct settings *s)
 {
     list[0] = 0;
-    if (s->vlan > NIPPITSUN_VLAN_MOST) add(list, "VLAN id %u is not from 0 to %d", s->vlan, NIPPITSUN_VLAN_MOST);
-    if (s->rule != NIPPITSUN_RULE_VECTOR && s->rule != NIPPITSUN_RULE_MATCH)
-        add(list, "rule %u is neither %d (vector) nor %d (match)", s->rule, NIPPITSUN_RULE_VECTOR, NIPPITSUN_RULE_MATCH);
+    if (is_link(s)) {
+        if (s->vlan != 0) add(list, "VLAN id %u is not 0, as afdx asks", s->vlan);
+    } else if (s->vlan > NIPPITSUN_VLAN_MOST) add(list, "VLAN id %u is not from 0 to %d", s->vlan, NIPPITSUN_VLAN_MOST);
+    if (s->rule < NIPPITSUN_RULE_VECTOR || s->rule > NIPPITSUN_RULE_LINK)
+        add(list, "rule %u is not %d (vector), %d (match) or %d (afdx)", s->rule, NIPPITSUN_RULE_VECTOR, NIPPITSUN_RULE_MATCH, NIPPITSUN_RULE_LINK);
     if (s->window < NIPPITSUN_WINDOW_LEAST || s->window > NIPPITSUN_WINDOW_MOST)
         add(list, "L %u is not from %d to %d", s->window, NIPPITSUN_WINDOW_LEAST, NIPPITSUN_WINDOW_MOST);
     if (s->time < NIPPITSUN_TIME_LEAST) add(list, "R %u is not from %d to %d", s->time, NIPPITSUN_TIME_LEAST, NIPPITSUN_TIME_MOST);
@@ -74,6 +81,10 @@ static void open_stream(struct wishes *w, const char *text)
     char outside[256] = "";
     if (a.refusal == NIPPITSUN_REFUSED_SETTING) list_outside(outside, &s);
     if (a.refusal != 0) refuse("open %s: %u, %s%s", text, a.refusal, refusal_words(a.refusal), outside);
+    // A frame of a virtual link has nothing but its destination to be known by: no type, and no VLAN tag that means something.
+    for (size_t i = 0; i < w->count; i++)
+        if (is_link(&s) != is_link(&w->streams[i]) && memcmp(s.dest, w->streams[i].dest, ADDRESS) == 0)
+            refuse("open %s: an afdx stream and another one have this destination, and frames are told apart by it alone", text);
     if (s.time == 1) say("warning: open %s: R = 1 is never safe: a tick may fall between two copies", text);
     if (s.time > w->longest) w->longest = s.time;
     w->streams[w->count++] = s;
@@ -253,6 +264,8 @@ void read_words(struct wishes *w, int count, char **words)
     }
     if (interfaces != NETWORKS) misused("interfaces given: %d, needed: %d, for network 0 and network 1", interfaces, NETWORKS);
     if (w->count == 0) refuse("no stream: --open names one");
+    for (size_t i = 0; i < w->count; i++)
+        if (w->prp != NO_PRP && is_link(&w->streams[i])) refuse("--prp holds for all streams, and frames of an afdx stream have no trailer");
     if (!w->check) return;
     if (strcmp(w->interfaces[0], w->interfaces[1]) == 0) refuse("both networks are on interface '%s'", w->interfaces[0]);
     printf("good: %zu streams on %s and %s, a wait of %" PRId64 " ms at the start\n", w->count, w->interfaces[0], w->interfaces[1],

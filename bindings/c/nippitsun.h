@@ -1,10 +1,10 @@
-/* Nippitsun for C and C++: a receiver for frames that arrive on two networks, the redundancy tag in and out, a sender, and the
- * frames of PRP lines turned into tagged ones and back.
+/* Nippitsun for C and C++: a receiver for frames that arrive on two networks, with redundancy tags or as AFDX virtual links; the
+ * tag in and out, a sender, and the frames of PRP lines turned into tagged ones and back.
  *
  * The calls are the exported functions of the crates `port` and `port_*`, proved to do what document 01 says, with orders 1, 3,
- * 4, 5, 6, 7 and 9 of document 02 (order 2 changes no answer). This header is written by hand: bindings/c/test.c holds it to the
- * compiled code, and bindings/check to the sources. C11 or C++11, x86-64; link with libport.a, which is called libnippitsun.a
- * once it is installed (docs/LINKING.md).
+ * 4, 5, 6, 7, 9 and 10 of document 02 (order 2 changes no answer). This header is written by hand: bindings/c/test.c holds it to
+ * the compiled code, and bindings/check to the sources. C11 or C++11, x86-64; link with libport.a, which is called
+ * libnippitsun.a once it is installed (docs/LINKING.md).
  *
  * What the caller owes. The proof takes it for granted, and no call can test it:
  *
@@ -29,9 +29,9 @@
 #include <stddef.h>
 #include <stdint.h>
 
-#define NIPPITSUN_VERSION "0.12.0"
+#define NIPPITSUN_VERSION "0.13.0"
 #define NIPPITSUN_VERSION_MAJOR 0
-#define NIPPITSUN_VERSION_MINOR 12
+#define NIPPITSUN_VERSION_MINOR 13
 #define NIPPITSUN_VERSION_PATCH 0
 
 #ifdef __cplusplus
@@ -60,10 +60,12 @@ extern "C" {
 #define NIPPITSUN_FRAMES_MOST 32 /* frames in a batch (document 02, order 3); 0 is allowed */
 #define NIPPITSUN_PLACES 128     /* places of an index (document 02, order 9), for a table of any length */
 
-/* The rule of a stream. */
+/* The rule of a stream. By it a stream is of one of two families: nippitsun_link_arrival looks at slots of NIPPITSUN_RULE_LINK
+ * alone, nippitsun_arrival and nippitsun_batch look at all others. */
 enum nippitsun_rule {
     NIPPITSUN_RULE_VECTOR = 1,
-    NIPPITSUN_RULE_MATCH = 2
+    NIPPITSUN_RULE_MATCH = 2,
+    NIPPITSUN_RULE_LINK = 3 /* an AFDX virtual link (document 02, order 10): its VLAN id is 0, and L is in range and not used */
 };
 
 /* The kind of trailer on a PRP line (document 02, order 7): it is set for the line, and no frame is taken as both. A call takes
@@ -91,11 +93,11 @@ enum nippitsun_refusal {
     NIPPITSUN_REFUSED_LONG = 3,     /* frame too long */
     NIPPITSUN_REFUSED_SHORT = 4,    /* frame short */
     NIPPITSUN_REFUSED_UNTAGGED = 5, /* no F1C1 at the type field */
-    NIPPITSUN_REFUSED_UNKNOWN = 6,  /* no slot in use has the key */
+    NIPPITSUN_REFUSED_UNKNOWN = 6,  /* no slot in use has the key; for an arrival: none of its family */
     NIPPITSUN_REFUSED_DAMAGED = 7,  /* the record is damaged; for reset: its settings are out of range */
     NIPPITSUN_REFUSED_ROOM = 8,     /* output too small; for a send: either of the two */
-    NIPPITSUN_REFUSED_SETTING = 9,  /* a setting outside the sizes */
-    NIPPITSUN_REFUSED_TAKEN = 10,   /* a slot in use has the key */
+    NIPPITSUN_REFUSED_SETTING = 9,  /* a setting outside the sizes; a virtual link with another VLAN id than 0 */
+    NIPPITSUN_REFUSED_TAKEN = 10,   /* a slot in use has the key, of either family */
     NIPPITSUN_REFUSED_FULL = 11,    /* no free slot */
     NIPPITSUN_REFUSED_SLOT = 12,    /* slot beyond the table or free */
     NIPPITSUN_REFUSED_TAGGED = 13,  /* the frame already carries F1C1 */
@@ -111,17 +113,21 @@ enum nippitsun_refusal {
  * between two calls; a caller who writes to them may damage a record, which a call then refuses or a tick then counts, and who
  * writes to `dest`, `vlan` or `used` makes the index anew (below). A record has 152 bytes, and each of them belongs to a field;
  * where each field stands is asserted at the end of this file. Since 0.6.0 the history has eight words: a record that was kept
- * from an earlier version is not to be lent. */
+ * from an earlier version is not to be lent.
+ *
+ * A virtual link's record is lawful with VLAN id 0, a history of zeros, early 0 and, without take-any, an anchor of at most 255.
+ * One with another VLAN id is damaged, and no arrival hears it. */
 
 /* What an arrival and a tick change. */
 typedef struct nippitsun_state {
     uint64_t history[NIPPITSUN_HISTORY_WORDS]; /* bit k of the history, bit k % 64 of word k / 64, stands for the number
-                                                  anchor - k */
-    uint16_t anchor;    /* the number that differences are taken from */
+                                                  anchor - k; with the match rule and a virtual link: zeros */
+    uint16_t anchor;    /* the number that differences are taken from; of a virtual link: the last that was handed up */
     uint16_t remaining; /* ticks left until the stream is reset */
     uint16_t early;     /* so many places of the window still stand for numbers older than the first that was handed up since
                            the open or the reset: L - 1 after that first, one less with each place that the window moves,
-                           then 0. They leave without being counted as lost. 0 in a fresh record and with the match rule */
+                           then 0. They leave without being counted as lost. 0 in a fresh record, and with every rule but
+                           vector */
     uint16_t any;       /* take-any: 0 is no, every other value is yes; calls write 0 and 1 */
 } nippitsun_state;
 
@@ -131,10 +137,10 @@ typedef struct nippitsun_counts {
     uint64_t arrivals1; /* arrivals on network 1 */
     uint64_t passed;    /* handed up */
     uint64_t discarded; /* duplicates */
-    uint64_t rogue;     /* outside the window */
-    uint64_t disorder;  /* handed up out of order */
+    uint64_t rogue;     /* outside the window; does not rise of a virtual link */
+    uint64_t disorder;  /* handed up out of order; does not rise of a virtual link */
     uint64_t lost;      /* numbers that left the window and had not been handed up: what comes of them later is a rogue. Those
-                           older than the first since the open or the reset are not counted. Match rule: does not rise */
+                           older than the first since the open or the reset are not counted. Rises with the vector rule alone */
     uint64_t resets;    /* times the stream became fresh, by ticks or by reset */
 } nippitsun_counts;
 
@@ -156,15 +162,17 @@ typedef struct nippitsun_stream {
  * index with its table; no other call on a table but nippitsun_rebuild does.
  *
  * Each key has a place of its own. Following goes on from there, round the end, over the places that do not name a slot in use
- * with the key, until an empty one or all 128. Index and table agree when following from any key finds the lowest slot in use with
- * it, or none if there is none. The three calls look at this before all else but the table's length, and answer 18 if it is not
- * so. A good open and a good close leave the index that nippitsun_rebuild makes of the table. A batch only reads it, and no arrival,
- * reset or tick changes whether the two agree. So who begins with an index in agreement and leaves the rest to the calls never gets
- * 18, unless memory is damaged.
+ * with the key, until an empty one or all 128. It is asked for twice of each key, among the slots of NIPPITSUN_RULE_LINK and
+ * among the rest, from the same place: index and table agree when it finds the lowest of those slots in use with the key, or
+ * none if there is none. The three calls look at this before all else but the table's length, and answer 18 if it is not so. A
+ * good open and a good close leave the index that nippitsun_rebuild makes of the table. A batch only reads it, and no arrival,
+ * reset or tick changes whether the two agree. So who begins with an index in agreement and leaves the rest to the calls never
+ * gets 18, unless memory is damaged.
  *
  * - At the start: zeros in the table and in the index. An index of zeros agrees with a table of free slots, and with no other.
  * - Any other table needs nippitsun_rebuild once before the three calls: one that was kept over a restart or read from a file, and
- *   one whose `dest`, `vlan` or `used` the caller has written to. So the index need not be kept with the table.
+ *   one whose `dest`, `vlan` or `used` the caller has written to. So the index need not be kept with the table. Where `rule` alone
+ *   was written to, an index that a call has made stays good: it names every slot in use, whatever its rule.
  * - nippitsun_rebuild mends a damaged index, too. It can't tell whether the table is sound: it takes any.
  * - Nobody need know which place a key has, or write to an index by hand. */
 
@@ -176,7 +184,7 @@ typedef struct nippitsun_stream {
 typedef struct nippitsun_arrival_answer {
     size_t slot;     /* the slot of the stream */
     size_t length;   /* bytes written to the output: 0 but for a frame handed up */
-    uint16_t number; /* the number in the tag */
+    uint16_t number; /* the number in the tag; of a virtual link: the frame's last byte */
     uint8_t verdict; /* enum nippitsun_verdict */
     uint8_t refusal;
 } nippitsun_arrival_answer;
@@ -219,22 +227,39 @@ typedef struct nippitsun_prp_answer {
 /* ---- the calls on a table. Refusals are given in the order in which they stand here. */
 
 /* A frame came in on a network. Refusals 1, 2, 3, 4, 5, 14, 6, 7, 8.
- * The lowest slot in use with the frame's key has the arrival. Handed up: the frame without its tag stands at the start of
- * the output, and the bytes after it keep their values. Duplicate and rogue write nothing to the output. The output must
- * hold frame_bytes - 6 bytes for every verdict; NIPPITSUN_FRAME_MOST bytes are always enough. */
+ * The lowest slot in use with the frame's key that is no virtual link's has the arrival. Handed up: the frame without its tag
+ * stands at the start of the output, and the bytes after it keep their values. Duplicate and rogue write nothing to the output.
+ * The output must hold frame_bytes - 6 bytes for every verdict; NIPPITSUN_FRAME_MOST bytes are always enough. */
 nippitsun_arrival_answer nippitsun_arrival(nippitsun_stream *NIPPITSUN_APART table, size_t slots, uint8_t network,
                                            const uint8_t *NIPPITSUN_APART frame, size_t frame_bytes,
                                            uint8_t *NIPPITSUN_APART out, size_t out_bytes);
+
+/* A frame of an AFDX virtual link came in on a network (document 02, order 10). Refusals 1, 2, 3, 4 (below 15 bytes), 14, 6, 7,
+ * 8. Its number is its last byte, 0 to 255, and its key the destination with VLAN id 0: no type and no VLAN tag is read, and
+ * 8100 at 12 means nothing. So the frame ends in the number as it is given here, without its frame check sequence and without
+ * padding that a card has put behind it. The lowest slot in use with the key and NIPPITSUN_RULE_LINK has the arrival.
+ *
+ * A sender numbers its first frame 0, then 1 to 255, and 1 again. After one of 1 to 255 the numbers one to 127 steps forward in
+ * that ring of 255 are handed up; so is 0, which says that the sender has started anew. After 0 the numbers 1 to 127 are. A
+ * fresh stream hands any number up. All else is a duplicate: there is no rogue, nothing counts as out of order or lost, and a
+ * number that is passed over is not noticed.
+ *
+ * Handed up: the frame without its last byte stands at the start of the output, frame_bytes - 1 bytes, and the bytes after it
+ * keep their values. A duplicate writes nothing to the output. The output must hold frame_bytes - 1 bytes for both verdicts;
+ * NIPPITSUN_FRAME_MOST bytes are always enough. */
+nippitsun_arrival_answer nippitsun_link_arrival(nippitsun_stream *NIPPITSUN_APART table, size_t slots, uint8_t network,
+                                                const uint8_t *NIPPITSUN_APART frame, size_t frame_bytes,
+                                                uint8_t *NIPPITSUN_APART out, size_t out_bytes);
 
 /* Several frames came in on a network: `count` of them, NIPPITSUN_FRAMES_MOST at most, in one buffer. Each stands behind its
  * length in two bytes, high byte first; what stands behind the last is ignored. Refusals 1, 18, 2, 15: the call looks at no frame
  * then and changes nothing, and 0 stands in `frames` and in all answers. A count of 0 is a good call, and does nothing. The index
  * is looked at once, before the first frame, and each frame's slot is found by it.
  *
- * Each frame is an arrival in its turn, with the same verdict, record, counters and refusal as if it had come alone, and its
- * answer stands in answers[] at its place. What is handed up is packed into the output from its start, in the order in which
- * it came and in the form of the input: two length bytes, then the frame without its tag, `length` bytes. Duplicates, rogues
- * and refused frames take no byte of the output, not even for a length. The bytes after the last frame keep their values.
+ * Each frame is a nippitsun_arrival in its turn, with the same verdict, record, counters and refusal as if it had come alone,
+ * and its answer stands in answers[] at its place. What is handed up is packed into the output from its start, in the order in
+ * which it came and in the form of the input: two length bytes, then the frame without its tag, `length` bytes. Duplicates,
+ * rogues and refused frames take no byte of the output, not even for a length. The bytes after the last frame keep their values.
  *
  * The room of a frame is what is left of the output behind its two length bytes, and none if fewer than two are left. A frame
  * that is refused with 3, 4, 5, 14, 6 or 7 is answered and the rest go on, room or not. A frame that is refused with 8 ends
@@ -251,8 +276,9 @@ nippitsun_batch_answer nippitsun_batch(nippitsun_stream *NIPPITSUN_APART table, 
                                        const uint8_t *NIPPITSUN_APART frames, size_t frames_bytes,
                                        uint8_t *NIPPITSUN_APART out, size_t out_bytes);
 
-/* Opens a stream: fills the lowest free slot with a fresh record, counters zero, and makes the index anew. Refusals 1, 18, 9, 10,
- * 11. `dest` points to the destination's six bytes, as they stand in a frame. It is never NULL. */
+/* Opens a stream: fills the lowest free slot with a fresh record, counters zero, and makes the index anew. Refusals 1, 18, 9,
+ * 10, 11. A slot in use with the key refuses it (10) whatever its rule, so a key has one stream at most. `dest` points to the
+ * destination's six bytes, as they stand in a frame. It is never NULL. */
 nippitsun_slot_answer nippitsun_open(nippitsun_stream *NIPPITSUN_APART table, size_t slots, uint8_t *NIPPITSUN_APART index,
                                      size_t places, const uint8_t *NIPPITSUN_APART dest, uint16_t vlan, uint8_t rule,
                                      uint16_t window, uint16_t time);

@@ -2,7 +2,7 @@
  * directions. A refused call must leave every byte of table, index, sender and outputs as it was, and answer 0 but for the number.
  * A batch must do what single arrivals in turn do, a send what the tag writer does, and a turn from PRP or to PRP what the tag
  * writer or reader does with the trailer off or on. An open, a close and a batch must do with an index what a look at every record
- * gives.
+ * gives, and an arrival of a virtual link what order 10 says step by step.
  *
  * All areas are blocks of the heap of their exact size, so that bindings/c/memcheck sees an access behind their end. */
 #include "nippitsun.h"
@@ -113,10 +113,18 @@ static size_t own_place(uint64_t dest, uint16_t vlan) {
     return mixed >> 25;
 }
 
-/* The lowest slot in use with the key, or the number of slots. */
-static size_t searched(uint64_t dest, uint16_t vlan) {
+/* Virtual links, all other streams, or both: what a call looks at. */
+enum family { LINKS, REST, ALL };
+
+static int has_key(const nippitsun_stream *s, uint64_t dest, uint16_t vlan, enum family among) {
+    enum family own = s->rule == NIPPITSUN_RULE_LINK ? LINKS : REST;
+    return s->used && s->dest == dest && s->vlan == vlan && (among == ALL || among == own);
+}
+
+/* The lowest slot in use with the key among these, or the number of slots. */
+static size_t searched(uint64_t dest, uint16_t vlan, enum family among) {
     size_t i = 0;
-    while (i < slots && !(table[i].used && table[i].dest == dest && table[i].vlan == vlan)) i++;
+    while (i < slots && !has_key(&table[i], dest, vlan, among)) i++;
     return i;
 }
 
@@ -127,19 +135,24 @@ static size_t lowest_free(void) {
 }
 
 /* The same by following the index. */
-static size_t followed(uint64_t dest, uint16_t vlan) {
+static size_t followed(uint64_t dest, uint16_t vlan, enum family among) {
     for (size_t n = 0; n < NIPPITSUN_PLACES; n++) {
         size_t name = lent_index[(own_place(dest, vlan) + n) % NIPPITSUN_PLACES];
         if (name == 0) return slots;
-        if (name <= slots && table[name - 1].used && table[name - 1].dest == dest && table[name - 1].vlan == vlan) return name - 1;
+        if (name <= slots && has_key(&table[name - 1], dest, vlan, among)) return name - 1;
     }
     return slots;
 }
 
-/* A key that is not in use is never found by following, so the keys in use are all. */
+/* A key that is not in use is never found by following, so the keys in use are all. Each is asked for among the links and among the
+ * rest. */
 static int agrees(void) {
     for (size_t i = 0; i < slots; i++)
-        if (table[i].used && followed(table[i].dest, table[i].vlan) != searched(table[i].dest, table[i].vlan)) return 0;
+        for (enum family among = LINKS; among <= REST; among++) {
+            uint64_t dest = table[i].dest;
+            uint16_t vlan = table[i].vlan;
+            if (table[i].used && followed(dest, vlan, among) != searched(dest, vlan, among)) return 0;
+        }
     return 1;
 }
 
@@ -169,11 +182,14 @@ static void end(uint8_t refusal) {
     if (refusal) CHECK(table_same() && index_same() && sender->next == sender_before.next && out_same_from(0) && twin_same_from(0));
 }
 
-static nippitsun_arrival_answer arrive(uint8_t network, const uint8_t *frame, size_t n) {
+typedef nippitsun_arrival_answer arrival_call(nippitsun_stream *restrict, size_t, uint8_t, const uint8_t *restrict, size_t,
+                                              uint8_t *restrict, size_t);
+
+static nippitsun_arrival_answer arrive_by(arrival_call *call, uint8_t network, const uint8_t *frame, size_t n) {
     uint8_t *f = block(n);
     copy(f, frame, n);
     begin();
-    nippitsun_arrival_answer a = nippitsun_arrival(table, slots, network, f, n, out, room);
+    nippitsun_arrival_answer a = call(table, slots, network, f, n, out, room);
     end(a.refusal);
     verdicts[a.verdict]++;
     CHECK(equal(f, frame, n));
@@ -184,6 +200,14 @@ static nippitsun_arrival_answer arrive(uint8_t network, const uint8_t *frame, si
     CHECK(out_same_from(a.length));
     free(f);
     return a;
+}
+
+static nippitsun_arrival_answer arrive(uint8_t network, const uint8_t *frame, size_t n) {
+    return arrive_by(nippitsun_arrival, network, frame, n);
+}
+
+static nippitsun_arrival_answer link_arrives(uint8_t network, const uint8_t *frame, size_t n) {
+    return arrive_by(nippitsun_link_arrival, network, frame, n);
 }
 
 static uint8_t rebuild(void) {
@@ -202,7 +226,7 @@ static nippitsun_slot_answer opened_so(const uint8_t *six, uint16_t vlan, uint8_
     uint8_t *dest = block(6), not_fit = unfit();
     uint64_t key = 0;
     for (size_t i = 0; i < 6; i++) key = key << 8 | six[i];
-    size_t holder = searched(key, vlan), free_slot = lowest_free();
+    size_t holder = searched(key, vlan, ALL), free_slot = lowest_free();
     copy(dest, six, 6);
     begin();
     nippitsun_slot_answer a = nippitsun_open(table, slots, lent_index, index_places, dest, vlan, rule, window, time);
@@ -903,7 +927,15 @@ static void opens(void) {
         {NIPPITSUN_VLAN_MOST + 1, 1, 4, 3, 0},
         {65535, 1, 4, 3, 0},
         {0, 0, 4, 3, 0},
-        {0, 3, 4, 3, 0},
+        {0, 3, NIPPITSUN_WINDOW_LEAST, 3, 1},
+        {0, 3, NIPPITSUN_WINDOW_MOST, 3, 1},
+        {0, 3, NIPPITSUN_WINDOW_LEAST - 1, 3, 0}, /* a virtual link does not use L, but it is in range */
+        {0, 3, NIPPITSUN_WINDOW_MOST + 1, 3, 0},
+        {0, 3, 4, NIPPITSUN_TIME_LEAST - 1, 0},
+        {1, 3, 4, 3, 0},
+        {256, 3, 4, 3, 0},
+        {NIPPITSUN_VLAN_MOST, 3, 4, 3, 0},
+        {0, 4, 4, 3, 0},
         {0, 255, 4, 3, 0},
         {0, 1, NIPPITSUN_WINDOW_LEAST - 1, 3, 0},
         {0, 1, NIPPITSUN_WINDOW_MOST + 1, 3, 0},
@@ -918,7 +950,9 @@ static void opens(void) {
         make_table(1);
         a = opened(dest, cases[i].vlan, cases[i].rule, cases[i].window, cases[i].time);
         CHECK(a.slot == 0 && a.refusal == (cases[i].taken ? NIPPITSUN_REFUSED_NOT : NIPPITSUN_REFUSED_SETTING));
-        if (cases[i].taken) CHECK(table[0].window == cases[i].window && table[0].time == cases[i].time && table[0].vlan == cases[i].vlan);
+        if (!cases[i].taken) continue;
+        CHECK(table[0].window == cases[i].window && table[0].time == cases[i].time && table[0].vlan == cases[i].vlan);
+        CHECK(table[0].rule == cases[i].rule && same_state(table[0].state, fresh) && same_counts(table[0].counts, zero));
     }
 
     make_table(2);
@@ -999,7 +1033,7 @@ static void refusals(void) {
     make_table(1);
     make_out(13);
     table[0] = running();
-    table[0].rule = 3;
+    table[0].rule = 4;
     CHECK(arrive(2, from(1, tagged(2001, 0, 1)), 2001).refusal == NIPPITSUN_REFUSED_NETWORK);
     CHECK(arrive(255, from(1, tagged(2001, 0, 1)), 2001).refusal == NIPPITSUN_REFUSED_NETWORK);
     CHECK(arrive(1, from(1, tagged(2001, 0, 1)), 2001).refusal == NIPPITSUN_REFUSED_LONG);
@@ -1147,7 +1181,7 @@ static void batches(void) {
     pack(tagged(60, 0, 101), 60);
     for (size_t bytes = 0; bytes < 3; bytes++) {
         one_running(bytes);
-        table[0].rule = 3;
+        table[0].rule = 4;
         b = batched(0);
         CHECK(b.frames == 8 && unreached_from(&b, 8));
         for (size_t i = 0; i < 8; i++) CHECK(b.answers[i].refusal == why[i]);
@@ -1283,7 +1317,7 @@ static size_t slot_by_batch(uint64_t dest) {
 static void taken_or_refused(int fits) {
     uint8_t want = fits ? NIPPITSUN_REFUSED_NOT : NIPPITSUN_REFUSED_INDEX, kept[NIPPITSUN_PLACES];
     uint64_t other = dest_at(77, 9);
-    CHECK(unfit() == want && lowest_free() < slots && searched(other, 0) == slots);
+    CHECK(unfit() == want && lowest_free() < slots && searched(other, 0, ALL) == slots);
     copy(kept, lent_index, sizeof kept);
     CHECK(batched_so(0, 0, NULL, 0).refusal == want);
     nippitsun_slot_answer a = opened_so(six_of(other), 0, NIPPITSUN_RULE_VECTOR, 4, 3);
@@ -1472,7 +1506,7 @@ static void refused_by_index(void) {
     lent_index[40] = 1;
     lent_index[77] = 2;
     CHECK(unfit() == 0 && !is_rebuilt());
-    CHECK(opened_so(running_dest, 0, 3, 4, 3).refusal == NIPPITSUN_REFUSED_SETTING);
+    CHECK(opened_so(running_dest, 0, 4, 4, 3).refusal == NIPPITSUN_REFUSED_SETTING);
     CHECK(opened_so(six_of(second), 0, 1, 4, 3).refusal == NIPPITSUN_REFUSED_TAKEN);
     CHECK(opened_so(running_dest, 0, 1, 4, 3).refusal == NIPPITSUN_REFUSED_FULL);
     CHECK(closed_so(2) == NIPPITSUN_REFUSED_SLOT && closed_so(SIZE_MAX) == NIPPITSUN_REFUSED_SLOT);
@@ -1497,6 +1531,7 @@ static void indexes_in_turn(void) {
         for (size_t s = 0; s < slots; s++) {
             table[s] = running_to(0x020304050000 + below(keys));
             table[s].vlan = (uint16_t)(below(2) * 5);
+            table[s].rule = (uint8_t)(below(2) ? 1 : below(5));
             table[s].used = (uint8_t)(below(in_use + 1) ? 1 + below(255) : 0);
         }
         rebuild();
@@ -1508,7 +1543,7 @@ static void indexes_in_turn(void) {
         else fit++, not_rebuilt += !is_rebuilt();
         uint64_t dest = 0x020304050000 + below(keys + 2);
         switch (below(4)) {
-        case 0: opened_so(six_of(dest), (uint16_t)(below(2) * 5), NIPPITSUN_RULE_VECTOR, (uint16_t)(below(8) ? 4 : 1), 3); break;
+        case 0: opened_so(six_of(dest), (uint16_t)(below(2) * 5), (uint8_t)(1 + below(3)), (uint16_t)(below(8) ? 4 : 1), 3); break;
         case 1: closed_so(below((unsigned)slots + 2)); break;
         default:
             pack_none();
@@ -1522,11 +1557,439 @@ static void indexes_in_turn(void) {
         /* What takes no index changes no agreement. */
         int agreed = agrees();
         arrive(0, tagged(60, 0, 101), 60);
+        link_arrives(0, tagged(60, 0, 101), 60);
         reset(below((unsigned)slots + 1));
         ticked();
         CHECK(agrees() == agreed);
     }
     CHECK(fit > 2000 && not_fit > 2000 && not_rebuilt > 1000);
+}
+
+/* ---- virtual links (document 02, order 10) */
+
+/* A lawful record of a virtual link to running_dest, with this last number and distinct counters. */
+static nippitsun_stream link_running(uint16_t last) {
+    nippitsun_stream s = running();
+    s.rule = NIPPITSUN_RULE_LINK;
+    s.state = (nippitsun_state){.history = {0}, .anchor = last, .remaining = 6, .early = 0, .any = 0};
+    return s;
+}
+
+/* A frame of n bytes to running_dest that ends in this number. */
+static const uint8_t *linked(size_t n, uint8_t number) {
+    fill(frame_bytes, n, 2);
+    memcpy(frame_bytes, running_dest, 6);
+    frame_bytes[n - 1] = number;
+    return frame_bytes;
+}
+
+/* Is the output the frame just made, without its last byte? */
+static int shorter(size_t n) { return equal(out, frame_bytes, n - 1); }
+
+/* The order's own words: is this number handed up after the last one? The steps are taken one by one: 1 follows 0 and 255. */
+static int up_after(unsigned last, unsigned number) {
+    if (number == 0) return last != 0;
+    for (unsigned steps = 1; steps <= 127; steps++) {
+        last = last == 255 ? 1 : last + 1;
+        if (last == number) return 1;
+    }
+    return 0;
+}
+
+/* What a record must be behind an arrival of a virtual link. */
+static nippitsun_stream link_after(nippitsun_stream s, uint8_t network, uint8_t number) {
+    int is_up = s.state.any || up_after(s.state.anchor, number);
+    if (network) s.counts.arrivals1++;
+    else s.counts.arrivals0++;
+    if (is_up) s.counts.passed++;
+    else s.counts.discarded++;
+    if (is_up) s.state = (nippitsun_state){.history = {0}, .anchor = number, .remaining = s.time, .early = 0, .any = 0};
+    return s;
+}
+
+/* Both verdicts on one record, from fresh on: each changes exactly the fields that it should. */
+static void links(void) {
+    make_table(3);
+    make_out(100);
+    table[0] = distinct;
+    table[1] = link_running(0);
+    table[1].state = fresh;
+    nippitsun_stream want = table[1];
+
+    nippitsun_arrival_answer a = link_arrives(0, linked(60, 200), 60);
+    CHECK(a.slot == 1 && a.number == 200 && a.verdict == NIPPITSUN_VERDICT_HANDED_UP && a.length == 59 && shorter(60));
+    want.counts.arrivals0++;
+    want.counts.passed++;
+    want.state = (nippitsun_state){.history = {0}, .anchor = 200, .remaining = 9, .early = 0, .any = 0};
+    CHECK(same(table[1], want) && same(table[0], distinct));
+
+    /* The twin. */
+    table[1].state.remaining = want.state.remaining = 3;
+    make_out(59);
+    a = link_arrives(1, linked(60, 200), 60);
+    CHECK(a.slot == 1 && a.number == 200 && a.verdict == NIPPITSUN_VERDICT_DUPLICATE && out_same_from(0));
+    want.counts.arrivals1++;
+    want.counts.discarded++;
+    CHECK(same(table[1], want));
+
+    /* Numbers that are passed over are not noticed: nothing is lost or out of order. */
+    a = link_arrives(1, linked(60, 250), 60);
+    CHECK(a.verdict == NIPPITSUN_VERDICT_HANDED_UP && a.length == 59 && shorter(60));
+    want.counts.arrivals1++;
+    want.counts.passed++;
+    want.state.anchor = 250;
+    want.state.remaining = 9;
+    CHECK(same(table[1], want));
+
+    /* The shortest frame, which is a header and the number, and the longest, each into an output that just holds it. */
+    make_out(14);
+    a = link_arrives(0, linked(15, 251), 15);
+    CHECK(a.verdict == NIPPITSUN_VERDICT_HANDED_UP && a.length == 14 && shorter(15));
+    make_out(NIPPITSUN_FRAME_MOST - 1);
+    a = link_arrives(0, linked(NIPPITSUN_FRAME_MOST, 252), NIPPITSUN_FRAME_MOST);
+    CHECK(a.verdict == NIPPITSUN_VERDICT_HANDED_UP && a.length == 1999 && shorter(2000));
+    want.counts.arrivals0 += 2;
+    want.counts.passed += 2;
+    want.state.anchor = 252;
+    CHECK(same(table[1], want));
+
+    /* What stands at the type field means nothing: a VLAN tag with any id, our own mark, one cut short. */
+    static const unsigned types[] = {0x8100, 0xF1C1, 0x88A8, 0x88FB, 0x0800, 0};
+    make_out(100);
+    for (size_t i = 0; i < sizeof types / sizeof *types; i++) {
+        table[1] = want = link_running(7);
+        linked(60, 8);
+        frame_bytes[14] = 0;
+        frame_bytes[15] = 5;
+        a = link_arrives(1, typed(12, types[i], frame_bytes), 60);
+        CHECK(a.verdict == NIPPITSUN_VERDICT_HANDED_UP && a.number == 8 && a.length == 59 && shorter(60));
+        CHECK(same(table[1], link_after(want, 1, 8)));
+        linked(15, 9);
+        CHECK(link_arrives(0, typed(12, types[i], frame_bytes), 15).verdict == NIPPITSUN_VERDICT_HANDED_UP && shorter(15));
+    }
+
+    /* A tick resets it as any stream, and so does a reset; L does not count. */
+    for (uint16_t window = NIPPITSUN_WINDOW_LEAST; window <= NIPPITSUN_WINDOW_MOST; window += 255) {
+        table[1] = want = link_running(100);
+        table[1].window = want.window = window;
+        for (unsigned n = 0; n < 6; n++) CHECK(ticked().resets == (n == 5));
+        want.state = fresh;
+        want.counts.resets++;
+        CHECK(same(table[1], want));
+        CHECK(link_arrives(0, linked(60, 100), 60).verdict == NIPPITSUN_VERDICT_HANDED_UP);
+        CHECK(link_arrives(0, linked(60, 99), 60).verdict == NIPPITSUN_VERDICT_DUPLICATE);
+        want = link_after(link_after(want, 0, 100), 0, 99);
+        CHECK(same(table[1], want));
+        want.state = fresh;
+        want.counts.resets++;
+        CHECK(reset(1) == 0 && same(table[1], want));
+    }
+
+    /* A frame and an output at odd addresses. */
+    make_out(101);
+    table[1] = link_running(8);
+    uint8_t *f = block(61);
+    copy(f + 1, linked(60, 9), 60);
+    begin();
+    a = nippitsun_link_arrival(table, slots, 1, f + 1, 60, out + 1, room - 1);
+    CHECK(a.verdict == NIPPITSUN_VERDICT_HANDED_UP && a.length == 59 && a.number == 9);
+    CHECK(equal(out + 1, f + 1, 59) && out[0] == out_before[0] && out_same_from(60));
+    free(f);
+}
+
+/* Every number after every last one, and after none. */
+static void link_numbers(void) {
+    static const struct { int last; uint8_t number; int is_up; } cases[] = {
+        {255, 1, 1}, {255, 127, 1}, {255, 128, 0}, {255, 255, 0}, {255, 254, 0}, {255, 0, 1},   {7, 0, 1},
+        {0, 0, 0},   {0, 1, 1},     {0, 127, 1},   {0, 128, 0},   {0, 255, 0},   {-1, 0, 1},    {-1, 255, 1},
+        {1, 1, 0},   {1, 2, 1},     {1, 128, 1},   {1, 129, 0},   {1, 255, 0},   {128, 255, 1}, {128, 1, 0},
+        {129, 1, 1}, {200, 72, 1},  {200, 73, 0},  {254, 255, 1}, {254, 1, 1},   {254, 126, 1}, {254, 127, 0},
+    };
+    make_table(1);
+    make_out(60);
+    for (int last = -1; last <= 255; last++)
+        for (unsigned number = 0; number <= 255; number++) {
+            table[0] = link_running((uint16_t)last);
+            if (last < 0) table[0].state = fresh;
+            nippitsun_stream want = link_after(table[0], (uint8_t)(number & 1), (uint8_t)number);
+            nippitsun_arrival_answer a = link_arrives((uint8_t)(number & 1), linked(60, (uint8_t)number), 60);
+            CHECK(a.refusal == 0 && a.slot == 0 && a.number == number && same(table[0], want));
+            CHECK((a.verdict == NIPPITSUN_VERDICT_HANDED_UP) == (want.counts.passed != distinct.counts.passed));
+            CHECK(a.verdict == NIPPITSUN_VERDICT_HANDED_UP || a.verdict == NIPPITSUN_VERDICT_DUPLICATE);
+            if (a.verdict == NIPPITSUN_VERDICT_HANDED_UP) CHECK(a.length == 59 && shorter(60));
+        }
+    for (size_t i = 0; i < sizeof cases / sizeof *cases; i++) {
+        table[0] = link_running((uint16_t)cases[i].last);
+        if (cases[i].last < 0) table[0].state = fresh;
+        unsigned verdict = cases[i].is_up ? NIPPITSUN_VERDICT_HANDED_UP : NIPPITSUN_VERDICT_DUPLICATE;
+        CHECK(link_arrives(0, linked(60, cases[i].number), 60).verdict == verdict);
+    }
+
+    /* A sender over its wraps and two starts, on both networks in turn: each frame is handed up once. */
+    table[0].state = fresh;
+    nippitsun_counts before = table[0].counts;
+    for (unsigned start = 0; start < 2; start++)
+        for (unsigned index = 0; index < 700; index++) {
+            uint8_t number = (uint8_t)(index == 0 ? 0 : 1 + (index - 1) % 255);
+            CHECK(link_arrives(index & 1, linked(60, number), 60).verdict == NIPPITSUN_VERDICT_HANDED_UP);
+            CHECK(link_arrives(!(index & 1), linked(60, number), 60).verdict == NIPPITSUN_VERDICT_DUPLICATE);
+        }
+    before.arrivals0 += 1400;
+    before.arrivals1 += 1400;
+    before.passed += 1400;
+    before.discarded += 1400;
+    CHECK(same_counts(table[0].counts, before));
+}
+
+/* Each refusal with all the later ones wrong too. There is no 5, and 14 comes before 6. */
+static void refused_links(void) {
+    make_table(NIPPITSUN_SLOTS_MOST + 1);
+    make_out(0);
+    table[0] = link_running(1);
+    CHECK(link_arrives(9, from(1, linked(2001, 2)), 2001).refusal == NIPPITSUN_REFUSED_TABLE);
+    make_table(NIPPITSUN_SLOTS_MOST);
+    table[63] = link_running(1);
+    table[63].state.remaining = 10; /* above R */
+    CHECK(link_arrives(2, from(1, linked(2001, 2)), 2001).refusal == NIPPITSUN_REFUSED_NETWORK);
+    CHECK(link_arrives(255, from(1, linked(14, 2)), 14).refusal == NIPPITSUN_REFUSED_NETWORK);
+    CHECK(link_arrives(1, from(1, linked(2001, 2)), 2001).refusal == NIPPITSUN_REFUSED_LONG);
+    for (size_t n = 0; n < 15; n++) CHECK(link_arrives(1, from(1, untagged(n)), n).refusal == NIPPITSUN_REFUSED_SHORT);
+    linked(60, 2);
+    frame_bytes[0] ^= 0x80;
+    CHECK(link_arrives(1, from(1, frame_bytes), 60).refusal == NIPPITSUN_REFUSED_GROUP);
+    CHECK(link_arrives(1, from(2, frame_bytes), 60).refusal == NIPPITSUN_REFUSED_UNKNOWN);
+    CHECK(link_arrives(1, from(1, linked(60, 2)), 60).refusal == NIPPITSUN_REFUSED_GROUP);
+    CHECK(link_arrives(1, linked(60, 2), 60).refusal == NIPPITSUN_REFUSED_DAMAGED);
+    table[63].state.remaining = 9;
+    for (size_t n = 0; n < 59; n++) {
+        make_out(n);
+        CHECK(link_arrives(1, linked(60, 2), 60).refusal == NIPPITSUN_REFUSED_ROOM);
+        /* For a duplicate too. */
+        CHECK(link_arrives(1, linked(60, 1), 60).refusal == NIPPITSUN_REFUSED_ROOM);
+    }
+    make_out(59);
+    nippitsun_arrival_answer a = link_arrives(1, linked(60, 2), 60);
+    CHECK(a.slot == 63 && a.verdict == NIPPITSUN_VERDICT_HANDED_UP && shorter(60));
+
+    /* Every bit of the destination is the key's, and every first byte of a source is looked at. */
+    for (unsigned bit = 0; bit < 48; bit++) {
+        linked(60, 3);
+        frame_bytes[bit / 8] ^= (uint8_t)(1 << bit % 8);
+        CHECK(link_arrives(0, frame_bytes, 60).refusal == NIPPITSUN_REFUSED_UNKNOWN);
+    }
+    for (unsigned first = 0; first < 256; first++) {
+        table[63] = link_running(2);
+        unsigned refusal = first % 2 ? NIPPITSUN_REFUSED_GROUP : NIPPITSUN_REFUSED_NOT;
+        CHECK(link_arrives(0, from((uint8_t)first, linked(60, 3)), 60).refusal == refusal);
+    }
+    /* A group destination is a key as any other; it is what virtual links have. */
+    static const uint8_t group[6] = {0x03, 0, 0, 0, 0x12, 0x34};
+    make_table(1);
+    CHECK(opened(group, 0, NIPPITSUN_RULE_LINK, 2, 1).refusal == 0);
+    linked(60, 0);
+    memcpy(frame_bytes, group, 6);
+    CHECK(link_arrives(0, frame_bytes, 60).verdict == NIPPITSUN_VERDICT_HANDED_UP);
+}
+
+/* Records that are lent: which of them are lawful. */
+static void link_records(void) {
+    static const struct { nippitsun_state state; int lawful; } cases[] = {
+        {{.history = {0}, .anchor = 0, .remaining = 1}, 1},
+        {{.history = {0}, .anchor = 255, .remaining = 9}, 1},
+        {{.history = {0}, .anchor = 256, .remaining = 9}, 0},
+        {{.history = {0}, .anchor = 65535, .remaining = 9}, 0},
+        {{.history = {0}, .anchor = 255, .remaining = 0}, 0},
+        {{.history = {0}, .anchor = 255, .remaining = 10}, 0},
+        {{.history = {1}, .anchor = 255, .remaining = 9}, 0},
+        {{.history = {0, 0, 0, 0, 0, 0, 0, 1}, .anchor = 255, .remaining = 9}, 0},
+        {{.history = {0}, .anchor = 255, .remaining = 9, .early = 1}, 0},
+        {{.history = {0}, .anchor = 65535, .remaining = 0, .any = 1}, 1},
+        {{.history = {0}, .anchor = 65535, .remaining = 0, .any = 256}, 1},
+        {{.history = {0}, .anchor = 255, .remaining = 0, .any = 1}, 0},
+        {{.history = {0}, .anchor = 65535, .remaining = 1, .any = 1}, 0},
+        {{.history = {1}, .anchor = 65535, .remaining = 0, .any = 1}, 0},
+    };
+    make_table(2);
+    make_out(60);
+    for (size_t i = 0; i < sizeof cases / sizeof *cases; i++) {
+        table[0] = link_running(0);
+        table[0].state = cases[i].state;
+        table[1] = table[0];
+        table[1].used = 0;
+        nippitsun_stream lent = table[0];
+        CHECK(ticked().damaged == !cases[i].lawful);
+        table[0] = lent;
+        CHECK(link_arrives(0, linked(60, 1), 60).refusal == (cases[i].lawful ? NIPPITSUN_REFUSED_NOT : NIPPITSUN_REFUSED_DAMAGED));
+        CHECK(reset(0) == 0 && same_state(table[0].state, fresh));
+        CHECK(link_arrives(0, linked(60, 1), 60).verdict == NIPPITSUN_VERDICT_HANDED_UP);
+    }
+}
+
+/* Each arrival looks at its own family alone, and an open at both. */
+static void two_families(void) {
+    make_index(NIPPITSUN_PLACES);
+    make_out(200);
+    for (size_t link = 0; link < 2; link++) {
+        /* A stream of each family with one key, the link's first or last. */
+        make_table(3);
+        table[link] = link_running(100);
+        table[1 - link] = running();
+        nippitsun_stream plain = running(), want = link_running(100);
+        for (uint8_t rule = NIPPITSUN_RULE_VECTOR; rule <= NIPPITSUN_RULE_LINK; rule++)
+            CHECK(opened(running_dest, 0, rule, 4, 3).refusal == NIPPITSUN_REFUSED_TAKEN);
+        linked(60, 101);
+        CHECK(link_arrives(0, frame_bytes, 60).slot == link && same(table[1 - link], plain));
+        want = link_after(want, 0, 101);
+        CHECK(same(table[link], want));
+        CHECK(arrive(0, tagged(60, 0, 101), 60).slot == 1 - link && same(table[link], want));
+        /* A frame with a tag is a link's frame too, if it is given to that call: its number is its last byte. */
+        CHECK(link_arrives(1, tagged(60, 0, 101), 60).number == frame_bytes[59]);
+        want = link_after(want, 1, frame_bytes[59]);
+        CHECK(same(table[link], want));
+        pack_none();
+        pack(tagged(60, 0, 102), 60);
+        pack(linked(60, 102), 60);
+        nippitsun_batch_answer b = batched(0);
+        CHECK(b.frames == 2 && b.answers[0].slot == 1 - link && b.answers[0].verdict == NIPPITSUN_VERDICT_HANDED_UP);
+        CHECK(b.answers[1].refusal == NIPPITSUN_REFUSED_UNTAGGED && same(table[link], want));
+
+        /* Without the other stream there is none for the other call, and an open is refused all the same. */
+        CHECK(closed(1 - link) == 0);
+        CHECK(arrive(0, tagged(60, 0, 103), 60).refusal == NIPPITSUN_REFUSED_UNKNOWN);
+        CHECK(batched(0).answers[0].refusal == NIPPITSUN_REFUSED_UNKNOWN && same(table[link], want));
+        CHECK(opened(running_dest, 0, NIPPITSUN_RULE_VECTOR, 4, 3).refusal == NIPPITSUN_REFUSED_TAKEN);
+        CHECK(closed(link) == 0 && link_arrives(0, linked(60, 103), 60).refusal == NIPPITSUN_REFUSED_UNKNOWN);
+        CHECK(opened(running_dest, 0, NIPPITSUN_RULE_VECTOR, 4, 3).slot == 0);
+        CHECK(link_arrives(0, linked(60, 103), 60).refusal == NIPPITSUN_REFUSED_UNKNOWN);
+        CHECK(opened(running_dest, 0, NIPPITSUN_RULE_LINK, 4, 3).refusal == NIPPITSUN_REFUSED_TAKEN);
+    }
+
+    /* Other rules that are none, 0 and 4 too, are of the rest: damaged, and a plain arrival says so. */
+    static const uint8_t none[] = {0, 4, 131, 255};
+    for (size_t i = 0; i < sizeof none; i++) {
+        make_table(1);
+        table[0] = link_running(100);
+        table[0].rule = none[i];
+        CHECK(arrive(0, tagged(60, 0, 101), 60).refusal == NIPPITSUN_REFUSED_DAMAGED);
+        CHECK(link_arrives(0, linked(60, 101), 60).refusal == NIPPITSUN_REFUSED_UNKNOWN);
+    }
+
+    /* Of two links with one key the lower one has the arrival, damaged or not. */
+    make_table(2);
+    table[0] = table[1] = link_running(100);
+    CHECK(link_arrives(0, linked(60, 101), 60).slot == 0);
+    table[0].window = 1;
+    CHECK(link_arrives(0, linked(60, 102), 60).refusal == NIPPITSUN_REFUSED_DAMAGED);
+
+    /* A link with a VLAN id is damaged, and no arrival hears it. */
+    make_table(2);
+    table[0] = link_running(100);
+    table[0].vlan = 5;
+    CHECK(arrive(0, tagged(60, 5, 101), 60).refusal == NIPPITSUN_REFUSED_UNKNOWN);
+    CHECK(link_arrives(0, tagged(60, 5, 101), 60).refusal == NIPPITSUN_REFUSED_UNKNOWN);
+    CHECK(link_arrives(0, linked(60, 101), 60).refusal == NIPPITSUN_REFUSED_UNKNOWN);
+    pack_none();
+    pack(tagged(60, 5, 101), 60);
+    CHECK(batched(0).answers[0].refusal == NIPPITSUN_REFUSED_UNKNOWN);
+    for (uint8_t rule = NIPPITSUN_RULE_VECTOR; rule <= NIPPITSUN_RULE_MATCH; rule++)
+        CHECK(opened(running_dest, 5, rule, 4, 3).refusal == NIPPITSUN_REFUSED_TAKEN);
+    CHECK(opened(running_dest, 5, NIPPITSUN_RULE_LINK, 4, 3).refusal == NIPPITSUN_REFUSED_SETTING);
+    CHECK(ticked().damaged == 1 && reset(0) == NIPPITSUN_REFUSED_DAMAGED);
+    CHECK(closed(0) == 0 && opened(running_dest, 5, NIPPITSUN_RULE_VECTOR, 4, 3).slot == 0);
+}
+
+/* Following is asked for twice of a key, among the links and among the rest, from one place. */
+static void families_indexed(void) {
+    uint64_t first = dest_at(127, 0), second = dest_at(127, 1);
+    make_out(100);
+    make_index(NIPPITSUN_PLACES);
+    for (size_t link = 0; link < 2; link++) {
+        make_table(4);
+        table[link] = link_running(100);
+        table[link].dest = first;
+        table[1 - link] = running_to(first);
+        /* Both are named, in any order; a rebuild names both. */
+        all_places(0);
+        lent_index[127] = 2;
+        lent_index[0] = 1;
+        taken_or_refused(1);
+        CHECK(slot_by_batch(first) == 1 - link);
+        CHECK(rebuild() == 0 && lent_index[127] == 1 && lent_index[0] == 2);
+        taken_or_refused(1);
+        CHECK(slot_by_batch(first) == 1 - link && slot_by_batch(second) == slots);
+        /* One alone is not enough, whichever it is. */
+        for (uint8_t name = 1; name <= 2; name++) {
+            all_places(0);
+            lent_index[127] = name;
+            taken_or_refused(0);
+        }
+        /* In one family the lower is enough. */
+        table[link].rule = NIPPITSUN_RULE_VECTOR;
+        all_places(0);
+        lent_index[127] = 1;
+        taken_or_refused(1);
+        CHECK(slot_by_batch(first) == 0);
+        table[0].rule = table[1].rule = NIPPITSUN_RULE_LINK;
+        taken_or_refused(1);
+        CHECK(slot_by_batch(first) == slots);
+    }
+
+    /* Where `rule` alone is written to, an index that a call has made stays good. */
+    for (unsigned i = 0; i < 500; i++) {
+        make_table(8);
+        for (size_t s = 0; s < slots; s++) table[s] = running_to(below(2) ? first : second);
+        for (size_t s = 0; s < slots; s++) table[s].used = (uint8_t)below(3);
+        rebuild();
+        for (size_t s = 0; s < slots; s++) table[s].rule = (uint8_t)below(5);
+        CHECK(unfit() == 0);
+        closed_so(below(8));
+    }
+}
+
+/* Calls of all kinds in turn, on tables that hold both families. */
+static void families_in_turn(void) {
+    unsigned up = 0, again = 0, unknown = 0;
+    make_index(NIPPITSUN_PLACES);
+    for (unsigned i = 0; i < 4000; i++) {
+        make_table(below(12));
+        make_out(50 + below(20));
+        for (size_t s = 0; s < slots; s++) {
+            table[s] = below(2) ? link_running((uint16_t)below(below(8) ? 256 : 300)) : running();
+            table[s].dest += below(3);
+            table[s].used = (uint8_t)below(3);
+            if (below(6) == 0) table[s].state = fresh;
+            if (below(12) == 0) table[s].vlan = 5;
+        }
+        for (unsigned n = 0; n < 20; n++) {
+            uint8_t network = (uint8_t)below(2), number = (uint8_t)below(256);
+            linked(50 + below(20), number);
+            size_t bytes = 50 + below(20);
+            frame_bytes[5] = (uint8_t)(frame_bytes[5] + below(4));
+            frame_bytes[bytes - 1] = number;
+            uint64_t dest = 0x020304050600 + frame_bytes[5];
+            size_t slot = searched(dest, 0, LINKS);
+            nippitsun_stream was = slot < slots ? table[slot] : distinct;
+            nippitsun_arrival_answer a = link_arrives(network, frame_bytes, bytes);
+            if (slot == slots) {
+                unknown++;
+                CHECK(a.refusal == NIPPITSUN_REFUSED_UNKNOWN);
+                continue;
+            }
+            int is_lawful = was.state.any || was.state.anchor <= 255;
+            CHECK(a.refusal == (!is_lawful         ? NIPPITSUN_REFUSED_DAMAGED
+                                : room < bytes - 1 ? NIPPITSUN_REFUSED_ROOM
+                                                   : NIPPITSUN_REFUSED_NOT));
+            if (a.refusal) continue;
+            nippitsun_stream want = link_after(was, network, number);
+            int is_up = want.counts.passed != was.counts.passed;
+            CHECK(a.slot == slot && a.number == number && same(table[slot], want));
+            CHECK(a.verdict == (is_up ? NIPPITSUN_VERDICT_HANDED_UP : NIPPITSUN_VERDICT_DUPLICATE));
+            if (is_up) CHECK(a.length == bytes - 1 && shorter(bytes));
+            up += (unsigned)is_up;
+            again += (unsigned)!is_up;
+        }
+    }
+    CHECK(up > 1000 && again > 1000 && unknown > 1000);
 }
 
 /* ---- the sending side (document 02, order 6) */
@@ -2054,6 +2517,7 @@ static void unread(void) {
     for (size_t i = 0; i < sizeof lengths / sizeof *lengths; i++) {
         size_t n = lengths[i];
         CHECK(nippitsun_arrival(t, n, 0, tagged(60, 0, 1), 60, out, room).refusal == NIPPITSUN_REFUSED_TABLE);
+        CHECK(nippitsun_link_arrival(t, n, 2, frames, 65536, out, room).refusal == NIPPITSUN_REFUSED_TABLE);
         CHECK(nippitsun_reset(t, n, 64) == NIPPITSUN_REFUSED_TABLE);
         CHECK(nippitsun_tick(t, n).refusal == NIPPITSUN_REFUSED_TABLE);
         for (size_t k = 0; k < sizeof places_given / sizeof *places_given; k++) {
@@ -2079,6 +2543,12 @@ static void unread(void) {
     CHECK(nippitsun_batch(table, 64, lent_index, 128, 0, 0, frames, 65536, out, room).refusal == NIPPITSUN_REFUSED_NOT);
     uint8_t *output = mmap(NULL, 65536, no_access, own_and_blank, -1, 0);
     CHECK(output != (void *)-1);
+    CHECK(nippitsun_link_arrival(table, 64, 2, frames, 65536, output, 65536).refusal == NIPPITSUN_REFUSED_NETWORK);
+    CHECK(nippitsun_link_arrival(table, 64, 0, frames, 2001, output, 65536).refusal == NIPPITSUN_REFUSED_LONG);
+    CHECK(nippitsun_link_arrival(table, 64, 0, frames, 14, output, 65536).refusal == NIPPITSUN_REFUSED_SHORT);
+    table[63] = link_running(9);
+    CHECK(nippitsun_link_arrival(table, 64, 0, linked(60, 10), 60, output, 58).refusal == NIPPITSUN_REFUSED_ROOM);
+    CHECK(nippitsun_link_arrival(table, 64, 0, linked(60, 9), 60, output, 65536).verdict == NIPPITSUN_VERDICT_DUPLICATE);
     make_sender();
     make_out(65);
     CHECK(nippitsun_send(sender, untagged(60), 60, output, 65536, out, room).refusal == NIPPITSUN_REFUSED_ROOM);
@@ -2107,6 +2577,8 @@ static void nothing(void) {
     make_index(NIPPITSUN_PLACES);
     CHECK(arrive(0, NULL, 0).refusal == NIPPITSUN_REFUSED_SHORT);
     CHECK(arrive(0, tagged(60, 0, 1), 60).refusal == NIPPITSUN_REFUSED_UNKNOWN);
+    CHECK(link_arrives(0, NULL, 0).refusal == NIPPITSUN_REFUSED_SHORT);
+    CHECK(link_arrives(0, linked(60, 1), 60).refusal == NIPPITSUN_REFUSED_UNKNOWN);
     CHECK(opened(running_dest, 0, 1, 4, 3).refusal == NIPPITSUN_REFUSED_FULL);
     CHECK(closed(0) == NIPPITSUN_REFUSED_SLOT);
     CHECK(reset(0) == NIPPITSUN_REFUSED_SLOT);
@@ -2139,6 +2611,8 @@ static void nothing(void) {
     table[0] = running();
     CHECK(batched(0).answers[0].refusal == NIPPITSUN_REFUSED_ROOM);
     CHECK(arrive(0, tagged(60, 0, 101), 60).refusal == NIPPITSUN_REFUSED_ROOM);
+    table[0] = link_running(9);
+    CHECK(link_arrives(0, linked(60, 10), 60).refusal == NIPPITSUN_REFUSED_ROOM);
 }
 
 int main(void) {
@@ -2159,6 +2633,13 @@ int main(void) {
     index_made_anew();
     refused_by_index();
     indexes_in_turn();
+    links();
+    link_numbers();
+    refused_links();
+    link_records();
+    two_families();
+    families_indexed();
+    families_in_turn();
     sends();
     refused_sends();
     sends_in_turn();
@@ -2180,7 +2661,7 @@ int main(void) {
     for (int n = 1; n < 256; n++) CHECK((refused[n] > 0) == (n <= NIPPITSUN_REFUSED_TRAILER || n == NIPPITSUN_REFUSED_INDEX));
     for (int v = 1; v <= 3; v++) CHECK(verdicts[v] > 0);
     printf("%u checks of the C calls, %u failed: every verdict, refusals 1 to %d and %d, every field of a record, every number sent, "
-           "every trailer of PRP\n",
+           "every trailer of PRP, every number of a virtual link\n",
            checks, failures, NIPPITSUN_REFUSED_TRAILER, NIPPITSUN_REFUSED_INDEX);
     return failures != 0;
 }

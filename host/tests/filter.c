@@ -7,8 +7,11 @@
 // (0, 3 and 14 with F1C1 and an open key, 7, 8), and stopped if it would be refused as foreign (5, 6, and 3 and 14 with another
 // key). Short frames (4) may go either way.
 //
-// Then the same for PRP lines of each kind. There what has an open key is let through whatever is wrong with its trailer (0, 3,
-// 13, 14, 16), so that it is counted; but with the kind of 2012 only if it ends in 88FB.
+// Some streams are virtual links. What goes to their destinations is let through whatever its type and VLAN tag are, and held to the
+// arrival of a virtual link.
+//
+// Then the same for PRP lines of each kind, without such links. There what has an open key is let through whatever is wrong with its
+// trailer (0, 3, 13, 14, 16), so that it is counted; but with the kind of 2012 only if it ends in 88FB.
 #include "filter.h"
 #include "host.h"
 
@@ -135,6 +138,15 @@ static size_t complete(uint8_t whole[LONGEST + VLAN_TAG], const struct form *f)
     return f->length + VLAN_TAG;
 }
 
+static int goes_to_link(const nippitsun_stream *table, const uint8_t *frame, size_t length)
+{
+    uint64_t dest = 0;
+    for (int i = 0; length >= ADDRESS && i < ADDRESS; i++) dest = dest << 8 | frame[i];
+    for (size_t i = 0; length >= ADDRESS && i < NIPPITSUN_SLOTS_MOST; i++)
+        if (table[i].used && table[i].rule == NIPPITSUN_RULE_LINK && table[i].dest == dest) return 1;
+    return 0;
+}
+
 // What the library says of it, and, by the rest, what it would say if it were not too long and had neither a group source nor,
 // on a PRP line, a wrong trailer or F1C1: is it one of ours?
 static unsigned says(nippitsun_stream *table, const struct form *f, int prp, int by_the_rest)
@@ -144,6 +156,8 @@ static unsigned says(nippitsun_stream *table, const struct form *f, int prp, int
     size_t length = complete(whole, f);
     if (by_the_rest && length > ADDRESS) whole[ADDRESS] &= 0xFE;
     if (by_the_rest && length > NIPPITSUN_FRAME_MOST) length = NIPPITSUN_FRAME_MOST;
+    if (goes_to_link(table, whole, length))
+        return nippitsun_link_arrival(table, NIPPITSUN_SLOTS_MOST, 0, whole, length, out, sizeof out).refusal;
     if (prp != NO_PRP) {
         // Turned, it has two bytes more with the first edition.
         if (by_the_rest && prp == NIPPITSUN_PRP_FIRST && length > NIPPITSUN_FRAME_MOST - 2) length = NIPPITSUN_FRAME_MOST - 2;
@@ -217,13 +231,15 @@ static int try_line(const char *name, int prp, uint64_t frames)
     for (unsigned i = 0; i < NIPPITSUN_SLOTS_MOST; i++) {
         uint8_t dest[ADDRESS] = {i % 3 == 0 ? 1 : 2, i % 2 ? 0x80 : 0, 0, 0, i % 5 == 0 ? 0xFF : 0, (uint8_t)(i / 8)};
         uint16_t vlan = (uint16_t[]){0, 1, 2, 100, 2048, 4093, 4094, 7}[i % 8];
-        nippitsun_slot_answer a =
-            nippitsun_open(table, NIPPITSUN_SLOTS_MOST, places, sizeof places, dest, vlan, NIPPITSUN_RULE_VECTOR, 64, 65535);
+        // A link's destination is no other stream's, and differs from those by one bit.
+        uint8_t rule = prp == NO_PRP && i % 16 == 8 ? NIPPITSUN_RULE_LINK : NIPPITSUN_RULE_VECTOR;
+        if (rule == NIPPITSUN_RULE_LINK) dest[2] = 0x40;
+        nippitsun_slot_answer a = nippitsun_open(table, NIPPITSUN_SLOTS_MOST, places, sizeof places, dest, vlan, rule, 64, 65535);
         if (a.refusal != 0) refuse("open %u: %u", i, a.refusal);
     }
     static struct sock_filter written[FILTER_MOST];
     program = written;
-    uint64_t let[UINT8_MAX + 1] = {0}, stopped[UINT8_MAX + 1] = {0}, of_kernel = 0, long_ones = 0;
+    uint64_t let[UINT8_MAX + 1] = {0}, stopped[UINT8_MAX + 1] = {0}, of_kernel = 0, long_ones = 0, of_links = 0;
     for (int holes = 0; holes < 2; holes++) {
         for (unsigned i = 0; holes && i < NIPPITSUN_SLOTS_MOST; i++)
             if (i % 3 != 1 && nippitsun_close(table, NIPPITSUN_SLOTS_MOST, places, sizeof places, i) != 0) refuse("close %u", i);
@@ -253,6 +269,7 @@ static int try_line(const char *name, int prp, uint64_t frames)
             }
             if (f.outgoing) continue;
             if (refusal == 3 && ours == 0) long_ones++;
+            if (refusal == 0 && goes_to_link(table, f.bytes, f.length)) of_links++;
             (pass ? let : stopped)[refusal]++;
         }
         close(pair[0]);
@@ -261,12 +278,13 @@ static int try_line(const char *name, int prp, uint64_t frames)
     // A test that never met a form shows nothing of it.
     int foreign = prp == NO_PRP ? NIPPITSUN_REFUSED_UNTAGGED : NIPPITSUN_REFUSED_TRAILER;
     if (let[0] == 0 || let[3] == 0 || let[14] == 0 || stopped[4] == 0 || stopped[foreign] == 0 || stopped[6] == 0 || stopped[14] == 0
-        || long_ones == 0 || of_kernel == 0 || (prp != NO_PRP && (let[13] == 0 || let[16] == 0 || stopped[13] == 0)))
+        || long_ones == 0 || of_kernel == 0 || (prp == NO_PRP && of_links == 0) || (prp != NO_PRP && (let[13] == 0 || let[16] == 0 || stopped[13] == 0)))
         refuse("some form was never made");
     if (let[5] != 0 || let[6] != 0 || stopped[0] != 0) refuse("the counts do not agree");
     printf("filter-test, %s: %" PRIu64 " frames, %" PRIu64 " of them through the kernel too; let through %" PRIu64 " that the library takes, "
            "%" PRIu64 " too long, %" PRIu64 " short, %" PRIu64 " with a group source",
            name, frames, of_kernel, let[0], let[3], let[4], let[14]);
+    if (prp == NO_PRP) printf(", %" PRIu64 " of virtual links", of_links);
     if (prp != NO_PRP) printf(", %" PRIu64 " with F1C1, %" PRIu64 " with no fitting trailer", let[13], let[16]);
     printf("; stopped %" PRIu64 " foreign, %" PRIu64 " without a stream, %" PRIu64 " too long, %" PRIu64 " short, %" PRIu64 " with a group source\n",
            stopped[foreign], stopped[6], stopped[3], stopped[4], stopped[14]);

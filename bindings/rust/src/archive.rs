@@ -21,7 +21,7 @@ pub struct ArrivalAnswer {
     pub slot: usize,
     /// Bytes written to the output, 0 but for a frame handed up.
     pub length: usize,
-    /// The number in the tag.
+    /// The number in the tag; of a virtual link: the frame's last byte.
     pub number: u16,
     /// [`HANDED_UP`], [`DUPLICATE`] or [`ROGUE`].
     pub verdict: u8,
@@ -124,6 +124,15 @@ extern "C" {
         out: *mut u8,
         out_len: usize,
     ) -> ArrivalAnswer;
+    fn nippitsun_link_arrival(
+        table: *mut Stream,
+        table_len: usize,
+        network: u8,
+        frame: *const u8,
+        frame_len: usize,
+        out: *mut u8,
+        out_len: usize,
+    ) -> ArrivalAnswer;
     fn nippitsun_batch(
         table: *mut Stream,
         table_len: usize,
@@ -210,6 +219,30 @@ pub fn arrival(table: &mut [Stream], network: u8, frame: &[u8], out: &mut [u8]) 
     // SAFETY: three slices, two of them `&mut`, so they are whole and lie apart; they are borrowed until the call ends.
     unsafe {
         nippitsun_arrival(
+            table,
+            table_len,
+            network,
+            frame.as_ptr(),
+            frame.len(),
+            out,
+            out_len,
+        )
+    }
+}
+
+/// Arrival of a virtual link.
+#[inline(always)]
+pub fn link_arrival(
+    table: &mut [Stream],
+    network: u8,
+    frame: &[u8],
+    out: &mut [u8],
+) -> ArrivalAnswer {
+    let (table, table_len) = (table.as_mut_ptr(), table.len());
+    let (out, out_len) = (out.as_mut_ptr(), out.len());
+    // SAFETY: three slices, two of them `&mut`, so they are whole and lie apart; they are borrowed until the call ends.
+    unsafe {
+        nippitsun_link_arrival(
             table,
             table_len,
             network,

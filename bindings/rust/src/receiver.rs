@@ -10,11 +10,11 @@ use crate::refusal::Refusal;
 pub struct Settings {
     /// The key's destination, as it stands in a frame.
     pub destination: [u8; 6],
-    /// The key's VLAN id, 0 to 4094. 0 is also a frame with no VLAN tag.
+    /// The key's VLAN id, 0 to 4094. 0 is also a frame with no VLAN tag, and the only one of a virtual link.
     pub vlan: u16,
-    /// [`Stream::VECTOR_RULE`] or [`Stream::MATCH_RULE`].
+    /// [`Stream::VECTOR_RULE`] or [`Stream::MATCH_RULE`], or [`Stream::LINK_RULE`] for a virtual link.
     pub rule: u8,
-    /// The window L, 2 to 512.
+    /// The window L, 2 to 512. A virtual link has none, but the number is in this range too.
     pub window: u16,
     /// The reset time R, 1 to 65535 ticks.
     pub time: u16,
@@ -25,7 +25,7 @@ pub struct Settings {
 pub struct Arrival {
     /// The slot of the stream.
     pub slot: usize,
-    /// The number in the tag.
+    /// The number in the tag; of a virtual link: the frame's last byte.
     pub number: u16,
     /// What became of the frame.
     pub verdict: Verdict,
@@ -53,15 +53,15 @@ impl Arrival {
 /// The three verdicts.
 #[derive(Clone, Copy, Debug, PartialEq, Eq)]
 pub enum Verdict {
-    /// The frame without its tag stands at the start of the output, or in a batch at its place there. This one, and no other,
-    /// is the command to carry out.
+    /// The frame without its tag, or a virtual link's without its last byte, stands at the start of the output, or in a batch
+    /// at its place there. This one, and no other, is the command to carry out.
     HandedUp {
         /// Bytes written to the output.
         length: usize,
     },
-    /// The number came before. Nothing was written.
+    /// The number came before; of a virtual link: it is not handed up after the last one. Nothing was written.
     Duplicate,
-    /// The number is outside the window. Nothing was written.
+    /// The number is outside the window. Nothing was written. A virtual link has none.
     Rogue,
 }
 
@@ -199,7 +199,8 @@ impl Receiver {
         self.table.get(slot).map(|s| &s.counts)
     }
 
-    /// A frame came in on a network, 0 or 1. Refusals 1, 2, 3, 4, 5, 14, 6, 7, 8 in this order.
+    /// A frame came in on a network, 0 or 1. Refusals 1, 2, 3, 4, 5, 14, 6, 7, 8 in this order. Virtual links are not looked at:
+    /// those have [`Receiver::link_arrival`].
     ///
     /// The output must hold the frame without its tag for every verdict: [`Stream::FRAME_MOST`] bytes are always enough.
     /// Its bytes after a frame handed up keep their values.
@@ -212,11 +213,61 @@ impl Receiver {
         Arrival::told(&archive::arrival(&mut self.table, network, frame, out))
     }
 
+    /// A frame of an AFDX virtual link came in on a network, 0 or 1. Refusals 1, 2, 3, 4 (below 15 bytes), 14, 6, 7, 8 in this
+    /// order. Only streams of [`Stream::LINK_RULE`] are looked at.
+    ///
+    /// The frame's last byte is its number, 0 to 255, and the key is its destination with VLAN id 0: no type and no VLAN tag is
+    /// read. So it ends in the number as it is given here, without its frame check sequence and without padding that a card has put
+    /// behind it.
+    ///
+    /// A sender numbers its first frame 0, then 1 to 255, and 1 again. After one of 1 to 255 the numbers one to 127 steps forward
+    /// in that ring are handed up, and 0, with which a sender starts anew; after 0 the numbers 1 to 127; by a fresh stream any. All
+    /// else is a duplicate. Numbers that are passed over are not noticed.
+    ///
+    /// The output must hold the frame without its last byte for both verdicts: [`Stream::FRAME_MOST`] bytes are always enough.
+    /// Its bytes after a frame handed up keep their values.
+    ///
+    /// ```
+    /// use nippitsun::{Receiver, Refusal, Settings, Stream, Verdict};
+    ///
+    /// let mut receiver = Receiver::new(1);
+    /// let link = Settings {
+    ///     destination: [3, 0, 0, 0, 0, 7],
+    ///     vlan: 0,
+    ///     rule: Stream::LINK_RULE,
+    ///     window: 2,
+    ///     time: 3,
+    /// };
+    /// receiver.open(link)?;
+    ///
+    /// // The first frame of a sender ends in 0.
+    /// let first = [3, 0, 0, 0, 0, 7, 2, 0, 0, 0, 0, 32, 0x08, 0x00, 0xAB, 0];
+    /// let mut out = [0; Stream::FRAME_MOST];
+    /// let up = receiver.link_arrival(0, &first, &mut out)?;
+    /// assert_eq!((up.number, up.verdict), (0, Verdict::HandedUp { length: 15 }));
+    /// assert_eq!(out[..15], first[..15]);
+    /// assert_eq!(receiver.link_arrival(1, &first, &mut out)?.verdict, Verdict::Duplicate);
+    /// // An arrival of the other kind does not look at it.
+    /// assert_eq!(receiver.arrival(0, &first, &mut out), Err(Refusal::Untagged));
+    ///
+    /// let other = Settings { vlan: 5, ..link };
+    /// assert_eq!(Receiver::new(1).open(other), Err(Refusal::Setting));
+    /// # Ok::<(), Refusal>(())
+    /// ```
+    pub fn link_arrival(
+        &mut self,
+        network: u8,
+        frame: &[u8],
+        out: &mut [u8],
+    ) -> Result<Arrival, Refusal> {
+        Arrival::told(&archive::link_arrival(&mut self.table, network, frame, out))
+    }
+
     /// Up to [`FRAMES_MOST`](archive::FRAMES_MOST) frames came in on a network. They stand in one buffer, each behind its length
     /// in two bytes, high byte first, as [`batch::Frames`](crate::batch::Frames) packs them; what stands behind the last is
     /// ignored. Refusals 1, 18, 2 and 15, before any frame is looked at: then nothing has changed.
     ///
-    /// Each frame is decided as a single arrival in its turn, and what is handed up is packed into the output in the same form.
+    /// Each frame is decided as a single [`Receiver::arrival`] in its turn, and what is handed up is packed into the output in the same form.
     /// A frame that is refused is answered in its place and the rest go on; but 8, no room, ends the call, and the frames from
     /// that one on can be called again. [`batch::ROOM_ENOUGH`](crate::batch::ROOM_ENOUGH) bytes of output are always enough.
     pub fn batch<'o>(
@@ -232,7 +283,8 @@ impl Receiver {
         Ok(Batch::new(told, out))
     }
 
-    /// Opens a stream in the lowest free slot and answers the slot. Refusals 1, 18, 9, 10, 11 in this order.
+    /// Opens a stream in the lowest free slot and answers the slot. Refusals 1, 18, 9, 10, 11 in this order. A stream with the key
+    /// refuses it whatever its rule, so a key has one at most.
     pub fn open(&mut self, s: Settings) -> Result<usize, Refusal> {
         self.renew_index();
         let a = archive::open(

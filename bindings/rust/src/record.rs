@@ -6,15 +6,16 @@ use std::mem::{align_of, size_of};
 #[repr(C)]
 #[derive(Clone, Copy, Debug, Default, PartialEq, Eq)]
 pub struct State {
-    /// Eight words of 64 bits. Bit k of the history is bit k mod 64 of word k / 64, and stands for the number anchor - k.
+    /// Eight words of 64 bits. Bit k of the history is bit k mod 64 of word k / 64, and stands for the number anchor - k. With the
+    /// match rule and a virtual link: zeros.
     pub history: [u64; Stream::HISTORY_WORDS],
-    /// The number that differences are taken from.
+    /// The number that differences are taken from; of a virtual link: the last that was handed up.
     pub anchor: u16,
     /// Ticks left until the stream is reset.
     pub remaining: u16,
     /// So many places of the window still stand for numbers older than the first that was handed up since the open or the
     /// reset: L - 1 after that first, one less with each place that the window moves, then 0. They leave without being counted
-    /// as lost. 0 in a fresh record and with the match rule.
+    /// as lost. 0 in a fresh record, and with every rule but vector.
     pub early: u16,
     /// Take-any: 0 is no, every other value is yes.
     pub any: u16,
@@ -32,12 +33,12 @@ pub struct Counts {
     pub passed: u64,
     /// Duplicates.
     pub discarded: u64,
-    /// Frames outside the window.
+    /// Frames outside the window. Does not rise of a virtual link.
     pub rogue: u64,
-    /// Frames handed up out of order.
+    /// Frames handed up out of order. Does not rise of a virtual link.
     pub disorder: u64,
     /// Numbers that left the window and had not been handed up: what comes of them later is a rogue. Those older than the first
-    /// since the open or the reset are not counted. Match rule: does not rise.
+    /// since the open or the reset are not counted. Rises with the vector rule alone.
     pub lost: u64,
     /// How often the stream became fresh, by ticks or by a reset.
     pub resets: u64,
@@ -74,7 +75,7 @@ pub struct Stream {
     pub window: u16,
     /// The reset time R, in ticks.
     pub time: u16,
-    /// The rule: [`Stream::VECTOR_RULE`] or [`Stream::MATCH_RULE`].
+    /// The rule: [`Stream::VECTOR_RULE`], [`Stream::MATCH_RULE`] or [`Stream::LINK_RULE`].
     pub rule: u8,
     /// 0 is a free slot, every other value a slot in use.
     pub used: u8,
@@ -107,6 +108,8 @@ impl Stream {
     pub const VECTOR_RULE: u8 = 1;
     /// The match rule.
     pub const MATCH_RULE: u8 = 2;
+    /// An AFDX virtual link. Its VLAN id is 0, and L is in range and not used.
+    pub const LINK_RULE: u8 = 3;
 
     /// The record's bytes as they lie in memory, low byte first: for a file, or for another program. Since 0.6.0 the history has
     /// eight words: bytes that were kept from an earlier version are no record any more.

@@ -6,6 +6,8 @@ mod batch;
 mod index;
 #[path = "calls/lines.rs"]
 mod lines;
+#[path = "calls/links.rs"]
+mod links;
 #[path = "calls/sender.rs"]
 mod sender;
 #[path = "calls/words.rs"]
@@ -329,7 +331,7 @@ fn a_reset_mends_and_a_tick_ages() {
 fn every_refusal() {
     let mut long = Receiver::new(65);
     let mut r = Receiver::from_records(vec![Stream {
-        rule: 3,
+        rule: 4,
         ..running()
     }]);
     let mut out = [0; 2000];
@@ -361,6 +363,7 @@ fn every_refusal() {
     );
 
     // The other calls that give them.
+    assert_eq!(long.link_arrival(0, &bare, &mut out), Err(Refusal::Table));
     assert_eq!(long.open(settings(4095)), Err(Refusal::Table));
     assert_eq!(long.close(99), Err(Refusal::Table));
     assert_eq!(long.reset(99), Err(Refusal::Table));
@@ -405,7 +408,7 @@ fn a_group_source_reaches_no_stream() {
     // Before an unknown key, a damaged record and an output that is too small.
     let frame = from(0xFF, tagged(60, 1));
     let damaged = Receiver::from_records(vec![Stream {
-        rule: 3,
+        rule: 4,
         ..running()
     }]);
     for mut r in [Receiver::new(1), damaged] {
@@ -430,6 +433,8 @@ fn nothing_is_lent() {
     let mut r = Receiver::new(0);
     assert_eq!(r.arrival(0, &[], &mut []), Err(Refusal::Short));
     assert_eq!(r.arrival(0, &tagged(60, 1), &mut []), Err(Refusal::Unknown));
+    assert_eq!(r.link_arrival(0, &[], &mut []), Err(Refusal::Short));
+    assert_eq!(r.link_arrival(0, &[2; 15], &mut []), Err(Refusal::Unknown));
     assert_eq!(r.open(settings(0)), Err(Refusal::Full));
     assert_eq!(r.close(0), Err(Refusal::Slot));
     assert_eq!(

@@ -1,6 +1,6 @@
 //! The program that the kernel runs on each frame before it queues it (classic BPF, socket(7)). What it stops costs this
 //! program nothing: what the machine itself sends, and every frame that the library would refuse with 5 or 6 in any case. On a
-//! PRP line: with 6, and with 16 for want of 88FB at the end.
+//! PRP line: with 6, and with 16 for want of 88FB at the end. Of virtual links it lets through what goes to their destinations.
 
 use crate::frame::{PRP_MARK, REDUNDANCY_TAG, TYPE_AT, VLAN_MARK, VLAN_TAG};
 use nippitsun::prp::Kind;
@@ -60,15 +60,24 @@ const fn equal(k: u32, yes: u8, no: u8) -> Instruction {
     Instruction { code, yes, no, k }
 }
 
-/// Lets through what has F1C1 at the type field and one of these keys; on a PRP line what has one of the keys, and with the
-/// trailer of 2012 only if it ends in 88FB. A load from behind the frame's end stops the frame, as the library would, with
-/// refusal 4.
-pub fn program(keys: &[Key], prp: Option<Kind>) -> Vec<Instruction> {
+/// Lets through what goes to one of these destinations of virtual links, whatever its type and VLAN tag are. And what has F1C1 at
+/// the type field and one of these keys; on a PRP line what has one of the keys, and with the trailer of 2012 only if it ends in
+/// 88FB. A load from behind the frame's end stops the frame, as the library would, with refusal 4.
+pub fn program(links: &[u64], keys: &[Key], prp: Option<Kind>) -> Vec<Instruction> {
     let mut program = vec![
         plain(LOAD_WORD, PACKET_TYPE),
         equal(PACKET_OUTGOING, 0, 1),
         plain(END, NONE),
     ];
+    for &dest in links {
+        program.extend([
+            plain(LOAD_WORD, 2),
+            equal(dest as u32, 0, 3),
+            plain(LOAD_HALF, 0),
+            equal((dest >> 32) as u32, 0, 1),
+            plain(END, WHOLE),
+        ]);
+    }
     if prp == Some(Kind::Of2012) {
         program.extend(ends_in_mark());
     }
@@ -275,7 +284,7 @@ mod tests {
     #[test]
     fn as_the_library() {
         let keys = [(DEST, 100), (DEST, 0), (DEST + 1, 4094)];
-        let (program, library) = (program(&keys, None), receiver(&keys));
+        let (program, library) = (program(&[], &keys, None), receiver(&keys));
         let types = [REDUNDANCY_TAG, VLAN_MARK, 0x88A8, 0x0800];
         let besides = [None, Some(VLAN_MARK), Some(0x88A8), Some(0x9100)];
         let (mut through, mut stopped) = (0, 0);
@@ -303,9 +312,63 @@ mod tests {
         assert!(through > 1000 && stopped > 1000, "{through}, {stopped}");
     }
 
+    /// What goes to a link's destination comes through, whatever stands behind its addresses, and what the library says of it is
+    /// of that link; all else is as without links.
+    #[test]
+    fn links_go_by_their_destination() {
+        let links = [0x0300_0000_0007, 0x0300_0000_0008];
+        let keys = [(DEST, 100), (DEST, 0)];
+        let (with, without) = (program(&links, &keys, None), program(&[], &keys, None));
+        let mut library = receiver(&keys);
+        for dest in links {
+            let settings = Settings {
+                destination: dest.to_be_bytes()[2..].try_into().unwrap(),
+                vlan: 0,
+                rule: Stream::LINK_RULE,
+                window: 2,
+                time: 9,
+            };
+            library.open(settings).unwrap();
+        }
+        let dests = [links[0], links[1], links[0] - 1, links[0] ^ 1 << 47, DEST];
+        for dest in dests {
+            for kind in [REDUNDANCY_TAG, VLAN_MARK, 0x88A8, 0x0800] {
+                for beside in [None, Some((VLAN_MARK, 100)), Some((0x88A8, 0))] {
+                    for length in (0..=32).chain([60, 1514, 1999, 2000, 2001, 9000]) {
+                        let queued = Queued {
+                            bytes: frame(dest, [kind, kind], 100, length),
+                            packet: 2,
+                            beside,
+                        };
+                        let kept = run(&with, &queued);
+                        if !links.contains(&dest) || length < 6 {
+                            assert_eq!(kept, run(&without, &queued), "{queued:?}");
+                            continue;
+                        }
+                        assert_eq!(kept, WHOLE, "{queued:?}");
+                        let whole = cut(&queued, Stream::FRAME_MOST);
+                        let mut out = [0; Stream::FRAME_MOST];
+                        let answer = library.clone().link_arrival(0, &whole, &mut out);
+                        let why = (whole.len() < 15).then_some(Refusal::Short);
+                        assert_eq!(answer.err(), why, "{queued:?}");
+                    }
+                }
+            }
+        }
+        let outgoing = Queued {
+            bytes: frame(links[0], [0x0800, 0], 0, 60),
+            packet: PACKET_OUTGOING,
+            beside: None,
+        };
+        assert_eq!(run(&with, &outgoing), NONE);
+        // A full table of links.
+        let many: Vec<u64> = (0..64).map(|n| links[0] + n).collect();
+        assert!(program(&many, &[], None).len() <= 4096);
+    }
+
     #[test]
     fn what_goes_out_is_stopped() {
-        let program = program(&[(DEST, 0)], None);
+        let program = program(&[], &[(DEST, 0)], None);
         let came = |packet| Queued {
             bytes: frame(DEST, [REDUNDANCY_TAG, 0], 0, 60),
             packet,
@@ -321,7 +384,7 @@ mod tests {
     #[test]
     fn a_group_source_comes_through() {
         let keys = [(DEST, 100), (DEST, 0)];
-        let (program, library) = (program(&keys, None), receiver(&keys));
+        let (program, library) = (program(&[], &keys, None), receiver(&keys));
         for (first, tci) in [(0x01, 100), (0xFF, 0), (0xFE, 0), (0x01, 101)] {
             let mut bytes = frame(DEST, [VLAN_MARK, REDUNDANCY_TAG], tci, 60);
             bytes[6] = first;
@@ -343,7 +406,7 @@ mod tests {
         let keys: Vec<Key> = (0..Stream::SLOTS_MOST as u16)
             .map(|n| (DEST + u64::from(n / 8), n % 8))
             .collect();
-        let (program, library) = (program(&keys, None), receiver(&keys));
+        let (program, library) = (program(&[], &keys, None), receiver(&keys));
         // The kernel takes no longer one (BPF_MAXINSNS).
         assert!(program.len() <= 4096);
         let mut through = 0;
@@ -418,7 +481,7 @@ mod tests {
         let keys = [(DEST, 100), (DEST, 0), (DEST + 1, 4094)];
         let library = receiver(&keys);
         for kind in [Kind::First, Kind::Of2012] {
-            let program = program(&keys, Some(kind));
+            let program = program(&[], &keys, Some(kind));
             let other = match kind {
                 Kind::First => Kind::Of2012,
                 Kind::Of2012 => Kind::First,
@@ -508,7 +571,7 @@ mod tests {
                 packet,
                 beside: None,
             };
-            let kept = run(&program(&keys, Some(kind)), &queued);
+            let kept = run(&program(&[], &keys, Some(kind)), &queued);
             assert_eq!(kept != 0, through, "{kind:?}, {last:?}, {packet}");
         }
         // Short ones, with nothing to load.
@@ -520,7 +583,7 @@ mod tests {
                         packet: 2,
                         beside,
                     };
-                    assert_eq!(run(&program(&keys, Some(kind)), &queued), 0);
+                    assert_eq!(run(&program(&[], &keys, Some(kind)), &queued), 0);
                 }
             }
         }

@@ -18,7 +18,7 @@ mod watch;
 
 use clock::Clock;
 use filter::Key;
-use nippitsun::{prp, Arrival, Receiver, Stream, Verdict};
+use nippitsun::{dest_of, prp, Arrival, Receiver, Stream, Verdict};
 use options::{Asked, Give, Options};
 use order::{Call, Order, Time, NETWORKS};
 use port::{Port, Setup};
@@ -59,6 +59,8 @@ struct Host {
     /// So many ticks of the wait at the start are left. Until then the table is empty, and nothing is called.
     ticks_to_wait: u64,
     receiver: Receiver,
+    /// The destinations of virtual links. All frames that go there are theirs: no other stream has one of these.
+    links: Vec<u64>,
     watches: Watches,
     drops: [Rise; NETWORKS],
     refused: Refused,
@@ -173,9 +175,11 @@ impl Host {
                 (network, &self.tagged[..turned.length])
             }
         };
-        let answer = self
-            .receiver
-            .arrival(network as u8, frame, &mut self.out[..]);
+        let (number, out) = (network as u8, &mut self.out[..]);
+        let answer = match goes_to(&self.links, frame) {
+            true => self.receiver.link_arrival(number, frame, out),
+            false => self.receiver.arrival(number, frame, out),
+        };
         let Arrival {
             slot,
             number,
@@ -457,9 +461,21 @@ impl Host {
     }
 }
 
-fn keys(receiver: &Receiver) -> Vec<Key> {
+/// Does a frame go to one of these destinations?
+fn goes_to(links: &[u64], frame: &[u8]) -> bool {
+    match frame.get(..6) {
+        Some(&[a, b, c, d, e, f]) => links.contains(&dest_of([a, b, c, d, e, f])),
+        _ => false,
+    }
+}
+
+/// The destinations of virtual links, and the keys of all other streams.
+fn links_and_keys(receiver: &Receiver) -> (Vec<u64>, Vec<Key>) {
     let used = receiver.records().iter().filter(|stream| stream.is_used());
-    used.map(|stream| (stream.dest, stream.vlan)).collect()
+    let (links, others): (Vec<&Stream>, Vec<&Stream>) =
+        used.partition(|stream| stream.rule == Stream::LINK_RULE);
+    let keys = others.iter().map(|stream| (stream.dest, stream.vlan));
+    (links.iter().map(|link| link.dest).collect(), keys.collect())
 }
 
 /// The lock beside the file of counters, held for as long as it is open.
@@ -498,8 +514,9 @@ fn receive(options: Options) -> Result<(), Trouble> {
     }
     let numbers = port::find_all(&options.interfaces)?;
     let _lock = lock_stats(&options)?;
+    let (links, keys) = links_and_keys(&options.asked);
     let setup = Setup {
-        filter: (!options.all).then(|| filter::program(&keys(&options.asked), options.prp)),
+        filter: (!options.all).then(|| filter::program(&links, &keys, options.prp)),
         room: options.room_kb << 10,
         ring: options.ring,
     };
@@ -528,6 +545,7 @@ fn receive(options: Options) -> Result<(), Trouble> {
         order: Order::new(period, opened, now, clock.measure_ahead()),
         ticks_to_wait: options.ticks_of_wait(),
         receiver: Receiver::new(Stream::SLOTS_MOST),
+        links,
         watches: Watches::new(0, None, now),
         drops: [Rise::default(); NETWORKS],
         options,

@@ -11,7 +11,7 @@ use std::path::PathBuf;
 use std::str::FromStr;
 
 pub const USAGE: &str = "usage: receive-rust [OPTION].. INTERFACE0 INTERFACE1
-  --open DEST,VLAN,RULE,L,R   a stream: address in hex, id, vector or match, window, reset time in ticks; again for more
+  --open DEST,VLAN,RULE,L,R   a stream: address in hex, id, vector or match, window, reset time in ticks; again for more. DEST,0,afdx,L,R is an AFDX virtual link
   --conf FILE                 the words of FILE in this place: a line OPTIONS=WORDS and a line INTERFACES=WORDS
   --tick MS                   a tick every MS milliseconds (100)
   --at-once                   no wait at the start. Without this it lasts R ticks, the largest R, and nothing is handed up in it: copies of what was handed up before a restart may still come
@@ -139,7 +139,7 @@ pub fn read(
             None => Err(misused(&format!("option '{name}' requires an argument"))),
         };
         match name {
-            "--open" => streams.push(open(&mut asked, &value()?, &mut warn)?),
+            "--open" => streams.push(open(&mut asked, &streams, &value()?, &mut warn)?),
             "--conf" => {
                 let file = value()?;
                 if let Some(own) = own_file {
@@ -174,6 +174,10 @@ pub fn read(
     })?;
     if streams.is_empty() {
         return Err("no stream: --open names one".to_string().into());
+    }
+    if prp.is_some() && streams.iter().any(is_link) {
+        let what = "--prp holds for all streams, and frames of an afdx stream have no trailer";
+        return Err(what.to_string().into());
     }
     let options = Options {
         streams,
@@ -303,8 +307,13 @@ fn conf_words(value: &str) -> Option<Vec<String>> {
     Some(words.map(str::to_string).collect())
 }
 
+fn is_link(s: &Settings) -> bool {
+    s.rule == Stream::LINK_RULE
+}
+
 fn open(
     asked: &mut Receiver,
+    before: &[Settings],
     text: &str,
     warn: &mut impl FnMut(String),
 ) -> Result<Settings, String> {
@@ -319,6 +328,14 @@ fn open(
         let outside = outside.join(", ");
         format!("open {text}: {number}, {words}{colon}{outside}")
     })?;
+    // A frame of a virtual link has nothing but its destination to be known by: no type, and no VLAN tag that means something.
+    let is_mixed = |other: &Settings| {
+        is_link(other) != is_link(&settings) && other.destination == settings.destination
+    };
+    if before.iter().any(is_mixed) {
+        let why = "an afdx stream and another one have this destination, and frames are told apart by it alone";
+        return Err(format!("open {text}: {why}"));
+    }
     if settings.time == 1 {
         let why = "R = 1 is never safe: a tick may fall between two copies";
         warn(format!("open {text}: {why}"));
@@ -326,18 +343,34 @@ fn open(
     Ok(settings)
 }
 
+/// How the rules are called; afdx is a virtual link.
+const RULES: [(&str, u8); 3] = [
+    ("vector", Stream::VECTOR_RULE),
+    ("match", Stream::MATCH_RULE),
+    ("afdx", Stream::LINK_RULE),
+];
+
+pub fn rule_words(rule: u8) -> &'static str {
+    let found = RULES.iter().find(|&&(_, one)| one == rule);
+    found.map_or("none", |(name, _)| name)
+}
+
 /// Which settings are outside the sizes.
 fn outside(s: &Settings) -> Vec<String> {
     let range = |name: &str, n: u16, least: u16, most: u16| {
         (n < least || n > most).then(|| format!("{name} {n} is not from {least} to {most}"))
     };
-    let (vector, other) = (Stream::VECTOR_RULE, Stream::MATCH_RULE);
-    let rule = (s.rule != vector && s.rule != other).then(|| {
-        let rule = s.rule;
-        format!("rule {rule} is neither {vector} (vector) nor {other} (match)")
+    let vlan = match is_link(s) {
+        true => (s.vlan != 0).then(|| format!("VLAN id {} is not 0, as afdx asks", s.vlan)),
+        false => range("VLAN id", s.vlan, 0, Stream::VLAN_MOST),
+    };
+    let is_rule = RULES.iter().any(|&(_, rule)| rule == s.rule);
+    let rule = (!is_rule).then(|| {
+        let [first, second, last] = RULES.map(|(name, rule)| format!("{rule} ({name})"));
+        format!("rule {} is not {first}, {second} or {last}", s.rule)
     });
     let found = [
-        range("VLAN id", s.vlan, 0, Stream::VLAN_MOST),
+        vlan,
         rule,
         range("L", s.window, Stream::WINDOW_LEAST, Stream::WINDOW_MOST),
         range("R", s.time, Stream::TIME_LEAST, Stream::TIME_MOST),
@@ -355,11 +388,10 @@ fn read_settings(text: &str) -> Result<Settings, String> {
     Ok(Settings {
         destination: read_address(dest)?,
         vlan: read_field("VLAN id", vlan, 0, Stream::VLAN_MOST)?,
-        rule: match rule {
-            "vector" => Stream::VECTOR_RULE,
-            "match" => Stream::MATCH_RULE,
-            _ => read_number("rule", rule, 0, u8::MAX)
-                .map_err(|_| format!("rule '{rule}' is neither vector nor match"))?,
+        rule: match RULES.iter().find(|(name, _)| *name == rule) {
+            Some(&(_, rule)) => rule,
+            None => read_number("rule", rule, 0, u8::MAX)
+                .map_err(|_| format!("rule '{rule}' is not vector, match or afdx"))?,
         },
         window: read_field(
             "window L",
@@ -644,11 +676,11 @@ mod tests {
             ("--backlog 7", "backlog '7' is no number from 8 to 1048576"),
             (
                 "--open 020000000001,0,vektor,5,3",
-                "rule 'vektor' is neither vector nor match",
+                "rule 'vektor' is not vector, match or afdx",
             ),
             (
                 "--open 020000000001,0,256,5,3",
-                "rule '256' is neither vector nor match",
+                "rule '256' is not vector, match or afdx",
             ),
             ("--open 1", "'1' is not DEST,VLAN,RULE,L,R"),
             ("--open ,,,,", "',,,,' is not DEST,VLAN,RULE,L,R"),
@@ -664,9 +696,14 @@ mod tests {
             ("0,vector,513,3", "L 513 is not from 2 to 512"),
             ("4095,vector,5,3", "VLAN id 4095 is not from 0 to 4094"),
             (
-                "9999,3,1,0",
-                "VLAN id 9999 is not from 0 to 4094, rule 3 is neither 1 (vector) nor 2 (match), L 1 is not from 2 to 512, \
+                "9999,4,1,0",
+                "VLAN id 9999 is not from 0 to 4094, rule 4 is not 1 (vector), 2 (match) or 3 (afdx), L 1 is not from 2 to 512, \
                  R 0 is not from 1 to 65535",
+            ),
+            ("5,afdx,2,3", "VLAN id 5 is not 0, as afdx asks"),
+            (
+                "4095,3,1,3",
+                "VLAN id 4095 is not 0, as afdx asks, L 1 is not from 2 to 512",
             ),
         ] {
             let text = format!("020000000001,{settings}");
@@ -675,6 +712,33 @@ mod tests {
         }
         let twice = "open 01:00:5e:00:00:07,100,vector,5,3: 10, a slot in use has the key";
         assert_eq!(refused(&format!("{OPEN} {OPEN}")), twice);
+    }
+
+    #[test]
+    fn virtual_links() {
+        let link = "--open 030000000007,0,afdx,2,3";
+        let o = options(&format!("{link} {OPEN} --open 030000000008,0,3,2,3 a b"));
+        let rules: Vec<u8> = o.streams.iter().map(|s| s.rule).collect();
+        assert_eq!(rules, [3, 1, 3]);
+        assert_eq!([1, 2, 3].map(rule_words), ["vector", "match", "afdx"]);
+        let prp = "--prp holds for all streams, and frames of an afdx stream have no trailer";
+        assert_eq!(refused(&format!("{link} --prp first a b")), prp);
+        assert_eq!(refused(&format!("--prp 2012 {OPEN} {link} a b")), prp);
+        // One destination for both kinds: by the library where the VLAN id is 0 too.
+        for (first, second) in [
+            ("0,afdx,2,3", "9,vector,5,3"),
+            ("9,match,5,3", "0,afdx,2,3"),
+        ] {
+            let words = format!("--open 030000000007,{first} --open 030000000007,{second} a b");
+            let why = "an afdx stream and another one have this destination, and frames are told apart by it alone";
+            assert_eq!(
+                refused(&words),
+                format!("open 030000000007,{second}: {why}")
+            );
+        }
+        let words = format!("{link} --open 030000000007,0,vector,5,3 a b");
+        let taken = "open 030000000007,0,vector,5,3: 10, a slot in use has the key";
+        assert_eq!(refused(&words), taken);
     }
 
     #[test]

@@ -1,5 +1,6 @@
 //! What the program tells of itself: the counters in lines and in the text form that Prometheus reads, and alarms.
 
+use crate::options;
 use crate::order::NETWORKS;
 use crate::port;
 use crate::socket::State;
@@ -199,7 +200,7 @@ impl Report<'_> {
                 "{} rule {} L {} R {} arrivals0 {} arrivals1 {} passed {} discarded {} rogue {} out_of_order {} lost {} \
                  resets {} silences0 {} returns0 {} silences1 {} returns1 {}",
                 name_of(slot, s),
-                rule_of(s),
+                options::rule_words(s.rule),
                 s.window,
                 s.time,
                 c.arrivals0,
@@ -350,13 +351,6 @@ fn name_of(slot: usize, stream: &Stream) -> String {
         address_of(stream),
         stream.vlan
     )
-}
-
-fn rule_of(stream: &Stream) -> &'static str {
-    match stream.rule {
-        Stream::VECTOR_RULE => "vector",
-        _ => "match",
-    }
 }
 
 fn address_of(stream: &Stream) -> String {

@@ -8,7 +8,7 @@ use nippitsun::{Counts, Stream, Verdict};
 
 /// Hand-ups of a block, of which it is counted how many had a second copy. By the formulas the window is twice as wide as
 /// networks that are in order lie apart: so at least half of as many frames have their second copies within them, however the
-/// networks change places.
+/// networks change places. A virtual link has no window, and its L is for this alone.
 pub fn block_of(stream: &Stream) -> u64 {
     u64::from(stream.window).max(16)
 }

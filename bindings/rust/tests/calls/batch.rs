@@ -196,7 +196,7 @@ fn small_outputs() {
 fn other_refusals_go_on_even_with_no_room() {
     let mut records = vec![running(); 2];
     records[0].vlan = 5;
-    records[1].rule = 3;
+    records[1].rule = 4;
     let mut vlan = tagged(60, 101);
     vlan.splice(12..12, [0x81, 0x00, 0x00, 0x06]);
     let frames = [

@@ -39,6 +39,17 @@ fn frame_to(dest: u64, vlan: u16, number: u16) -> Vec<u8> {
     frame
 }
 
+/// The streams that a call looks at.
+type Among = fn(&Stream) -> bool;
+
+fn is_link(s: &Stream) -> bool {
+    s.rule == Stream::LINK_RULE
+}
+
+fn is_no_link(s: &Stream) -> bool {
+    !is_link(s)
+}
+
 /// A table and its index, as a caller lends them.
 #[derive(Clone, PartialEq, Debug)]
 struct Lent {
@@ -55,26 +66,32 @@ impl Lent {
         Lent::new(vec![Stream::default(); slots], index)
     }
 
-    fn has_key(&self, slot: usize, dest: u64, vlan: u16) -> bool {
-        let holds = |s: &Stream| s.is_used() && (s.dest, s.vlan) == (dest, vlan);
+    fn has_key(&self, slot: usize, (dest, vlan): (u64, u16), among: Among) -> bool {
+        let holds = |s: &Stream| s.is_used() && (s.dest, s.vlan) == (dest, vlan) && among(s);
         self.table.get(slot).map_or(false, holds)
     }
 
-    fn searched(&self, dest: u64, vlan: u16) -> Option<usize> {
-        (0..self.table.len()).find(|&slot| self.has_key(slot, dest, vlan))
+    fn searched(&self, key: (u64, u16), among: Among) -> Option<usize> {
+        (0..self.table.len()).find(|&slot| self.has_key(slot, key, among))
     }
 
-    fn followed(&self, dest: u64, vlan: u16) -> Option<usize> {
-        let own = own_place(dest, vlan);
+    fn followed(&self, key: (u64, u16), among: Among) -> Option<usize> {
+        let own = own_place(key.0, key.1);
         let names = (0..PLACES).map(|n| usize::from(self.index[(own + n) % PLACES]));
         let mut named = names.take_while(|&name| name != 0).map(|name| name - 1);
-        named.find(|&slot| self.has_key(slot, dest, vlan))
+        named.find(|&slot| self.has_key(slot, key, among))
     }
 
-    /// A key that is not in use is never found by following, so the keys in use are all.
+    /// A key that is not in use is never found by following, so the keys in use are all. Each is asked for among the links and
+    /// among the rest.
     fn agrees(&self) -> bool {
         let mut in_use = self.table.iter().filter(|s| s.is_used());
-        in_use.all(|s| self.followed(s.dest, s.vlan) == self.searched(s.dest, s.vlan))
+        in_use.all(|s| {
+            let key = (s.dest, s.vlan);
+            let families: [Among; 2] = [is_link, is_no_link];
+            let mut both = families.into_iter();
+            both.all(|among| self.followed(key, among) == self.searched(key, among))
+        })
     }
 
     /// 1, 18, or 0.
@@ -125,7 +142,7 @@ impl Lent {
         );
         self.hold(&before, a.refusal);
         if before.unfit() == 0 && a.refusal != Refusal::Setting as u8 {
-            let holder = before.searched(dest_of(s.destination), s.vlan);
+            let holder = before.searched((dest_of(s.destination), s.vlan), |_| true);
             let free = before.table.iter().position(|s| !s.is_used());
             let want = match (holder, free) {
                 (Some(_), _) => (0, Refusal::Taken as u8),
@@ -318,6 +335,42 @@ fn two_slots_with_one_key() {
     }
 }
 
+/// A link and another stream with one key: the index names both, in any order, and where one family has both the lower is enough.
+#[test]
+fn a_key_in_both_families() {
+    let dest = dest_at(127, 0);
+    for link in [0, 1] {
+        let mut lent = Lent::free(4, vec![0; PLACES]);
+        lent.table[link] = Stream {
+            rule: Stream::LINK_RULE,
+            ..running_to(dest)
+        };
+        lent.table[1 - link] = running_to(dest);
+        for (names, agrees) in [
+            ([2, 1], true),
+            ([1, 2], true),
+            ([1, 0], false),
+            ([2, 0], false),
+        ] {
+            (lent.index[127], lent.index[0]) = (names[0], names[1]);
+            assert_eq!(lent.taken(), agrees);
+            assert!(!agrees || lent.found(dest) == Some(1 - link));
+        }
+        // What a call has made stays good where a rule is written to.
+        lent.rebuild();
+        for rules in [[1, 1], [3, 3], [0, 3], [3, 4], [2, 3]] {
+            (lent.table[0].rule, lent.table[1].rule) = (rules[0], rules[1]);
+            assert!(lent.taken());
+        }
+        for (rule, found) in [(Stream::VECTOR_RULE, Some(0)), (Stream::LINK_RULE, None)] {
+            (lent.table[0].rule, lent.table[1].rule) = (rule, rule);
+            (lent.index[127], lent.index[0]) = (1, 0);
+            assert!(lent.taken());
+            assert_eq!(lent.found(dest), found);
+        }
+    }
+}
+
 /// A destination of more than 52 bits has the own place of its low 52, and is another key.
 #[test]
 fn keys_that_no_frame_has_count_too() {
@@ -349,7 +402,7 @@ fn no_refusal_changes_a_place() {
     lent.index[77] = 2;
     assert!(lent.unfit() == 0 && !lent.is_rebuilt());
     let other = settings(0);
-    let bad = Settings { rule: 3, ..other };
+    let bad = Settings { rule: 4, ..other };
     assert_eq!(lent.open(bad).refusal, Refusal::Setting as u8);
     assert_eq!(lent.open_to(second).refusal, Refusal::Taken as u8);
     assert_eq!(lent.open(other).refusal, Refusal::Full as u8);
@@ -367,7 +420,7 @@ fn no_refusal_changes_a_place() {
 #[test]
 fn eighteen_comes_behind_1_alone() {
     let bad = Settings {
-        rule: 3,
+        rule: 4,
         ..settings(0)
     };
     let used = vec![running(), Stream::default()];
@@ -418,8 +471,10 @@ fn as_a_look_at_every_record() {
             } else {
                 1 + dice.below(255) as u8
             };
+            let rule = [1, dice.below(5) as u8][dice.below(2) as usize];
             *s = Stream {
                 vlan,
+                rule,
                 used,
                 ..running_to(dest)
             };
@@ -442,6 +497,7 @@ fn as_a_look_at_every_record() {
                 let window = [1, 4][usize::from(dice.below(8) != 0)];
                 lent.open(Settings {
                     destination: six(dest),
+                    rule: 1 + dice.below(3) as u8,
                     window,
                     ..settings(vlan)
                 });
