@@ -275,10 +275,11 @@ fn decisions() -> Group {
 }
 
 /// The arrivals first: they are the one table.
-pub fn all() -> [Group; 7] {
+pub fn all() -> [Group; 8] {
     [
         cells_arrivals::arrivals(),
         cells_arrivals::windows(),
+        cells_arrivals::links(),
         cells_batches::batches(),
         tags(),
         cells_sends::sends(),

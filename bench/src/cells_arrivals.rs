@@ -1,4 +1,5 @@
-//! The cells of the whole arrival. Every side sees the same frames on the same table: the streams come in turn.
+//! The cells of the whole arrival, and of a virtual link's. Every side sees the same frames on the same table: the streams come
+//! in turn.
 use crate::cells::{frame, hidden, Cell, Group, Room, Work, RING};
 use crate::compare_arrivals::record_of;
 use crate::record::{ArrivalAnswer, Stream};
@@ -14,6 +15,8 @@ enum Keys {
     Both,
     /// By the VLAN id. The destination is one.
     Vlans,
+    /// By the destination, and the streams are virtual links: the frames have no tag, and their last byte is the number.
+    Links,
 }
 
 impl Keys {
@@ -28,14 +31,30 @@ impl Keys {
     /// The VLAN id of the stream.
     fn vlan(self, stream: u8) -> u16 {
         match self {
-            Keys::Destinations => 0,
+            Keys::Destinations | Keys::Links => 0,
             _ => stream as u16 + 1,
         }
     }
 
     /// Do the frames have a VLAN tag?
     fn tagged(self) -> bool {
-        self != Keys::Destinations
+        self == Keys::Both || self == Keys::Vlans
+    }
+
+    /// How many bytes a frame has more than what is handed up of it.
+    fn taken(self) -> usize {
+        match self {
+            Keys::Links => 1,
+            _ => 6,
+        }
+    }
+
+    /// The number that each stream has had last when a cell starts.
+    fn anchor(self) -> u16 {
+        match self {
+            Keys::Links => 200,
+            _ => 65000,
+        }
     }
 }
 
@@ -80,17 +99,19 @@ const MIXES: [Mix; 3] = [
     mix("duplicate", 0, 0),
 ];
 
-/// Those of 64 bytes and one stream alone. There is no network 2: that arrival is refused before its frame is read, so it is
-/// the call and little else.
+/// Those of 64 bytes and one stream alone.
 const SINGLE: [Mix; 4] = [
     mix("gap8", 8, 8),
     mix("gap63", 63, 63),
     mix("rogue", 1000, 0),
-    Mix {
-        network: 2,
-        ..mix("refused", 1, 1)
-    },
+    REFUSED,
 ];
+
+/// There is no network 2: that arrival is refused before its frame is read, so it is the call and little else.
+const REFUSED: Mix = Mix {
+    network: 2,
+    ..mix("refused", 1, 1)
+};
 
 /// Those of the largest window, of 64 bytes and one stream alone. Of the late ones every frame but one in 511 is late, by 1 to
 /// 510 places.
@@ -120,8 +141,13 @@ const SHARED: Mix = Mix {
     ..mix("shared", 1, 1)
 };
 
-/// The number that each stream has had last when a cell starts.
-const ANCHOR: u16 = 65000;
+/// The same mix with virtual links.
+const fn linked(mix: Mix) -> Mix {
+    Mix {
+        keys: Keys::Links,
+        ..mix
+    }
+}
 
 /// What stands above the VLAN id in a VLAN tag. It is no part of the key.
 const PRIORITY: u16 = 0x2000;
@@ -143,7 +169,7 @@ impl Coming {
             mix,
             streams,
             stream: 0,
-            number: ANCHOR.wrapping_add(mix.ahead),
+            number: mix.keys.anchor().wrapping_add(mix.ahead),
             behind: 0,
             second: false,
         }
@@ -151,7 +177,8 @@ impl Coming {
 
     /// A frame of the mix, but for what `write` puts into it.
     fn shape(&self, size: usize) -> Vec<u8> {
-        let mut f = frame(size, self.mix.keys.tagged(), true);
+        let keys = self.mix.keys;
+        let mut f = frame(size, keys.tagged(), keys != Keys::Links);
         f[..6].copy_from_slice(&[2, 0, 0, 0, 0, 0]);
         f
     }
@@ -165,10 +192,14 @@ impl Coming {
         } else {
             let back = std::mem::take(&mut self.behind);
             self.number = self.number.wrapping_add(back).wrapping_add(self.mix.step);
+            // Behind 255 comes 1.
+            if self.mix.keys == Keys::Links && self.number > 255 {
+                self.number -= 255;
+            }
         }
     }
 
-    /// Writes the frame's key and number, and goes on to the next.
+    /// Writes the frame's key and number, and goes on to the next. Nothing stands behind the frame.
     #[inline(always)]
     fn write(&mut self, f: &mut [u8]) {
         let keys = self.mix.keys;
@@ -178,7 +209,11 @@ impl Coming {
             f[14..16].copy_from_slice(&(PRIORITY | keys.vlan(self.stream)).to_be_bytes());
             at = 20;
         }
-        f[at..at + 2].copy_from_slice(&self.number.to_be_bytes());
+        if keys == Keys::Links {
+            f[f.len() - 1] = self.number as u8;
+        } else {
+            f[at..at + 2].copy_from_slice(&self.number.to_be_bytes());
+        }
         if self.mix.pair && !self.second {
             self.second = true;
             return;
@@ -195,6 +230,7 @@ impl Coming {
 /// The frames to come. One that was used is written anew for its next turn, so no frame is read just after it is written.
 struct Traffic {
     room: Box<Room>,
+    size: usize,
     place: usize,
     coming: Coming,
 }
@@ -203,6 +239,7 @@ impl Traffic {
     fn new(size: usize, streams: u8, mix: Mix) -> Traffic {
         let mut t = Traffic {
             room: Room::new(),
+            size,
             place: 0,
             coming: Coming::new(streams, mix),
         };
@@ -218,7 +255,8 @@ impl Traffic {
     /// Writes the next frame to its place, and goes on to the next place.
     #[inline(always)]
     fn renew(&mut self) {
-        self.coming.write(&mut self.room.ring[self.place]);
+        self.coming
+            .write(&mut self.room.ring[self.place][..self.size]);
         self.place = (self.place + 1) % RING;
     }
 
@@ -231,23 +269,32 @@ impl Traffic {
             mix.network
         }
     }
+
+    /// The last byte of a frame that is handed up.
+    fn last(&self) -> u64 {
+        self.room.out[self.size - self.coming.mix.keys.taken() - 1] as u64
+    }
 }
 
 /// A table begins with a page, on every side.
 #[repr(align(4096))]
 pub struct Slots<T>(pub [T; 64]);
 
-/// The streams, each in the middle of its life: vector rule, the whole window came.
+/// The streams, each in the middle of its life: virtual links, or of the vector rule, and then the whole window came.
 fn table(mix: Mix) -> Box<Slots<second::Stream>> {
+    let (rule, history) = match mix.keys {
+        Keys::Links => (3, [0; 8]),
+        _ => (1, whole(mix.window)),
+    };
     Box::new(Slots(std::array::from_fn(|i| second::Stream {
         in_use: 1,
         destination: [2, 0, 0, 0, 0, mix.keys.last(i as u8)],
         vlan: mix.keys.vlan(i as u8),
-        rule: 1,
+        rule,
         window: mix.window,
         reset_time: 100,
-        anchor: ANCHOR,
-        history: whole(mix.window),
+        anchor: mix.keys.anchor(),
+        history,
         take_any: 0,
         remaining: 100,
         ..second::Stream::FREE
@@ -313,7 +360,7 @@ macro_rules! arriving {
                 sum = sum.wrapping_add($call(table, network, f, &mut room.out).sum());
                 traffic.renew();
             }
-            sum.wrapping_add(traffic.room.out[size - 7] as u64)
+            sum.wrapping_add(traffic.last())
         })
     }};
 }
@@ -328,7 +375,7 @@ fn copying(size: usize, streams: u8, mix: Mix) -> Work {
             plain::copy(&room.ring[traffic.place][..size], &mut room.out);
             traffic.renew();
         }
-        traffic.room.out[size - 7] as u64
+        traffic.last()
     })
 }
 
@@ -354,13 +401,21 @@ fn calling(size: usize, streams: u8, mix: Mix) -> Work {
 }
 
 fn cell(group: &str, size: usize, streams: u8, mix: Mix) -> Cell {
-    let works: Vec<Work> = vec![
-        arriving!(proved::arrival, records(mix), size, streams, mix),
-        arriving!(plain::arrival_at, records(mix), size, streams, mix),
-        arriving!(plain::arrival, table(mix), size, streams, mix),
-        copying(size, streams, mix),
-        calling(size, streams, mix),
-    ];
+    let mut works: Vec<Work> = if mix.keys == Keys::Links {
+        vec![
+            arriving!(proved::link_arrival, records(mix), size, streams, mix),
+            arriving!(plain::link_arrival_at, records(mix), size, streams, mix),
+            arriving!(plain::link_arrival, table(mix), size, streams, mix),
+        ]
+    } else {
+        vec![
+            arriving!(proved::arrival, records(mix), size, streams, mix),
+            arriving!(plain::arrival_at, records(mix), size, streams, mix),
+            arriving!(plain::arrival, table(mix), size, streams, mix),
+        ]
+    };
+    works.push(copying(size, streams, mix));
+    works.push(calling(size, streams, mix));
     Cell {
         name: format!("{}-{}-{}-{}", group, size, streams, mix.name),
         each: 1,
@@ -368,15 +423,21 @@ fn cell(group: &str, size: usize, streams: u8, mix: Mix) -> Cell {
     }
 }
 
-pub fn arrivals() -> Group {
+/// The mixes that are timed in every size and with every number of streams.
+fn in_all_sizes(group: &str, mixes: [Mix; 3]) -> Vec<Cell> {
     let mut cells = Vec::new();
     for size in [64, 256, 1500] {
         for streams in [1, 8, 64] {
-            for mix in MIXES {
-                cells.push(cell("arrival", size, streams, mix));
+            for mix in mixes {
+                cells.push(cell(group, size, streams, mix));
             }
         }
     }
+    cells
+}
+
+pub fn arrivals() -> Group {
+    let mut cells = in_all_sizes("arrival", MIXES);
     for size in [64, 1500] {
         cells.push(cell("arrival", size, 1, VLANS));
         for streams in [8, 64] {
@@ -394,6 +455,13 @@ pub fn arrivals() -> Group {
 pub fn windows() -> Group {
     let cells = LARGEST.map(|mix| cell("window", 64, 1, mix));
     group(cells.into_iter().collect())
+}
+
+/// The arrivals of virtual links.
+pub fn links() -> Group {
+    let mut cells = in_all_sizes("link", MIXES.map(linked));
+    cells.push(cell("link", 64, 1, linked(REFUSED)));
+    group(cells)
 }
 
 fn group(cells: Vec<Cell>) -> Group {

@@ -215,23 +215,46 @@ pub fn number(dice: &mut Dice, anchor: u16, window: u16) -> u16 {
     }
 }
 
+/// A virtual link's number: near the last one, near what is no longer ahead of it, 0, or any.
+pub fn link_number(dice: &mut Dice, last: u16) -> u8 {
+    let d = match dice.below(4) {
+        0 => dice.below(3) as u8,
+        1 => 126 + dice.below(4) as u8,
+        2 => return [0, 1, 127, 128, 255][dice.below(5) as usize],
+        _ => return dice.next() as u8,
+    };
+    if dice.one_in(2) {
+        (last as u8).wrapping_sub(d)
+    } else {
+        (last as u8).wrapping_add(d)
+    }
+}
+
 /// A random record: most often lawful, in all states; else damaged in one way or in all.
 fn record(dice: &mut Dice) -> Stream {
     let window = window(dice);
     let time = 1 + dice.below(65535) as u16;
-    let rule = 1 + dice.below(2) as u8;
+    let rule = 1 + dice.below(3) as u8;
     let mut history = history(dice, window);
     let early = early(dice, window, &mut history);
     let mut s = Stream {
         dest: dice.next(),
-        vlan: dice.below(4095) as u16,
+        vlan: if rule == 3 {
+            0
+        } else {
+            dice.below(4095) as u16
+        },
         window,
         time,
         rule,
         used: 1 + dice.below(255) as u8,
         state: State {
             history: if rule == 1 { history } else { [0; 8] },
-            anchor: dice.next() as u16,
+            anchor: if rule == 3 {
+                dice.below(256) as u16
+            } else {
+                dice.next() as u16
+            },
             remaining: 1 + dice.below(time as u64) as u16,
             early: if rule == 1 { early } else { 0 },
             any: 0,
@@ -273,7 +296,7 @@ fn record(dice: &mut Dice) -> Stream {
         8 => s.window = 513,
         9 => s.window = 1,
         10 => s.state.remaining = s.time.wrapping_add(1),
-        11 => s.state.anchor = 65534,
+        11 => s.state.anchor = [255, 256, 65534][dice.below(3) as usize],
         12 => s.state.early = 1 + dice.below(512) as u16,
         13 => s.state.early = s.window,
         14 => s.state.early = dice.next() as u16,
@@ -286,11 +309,16 @@ fn record(dice: &mut Dice) -> Stream {
 
 pub fn decisions(cases: u64, kept: &mut Cases) -> Result<u64, String> {
     let mut dice = Dice::new();
-    let mut seen = [0u64; 4];
+    let mut seen = [[0u64; 4]; 2];
     let mut of_window = [[0u64; 4]; WINDOWS.len()];
     for case in 0..cases {
         let s = record(&mut dice);
-        let number = number(&mut dice, s.state.anchor, s.window);
+        // A virtual link's number is a byte.
+        let number = if s.rule == 3 {
+            link_number(&mut dice, s.state.anchor) as u16
+        } else {
+            number(&mut dice, s.state.anchor, s.window)
+        };
         let network = match dice.below(5) {
             0 => dice.next() as u8,
             n => (n % 2) as u8,
@@ -302,7 +330,7 @@ pub fn decisions(cases: u64, kept: &mut Cases) -> Result<u64, String> {
         if x != y || x.stream != t || x.verdict != z {
             return Err(wrong("one decision", case));
         }
-        seen[x.verdict as usize] += 1;
+        seen[(s.rule == 3) as usize][x.verdict as usize] += 1;
         if let Some(n) = WINDOWS.iter().position(|&w| w == s.window) {
             of_window[n][x.verdict as usize] += 1;
         }
@@ -315,6 +343,7 @@ pub fn decisions(cases: u64, kept: &mut Cases) -> Result<u64, String> {
             &[x.verdict],
         ]);
         let step = match dice.below(8) {
+            _ if s.rule == 3 => 0,
             0 | 1 => 1,
             2 => 0,
             3 => 63,
@@ -340,7 +369,8 @@ pub fn decisions(cases: u64, kept: &mut Cases) -> Result<u64, String> {
             &r.to_bytes(),
         ]);
     }
-    all_seen("one decision", &seen, &[0, 1, 2, 3])?;
+    all_seen("one decision", &seen[0], &[0, 1, 2, 3])?;
+    all_seen("one decision of a virtual link", &seen[1], &[0, 1, 2])?;
     for (w, seen) in WINDOWS.iter().zip(&of_window) {
         all_seen(&format!("one decision with L = {}", w), seen, &[0, 1, 2, 3])?;
     }

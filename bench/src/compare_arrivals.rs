@@ -1,7 +1,8 @@
-//! Random arrivals on random tables: the archive's call, the second program's and the plain one in place. Answers, every
-//! record field by field, and every output byte must be equal, and each refusal and verdict must have come up.
+//! Random arrivals on random tables, which have virtual links and other streams: the archive's calls, the second program's and
+//! the plain ones in place. Answers, every record field by field, and every output byte must be equal, and each refusal and
+//! verdict must have come up.
 use crate::compare::{
-    all_seen, early, history, individual, mark_behind, number, window, wrong, Dice,
+    all_seen, early, history, individual, link_number, mark_behind, number, window, wrong, Dice,
 };
 use crate::record::{
     ArrivalAnswer, Counts, SlotAnswer, State, Stream, TickAnswer, DUPLICATE, HANDED_UP, PLACES,
@@ -82,6 +83,14 @@ impl Tables {
                 .all(|(a, b)| record_of(a) == *b)
     }
 
+    /// Is a lower slot in use that has this one's key? An arrival that finds this one has passed over it.
+    pub fn passes(&self, slot: usize) -> bool {
+        let s = &self.proved[slot];
+        self.proved[..slot]
+            .iter()
+            .any(|l| l.used != 0 && l.dest == s.dest && l.vlan == s.vlan)
+    }
+
     /// What the caller may write into a slot, in all three.
     fn set(&mut self, slot: usize, s: second::Stream) {
         self.second[slot] = s;
@@ -99,6 +108,15 @@ fn vlan(dice: &mut Dice) -> u16 {
         0 => 4095 - dice.below(2) as u16,
         1 => dice.below(8) as u16,
         _ => 0,
+    }
+}
+
+/// The same for a stream of this rule. A virtual link has another one than 0 rarely, and then it is not opened.
+fn vlan_of(dice: &mut Dice, rule: u8) -> u16 {
+    if rule == 3 && !dice.one_in(16) {
+        0
+    } else {
+        vlan(dice)
     }
 }
 
@@ -122,10 +140,11 @@ pub fn tables(dice: &mut Dice, case: u64) -> Result<Tables, String> {
             0 => 513,
             _ => window(dice),
         };
+        let rule = 1 + dice.below(3) as u8;
         let s = Settings {
             destination,
-            vlan: vlan(dice),
-            rule: 1 + dice.below(2) as u8,
+            vlan: vlan_of(dice, rule),
+            rule,
             window,
             reset_time: if dice.one_in(2) {
                 1 + dice.below(4) as u16
@@ -157,21 +176,26 @@ pub fn tables(dice: &mut Dice, case: u64) -> Result<Tables, String> {
     Ok(t)
 }
 
-/// Something that the caller's memory may come to hold: free, damaged, or with counters about to wrap.
+/// Something that the caller's memory may come to hold: free, damaged, with the key of another slot, or with counters about to
+/// wrap.
 pub fn stir(dice: &mut Dice, t: &mut Tables) {
     let slot = dice.below(t.second.len() as u64) as usize;
     let mut s = t.second[slot];
     let place = dice.below(8) as usize;
     match dice.below(12) {
         0 => s.in_use = dice.below(3) as u8,
-        1 => s.rule = dice.below(4) as u8,
+        1 => s.rule = dice.below(5) as u8,
         2 => s.window = dice.below(1024) as u16,
         3 => s.reset_time = dice.below(3) as u16,
         4 => s.take_any = dice.below(3) as u16 * 128,
         5 => s.remaining = dice.below(4) as u16,
         6 => s.history[place] = dice.next(),
-        7 => s.anchor = dice.next() as u16,
-        8 => s.destination = t.second[0].destination,
+        7 => s.anchor = dice.next() as u16 >> dice.below(9),
+        8 => {
+            let other = t.second[dice.below(t.second.len() as u64) as usize];
+            s.destination = other.destination;
+            s.vlan = other.vlan;
+        }
         9 => s.early = dice.below(514) as u16,
         10 => mark_behind(dice, s.window, &mut s.history),
         _ => {
@@ -185,7 +209,7 @@ pub fn stir(dice: &mut Dice, t: &mut Tables) {
     if !s.is_lawful() && !dice.one_in(8) {
         let mut mended = s;
         mended.in_use = 1;
-        mended.rule = 1 + dice.below(2) as u8;
+        mended.rule = 1 + dice.below(3) as u8;
         mended.window = window(dice);
         mended.reset_time = mended.reset_time.max(1);
         mended.vlan = mended.vlan.min(4094);
@@ -197,13 +221,24 @@ pub fn stir(dice: &mut Dice, t: &mut Tables) {
             mended.history = history(dice, mended.window);
             mended.early = early(dice, mended.window, &mut mended.history);
         }
+        if mended.rule == 3 {
+            mended.vlan = 0;
+            mended.anchor %= 256;
+        }
         t.set(slot, mended);
     }
 }
 
-/// A frame for a slot of the table, most often one that arrives: its number is near the anchor.
-pub fn frame(dice: &mut Dice, pool: &[u8], t: &Tables) -> Vec<u8> {
-    let s = t.second[dice.below(t.second.len() as u64) as usize];
+/// A random slot, most often one that an arrival of a virtual link looks at, or another arrival.
+fn slot_for(dice: &mut Dice, t: &Tables, link: bool) -> second::Stream {
+    let mut any = || t.second[dice.below(t.second.len() as u64) as usize];
+    let first = any();
+    let mine = |s: &second::Stream| (s.rule == 3) == link;
+    (0..4).map(|_| any()).find(mine).unwrap_or(first)
+}
+
+/// The start of a frame to a slot, of random bytes.
+fn addressed(dice: &mut Dice, pool: &[u8], s: second::Stream) -> Vec<u8> {
     let length = match dice.below(24) {
         0 => dice.below(27),
         1 => 1990 + dice.below(20),
@@ -213,41 +248,60 @@ pub fn frame(dice: &mut Dice, pool: &[u8], t: &Tables) -> Vec<u8> {
     let from = dice.below((pool.len() - length) as u64) as usize;
     let mut f = pool[from..from + length].to_vec();
     individual(dice, &mut f);
-    let mut put = |at: usize, bytes: &[u8]| {
-        if at + bytes.len() <= length {
-            f[at..at + bytes.len()].copy_from_slice(bytes);
-        }
+    let to = if dice.one_in(30) {
+        destination(dice)
+    } else {
+        s.destination
     };
-    put(
-        0,
-        &if dice.one_in(30) {
-            destination(dice)
-        } else {
-            s.destination
-        },
-    );
+    put(&mut f, 0, &to);
+    f
+}
+
+/// Writes these bytes, if the frame has the place.
+fn put(f: &mut [u8], at: usize, bytes: &[u8]) {
+    if let Some(place) = f.get_mut(at..at + bytes.len()) {
+        place.copy_from_slice(bytes);
+    }
+}
+
+/// A frame of a virtual link, most often one of the table's. Sometimes it has a VLAN tag, which means nothing there.
+fn link_frame(dice: &mut Dice, pool: &[u8], t: &Tables) -> Vec<u8> {
+    let s = slot_for(dice, t, true);
+    let mut f = addressed(dice, pool, s);
+    if dice.one_in(8) {
+        put(&mut f, 12, &[0x81, 0x00, 0x00, 0x05]);
+    }
+    if let Some(last) = f.last_mut() {
+        *last = link_number(dice, s.anchor);
+    }
+    f
+}
+
+/// A frame for a slot of the table, most often one that arrives: its number is near the anchor.
+pub fn frame(dice: &mut Dice, pool: &[u8], t: &Tables) -> Vec<u8> {
+    let s = slot_for(dice, t, false);
+    let mut f = addressed(dice, pool, s);
     let vlan = if dice.one_in(30) { vlan(dice) } else { s.vlan };
     let mut at = 12;
     if vlan != 0 || dice.one_in(3) {
-        put(12, &[0x81, 0x00]);
-        put(14, &(vlan | (dice.next() as u16 & 0xF000)).to_be_bytes());
+        put(&mut f, 12, &[0x81, 0x00]);
+        let above = dice.next() as u16 & 0xF000;
+        put(&mut f, 14, &(vlan | above).to_be_bytes());
         at = 16;
     }
-    put(
-        at,
-        if dice.one_in(30) {
-            &[0x81, 0x00]
-        } else {
-            &[0xF1, 0xC1]
-        },
-    );
+    let tag = if dice.one_in(30) {
+        [0x81, 0x00]
+    } else {
+        [0xF1, 0xC1]
+    };
+    put(&mut f, at, &tag);
     let number = match dice.below(16) {
         0..=5 => number(dice, s.anchor, s.window),
         6 | 7 => s.anchor.wrapping_sub(dice.below(8) as u16),
         8 | 9 => s.anchor.wrapping_add(dice.below(8) as u16),
         _ => s.anchor.wrapping_add(1),
     };
-    put(at + 4, &number.to_be_bytes());
+    put(&mut f, at + 4, &number.to_be_bytes());
     f
 }
 
@@ -257,7 +311,8 @@ const LIFE: u64 = 100;
 pub fn arrivals(cases: u64) -> Result<u64, String> {
     let mut dice = Dice::new();
     let pool: Vec<u8> = (0..10_000).map(|_| dice.next() as u8).collect();
-    let (mut refused, mut verdicts) = ([0u64; 256], [0u64; 256]);
+    let (mut refused, mut verdicts) = ([[0u64; 256]; 2], [[0u64; 256]; 2]);
+    let mut passed = [0u64; 2];
     let mut t = tables(&mut dice, 0)?;
     for case in 0..cases {
         if case % LIFE == 0 {
@@ -284,34 +339,62 @@ pub fn arrivals(cases: u64) -> Result<u64, String> {
             }
             t.plain.copy_from_slice(&t.proved);
         }
-        let f = frame(&mut dice, &pool, &t);
+        let link = dice.one_in(2);
+        let (f, taken) = if link {
+            (link_frame(&mut dice, &pool, &t), 1)
+        } else {
+            (frame(&mut dice, &pool, &t), 6)
+        };
         let network = if dice.one_in(30) {
             dice.next() as u8
         } else {
             dice.below(2) as u8
         };
         let room = match dice.below(12) {
-            0 => f.len().saturating_sub(7),
-            1 => f.len().saturating_sub(6),
+            0 => f.len().saturating_sub(taken + 1),
+            1 => f.len().saturating_sub(taken),
             _ => f.len() + dice.below(20) as usize,
         };
         let from = dice.below((pool.len() - room) as u64) as usize;
         let start = &pool[from..from + room];
         let (mut a, mut b, mut c) = (start.to_vec(), start.to_vec(), start.to_vec());
-        let x = answer_of(plain::arrival(&mut t.second, network, &f, &mut a));
-        let y = proved::arrival(&mut t.proved, network, &f, &mut b);
-        let z = plain::arrival_at(&mut t.plain, network, &f, &mut c);
+        let (x, y, z) = if link {
+            (
+                answer_of(plain::link_arrival(&mut t.second, network, &f, &mut a)),
+                proved::link_arrival(&mut t.proved, network, &f, &mut b),
+                plain::link_arrival_at(&mut t.plain, network, &f, &mut c),
+            )
+        } else {
+            (
+                answer_of(plain::arrival(&mut t.second, network, &f, &mut a)),
+                proved::arrival(&mut t.proved, network, &f, &mut b),
+                plain::arrival_at(&mut t.plain, network, &f, &mut c),
+            )
+        };
         if x != y || x != z || a != b || a != c || !t.equal() {
             return Err(wrong("an arrival", case));
         }
-        refused[x.refusal as usize] += 1;
-        verdicts[x.verdict as usize] += 1;
+        let family = link as usize;
+        refused[family][x.refusal as usize] += 1;
+        verdicts[family][x.verdict as usize] += 1;
+        passed[family] += (x.refusal == 0 && t.passes(x.slot)) as u64;
     }
     all_seen(
         "an arrival's refusal",
-        &refused,
+        &refused[0],
         &[0, 1, 2, 3, 4, 5, 6, 7, 8, 14],
     )?;
-    all_seen("an arrival's verdict", &verdicts, &[0, 1, 2, 3])?;
+    all_seen("an arrival's verdict", &verdicts[0], &[0, 1, 2, 3])?;
+    all_seen(
+        "the refusal of a virtual link's arrival",
+        &refused[1],
+        &[0, 1, 2, 3, 4, 6, 7, 8, 14],
+    )?;
+    all_seen(
+        "the verdict of a virtual link's arrival",
+        &verdicts[1],
+        &[0, 1, 2],
+    )?;
+    all_seen("a slot of the other kind passed over", &passed, &[0, 1])?;
     Ok(cases)
 }

@@ -100,6 +100,7 @@ pub fn batches(cases: u64) -> Result<u64, String> {
     let mut dice = Dice::new();
     let pool: Vec<u8> = (0..80_000).map(|_| dice.next() as u8).collect();
     let (mut calls, mut refusals, mut verdicts) = ([0u64; 256], [0u64; 256], [0u64; 256]);
+    let mut passed = [0u64];
     let mut t = tables(&mut dice, 0)?;
     for case in 0..cases {
         if case % LIFE == 0 {
@@ -145,6 +146,7 @@ pub fn batches(cases: u64) -> Result<u64, String> {
         for e in x.answers {
             refusals[e.refusal as usize] += 1;
             verdicts[e.verdict as usize] += 1;
+            passed[0] += (e.verdict != 0 && t.passes(e.slot)) as u64;
         }
     }
     all_seen("a batch's refusal", &calls, &[0, 1, 2, 15, 18])?;
@@ -154,5 +156,6 @@ pub fn batches(cases: u64) -> Result<u64, String> {
         &[0, 3, 4, 5, 6, 7, 8, 14],
     )?;
     all_seen("a verdict in a batch", &verdicts, &[0, 1, 2, 3])?;
+    all_seen("a virtual link passed over in a batch", &passed, &[0])?;
     Ok(cases)
 }

@@ -62,8 +62,8 @@ fn compared() -> Result<(), String> {
         "{} turns of random frames from PRP and to PRP: answers and output bytes equal",
         turns
     );
-    let arrivals = compare_arrivals::arrivals(400_000)?;
-    println!("{} arrivals on random tables, beside two plain arrivals: answers, records and output bytes equal", arrivals);
+    let arrivals = compare_arrivals::arrivals(800_000)?;
+    println!("{} arrivals on random tables, half of them of virtual links, beside two plain arrivals: answers, records and output bytes equal", arrivals);
     let batches = compare_batches::batches(40_000)?;
     println!("{} batches on random tables with indexes, beside a plain batch and single calls in turn: answers, records and output bytes equal", batches);
     Ok(())
@@ -111,6 +111,7 @@ fn tables(counts: &str, names: &[&str]) -> Result<(), String> {
     for (mut group, print) in cells::all().into_iter().zip([
         table::arrivals,
         table::windows,
+        table::links,
         table::batches,
         table::tags,
         table::sends,

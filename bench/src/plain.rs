@@ -12,6 +12,10 @@ const UNTAGGED_MOST: usize = 1994;
 const WINDOW_MOST: u16 = 512;
 const VLAN_TAG: u16 = 0x8100;
 const TAG: u16 = 0xF1C1;
+/// The rule of a virtual link.
+const LINK: u8 = 3;
+/// The shortest frame of a virtual link: a header, and the number behind it.
+const LINK_LEAST: usize = 15;
 /// What the trailer of 2012 ends in.
 const SUFFIX: u16 = 0x88FB;
 const TABLE: u8 = 1;
@@ -327,6 +331,7 @@ fn within(history: &History, window: u16) -> bool {
     }
 }
 
+/// Is a record lawful that is no virtual link's?
 #[inline(always)]
 fn lawful(s: &Stream) -> bool {
     if s.used == 0
@@ -339,7 +344,7 @@ fn lawful(s: &Stream) -> bool {
         return false;
     }
     let t = &s.state;
-    if t.remaining > s.time || (t.remaining == 0) != (t.any != 0) {
+    if !is_timed(s) {
         return false;
     }
     if t.any != 0 || s.rule == 2 {
@@ -352,6 +357,28 @@ fn lawful(s: &Stream) -> bool {
     t.early == 0 || first_stands(s)
 }
 
+/// Are the ticks those of the reset time and take-any?
+#[inline(always)]
+fn is_timed(s: &Stream) -> bool {
+    let t = &s.state;
+    t.remaining <= s.time && (t.remaining == 0) == (t.any != 0)
+}
+
+/// The same of a virtual link. What is asked of the VLAN id the search has asked before.
+#[inline(always)]
+fn link_lawful(s: &Stream) -> bool {
+    let t = &s.state;
+    s.used != 0
+        && s.vlan == 0
+        && s.window >= 2
+        && s.window <= WINDOW_MOST
+        && s.time != 0
+        && is_timed(s)
+        && (t.anchor <= 255 && t.any == 0 || t.anchor == 65535 && t.any != 0)
+        && is_empty(&t.history)
+        && t.early == 0
+}
+
 /// The first number stands next to the places for older ones. Asked for the first L numbers of a stream only.
 #[cold]
 fn first_stands(s: &Stream) -> bool {
@@ -362,6 +389,12 @@ fn first_stands(s: &Stream) -> bool {
 /// The decision in place: what a program in Rust would write. A record that is not lawful stays as it is.
 #[inline(always)]
 fn decide_in(s: &mut Stream, number: u16, network: u8) -> u8 {
+    if s.rule == LINK {
+        if !link_lawful(s) {
+            return DAMAGED;
+        }
+        return decide_link(s, number as u8, network);
+    }
     if !lawful(s) {
         return DAMAGED;
     }
@@ -452,14 +485,19 @@ fn move_at_start(s: &mut Stream, d: u16) {
 }
 
 #[inline(always)]
-fn decide_lawful(s: &mut Stream, number: u16, network: u8) -> u8 {
-    let d = number.wrapping_sub(s.state.anchor) as i16 as i32;
-    let window = s.window as i32;
+fn count_arrival(s: &mut Stream, network: u8) {
     if network == 0 {
         s.counts.arrivals0 = s.counts.arrivals0.wrapping_add(1);
     } else {
         s.counts.arrivals1 = s.counts.arrivals1.wrapping_add(1);
     }
+}
+
+#[inline(always)]
+fn decide_lawful(s: &mut Stream, number: u16, network: u8) -> u8 {
+    let d = number.wrapping_sub(s.state.anchor) as i16 as i32;
+    let window = s.window as i32;
+    count_arrival(s, network);
     if s.state.any != 0 {
         s.state.any = 0;
         s.state.anchor = number;
@@ -512,6 +550,33 @@ fn decide_lawful(s: &mut Stream, number: u16, network: u8) -> u8 {
         }
         s.state.anchor = number;
     }
+    s.counts.passed = s.counts.passed.wrapping_add(1);
+    s.state.remaining = s.time;
+    HANDED_UP
+}
+
+/// Is a virtual link's number handed up behind the last one? Behind 255 comes 1, so a difference that goes below 0 is one step
+/// fewer than its byte. From 0 the steps are those from 255: both have 1 behind them.
+#[inline(always)]
+fn is_ahead(last: u8, number: u8) -> bool {
+    if number == 0 {
+        return last != 0;
+    }
+    let (byte, below) = number.overflowing_sub(last);
+    let steps = byte.wrapping_sub(below as u8);
+    (1..=127).contains(&steps)
+}
+
+/// The decision of a virtual link whose record is lawful.
+#[inline(always)]
+fn decide_link(s: &mut Stream, number: u8, network: u8) -> u8 {
+    count_arrival(s, network);
+    if s.state.any == 0 && !is_ahead(s.state.anchor as u8, number) {
+        s.counts.discarded = s.counts.discarded.wrapping_add(1);
+        return DUPLICATE;
+    }
+    s.state.any = 0;
+    s.state.anchor = number as u16;
     s.counts.passed = s.counts.passed.wrapping_add(1);
     s.state.remaining = s.time;
     HANDED_UP
@@ -575,6 +640,17 @@ pub fn arrival(
     second::arrival(table, network, frame, out)
 }
 
+/// The arrival of a virtual link of the second program, as it is.
+#[inline(never)]
+pub fn link_arrival(
+    table: &mut [second::Stream],
+    network: u8,
+    frame: &[u8],
+    out: &mut [u8],
+) -> Result<second::Arrival, second::Refusal> {
+    second::link_arrival(table, network, frame, out)
+}
+
 fn not_taken(refusal: u8) -> ArrivalAnswer {
     ArrivalAnswer {
         refusal,
@@ -596,18 +672,85 @@ pub fn arrival_at(
     if network > 1 {
         return not_taken(NETWORK);
     }
-    arrive(find, table, network, frame, out)
+    match read(frame) {
+        Ok(asked) => {
+            let slot = find(table, asked.vlan, asked.dest);
+            arrive(table, slot, network, frame, asked, out)
+        }
+        Err(refusal) => not_taken(refusal),
+    }
+}
+
+/// The arrival of a virtual link, in the same way. Every virtual link has VLAN id 0, so the destination tells two of them apart
+/// at once.
+#[inline(never)]
+pub fn link_arrival_at(
+    table: &mut [Stream],
+    network: u8,
+    frame: &[u8],
+    out: &mut [u8],
+) -> ArrivalAnswer {
+    if table.len() > SLOTS_MOST {
+        return not_taken(TABLE);
+    }
+    if network > 1 {
+        return not_taken(NETWORK);
+    }
+    if frame.len() > FRAME_MOST {
+        return not_taken(LONG);
+    }
+    if frame.len() < LINK_LEAST {
+        return not_taken(SHORT);
+    }
+    if frame[SOURCE] & 1 != 0 {
+        return not_taken(GROUP);
+    }
+    let dest = destination(frame);
+    let hears = |s: &Stream| s.dest == dest && s.vlan == 0 && s.rule == LINK && s.used != 0;
+    let slot = match table.iter().position(hears) {
+        Some(slot) => slot,
+        None => return not_taken(UNKNOWN),
+    };
+    let s = &mut table[slot];
+    if !link_lawful(s) {
+        return not_taken(HURT);
+    }
+    let length = frame.len() - 1;
+    if out.len() < length {
+        return not_taken(ROOM);
+    }
+    let number = frame[length];
+    let verdict = decide_link(s, number, network);
+    let mut written = 0;
+    if verdict == HANDED_UP {
+        out[..length].copy_from_slice(&frame[..length]);
+        written = length;
+    }
+    ArrivalAnswer {
+        slot,
+        length: written,
+        number: number as u16,
+        verdict,
+        refusal: 0,
+    }
 }
 
 #[inline(always)]
-fn has_key(s: &Stream, vlan: u16, dest: u64) -> bool {
-    s.vlan == vlan && s.dest == dest && s.used != 0
+fn destination(frame: &[u8]) -> u64 {
+    (u32::from_be_bytes([frame[0], frame[1], frame[2], frame[3]]) as u64) << 16
+        | word(frame, 4) as u64
 }
 
-/// The slot of a stream by its VLAN id and destination.
+/// Has a slot the key, and is it a virtual link's or not, as is asked?
+#[inline(always)]
+fn hears(s: &Stream, vlan: u16, dest: u64, link: bool) -> bool {
+    s.vlan == vlan && s.dest == dest && s.used != 0 && (s.rule == LINK) == link
+}
+
+/// The slot of a stream that is no virtual link, by its VLAN id and destination.
 #[inline(always)]
 fn find(table: &[Stream], vlan: u16, dest: u64) -> Option<usize> {
-    table.iter().position(|s| has_key(s, vlan, dest))
+    table.iter().position(|s| hears(s, vlan, dest, false))
 }
 
 type Index = [u8; PLACES];
@@ -629,68 +772,84 @@ fn names(index: &Index, from: usize) -> impl Iterator<Item = usize> + '_ {
     behind.iter().chain(before).map(|&name| name as usize)
 }
 
-/// The same by the index: places that name no slot in use with the key are passed over, until an empty one.
+/// The slot that hears of a key, by the index: places that name none such are passed over, until an empty one.
 #[inline(always)]
-fn follow(index: &Index, table: &[Stream], vlan: u16, dest: u64) -> Option<usize> {
+fn follow(index: &Index, table: &[Stream], vlan: u16, dest: u64, link: bool) -> Option<usize> {
     names(index, home(vlan, dest))
         .take_while(|&name| name != 0)
         .map(|name| name - 1)
-        .find(|&slot| table.get(slot).map_or(false, |s| has_key(s, vlan, dest)))
+        .find(|&slot| {
+            table
+                .get(slot)
+                .map_or(false, |s| hears(s, vlan, dest, link))
+        })
 }
 
-/// Does following find the lowest slot in use with the key, from every key? It does if it finds none above a slot that has the
-/// key. Where lower names alone stand before a slot's, no key has to be compared: so it is in a rebuilt index.
+/// Does following find the lowest slot in use with the key, from every key, among virtual links and among the rest? It does if
+/// it finds none above a slot that has the key and is of the same kind. Where lower names alone stand before a slot's, no key
+/// has to be compared: so it is in a rebuilt index.
 #[inline(always)]
 fn agrees(index: &Index, table: &[Stream]) -> bool {
     table.iter().enumerate().all(|(slot, s)| {
         s.used == 0
             || names(index, home(s.vlan, s.dest)).find(|&name| name == 0 || name > slot)
                 == Some(slot + 1)
-            || follow(index, table, s.vlan, s.dest).map_or(false, |found| found <= slot)
+            || follow(index, table, s.vlan, s.dest, s.rule == LINK)
+                .map_or(false, |found| found <= slot)
     })
 }
 
-/// The arrival behind 1 and 2, which a batch asks once.
+/// What a tagged frame asks for, and where its tag is.
+struct Asked {
+    at: usize,
+    vlan: u16,
+    dest: u64,
+    number: u16,
+}
+
+/// Refusals 3, 4, 5 and 14 of an arrival.
 #[inline(always)]
-fn arrive(
-    slot_of: impl Fn(&[Stream], u16, u64) -> Option<usize>,
-    table: &mut [Stream],
-    network: u8,
-    frame: &[u8],
-    out: &mut [u8],
-) -> ArrivalAnswer {
+fn read(frame: &[u8]) -> Result<Asked, u8> {
     if frame.len() > FRAME_MOST {
-        return not_taken(LONG);
+        return Err(LONG);
     }
-    let at = match type_place(frame) {
-        Some(at) => at,
-        None => return not_taken(SHORT),
-    };
+    let at = type_place(frame).ok_or(SHORT)?;
     // One check of the bounds for the whole tag and the type behind it.
     let tag = match frame.get(at..at + 8) {
         Some(tag) => tag,
-        None => {
-            return not_taken(if word(frame, at) == TAG {
-                SHORT
-            } else {
-                UNTAGGED
-            })
-        }
+        None if word(frame, at) == TAG => return Err(SHORT),
+        None => return Err(UNTAGGED),
     };
     if word(tag, 0) != TAG {
-        return not_taken(UNTAGGED);
+        return Err(UNTAGGED);
     }
     if frame[SOURCE] & 1 != 0 {
-        return not_taken(GROUP);
+        return Err(GROUP);
     }
-    let dest = (u32::from_be_bytes([frame[0], frame[1], frame[2], frame[3]]) as u64) << 16
-        | word(frame, 4) as u64;
     let vlan = if at == 16 {
         word(frame, 14) & 0x0FFF
     } else {
         0
     };
-    let slot = match slot_of(table, vlan, dest) {
+    Ok(Asked {
+        at,
+        vlan,
+        dest: destination(frame),
+        number: word(tag, 4),
+    })
+}
+
+/// The rest of an arrival, once its slot is looked for: refusals 6, 7 and 8, then the decision.
+#[inline(always)]
+fn arrive(
+    table: &mut [Stream],
+    slot: Option<usize>,
+    network: u8,
+    frame: &[u8],
+    asked: Asked,
+    out: &mut [u8],
+) -> ArrivalAnswer {
+    let slot = match slot {
         Some(slot) => slot,
         None => return not_taken(UNKNOWN),
     };
@@ -701,11 +860,10 @@ fn arrive(
     if out.len() < frame.len() - 6 {
         return not_taken(ROOM);
     }
-    let number = word(tag, 4);
-    let verdict = decide_lawful(s, number, network);
+    let verdict = decide_lawful(s, asked.number, network);
     let mut length = 0;
     if verdict == HANDED_UP {
-        length = if at == 12 {
+        length = if asked.at == 12 {
             taken(frame, 12, out).length
         } else {
             taken(frame, 16, out).length
@@ -714,7 +872,7 @@ fn arrive(
     ArrivalAnswer {
         slot,
         length,
-        number,
+        number: asked.number,
         verdict,
         refusal: 0,
     }
@@ -759,7 +917,6 @@ pub fn batch(
         Ok(index) if agrees(index, table) => index,
         _ => return none_taken(INDEX),
     };
-    let slot_of = |t: &[Stream], vlan, dest| follow(index, t, vlan, dest);
     if network > 1 {
         return none_taken(NETWORK);
     }
@@ -773,7 +930,13 @@ pub fn batch(
         let (frame, behind) = frames[2..].split_at(word(frames, 0) as usize);
         frames = behind;
         let room = out[used..].get_mut(2..).unwrap_or(&mut []);
-        let a = arrive(slot_of, table, network, frame, room);
+        let a = match read(frame) {
+            Ok(asked) => {
+                let slot = follow(index, table, asked.vlan, asked.dest, false);
+                arrive(table, slot, network, frame, asked, room)
+            }
+            Err(refusal) => not_taken(refusal),
+        };
         *answer = a;
         if a.refusal == ROOM {
             break;

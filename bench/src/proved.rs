@@ -1,7 +1,8 @@
 //! The proved side: the calls of the archives, with nothing added.
 use crate::record::{Decided, Stream};
 pub use nippitsun::archive::{
-    arrival, batch, from_prp, open, rebuild, reset_sender, send, take_tag, tick, to_prp, write_tag,
+    arrival, batch, from_prp, link_arrival, open, rebuild, reset_sender, send, take_tag, tick,
+    to_prp, write_tag,
 };
 
 mod archive {

@@ -161,6 +161,12 @@ pub fn windows(rows: &[Row], aim: f64) {
     tell_gap(rows, "window-64-1", 511, 1.5);
 }
 
+/// The same for virtual links.
+pub fn links(rows: &[Row], aim: f64) {
+    of_arrivals("virtual links", rows);
+    tell_arrivals(rows, aim);
+}
+
 fn tell_arrivals(rows: &[Row], aim: f64) {
     let tell = |to, beside| tell_aim(&ratios(rows.iter(), to), beside, aim);
     tell(PLAIN, "the plain arrival written for speed");
