@@ -30,7 +30,7 @@ use Rattle.batch.specs.Steps.{handed, stops}
 
 abbrev Arrives : (out : List ℕ) → Act → Type 0
 Arrives out (refuse n) = Unit {0}
-Arrives out (arrive i number network bare) = (14 ≤ length bare) × (length bare ≤ length out)
+Arrives out (arrive i number network p bare) = (14 ≤ length bare) × (length bare ≤ length out)
 Arrives out (opens i s) = ⊥
 Arrives out (closes i) = ⊥
 Arrives out (resets i) = ⊥
@@ -71,10 +71,10 @@ module _ (t : Table) (left : List ℕ) where
   by-act : (a : Act) → Arrived left a → Leaves left (record { said = answer t a; table = after t a; output = output t left a })
   unfolding answer output addsFor
   by-act (refuse n) k = nothing-new refl refl refl
-  by-act (arrive i number network bare) k = go (decisions.verdict (at t i) number)
+  by-act (arrive i number network p bare) k = go (decisions.verdict (at t i) number)
     where
       go : (v : decisions.Verdict)
-          → Leaves left (record { said = answers (arrived i number (verdictWith (length bare) v)); table = after t (arrive i number network bare); output = writtenFor v bare left })
+          → Leaves left (record { said = answers (arrived i number p (verdictWith (length bare) v)); table = after t (arrive i number network p bare); output = writtenFor v bare left })
       go decisions.up =
           handed-up bare (k .fact .0) (k .fact .1) refl refl refl
           (ap (λ (b : List ℕ). length bare / 256 % 256 ∷ length bare % 256 ∷ b) (overlay-front bare left refl))
@@ -93,9 +93,9 @@ module _ (t : Table) (left : List ℕ) where
 pub stops-ends : (s : Said Answer) → stops (tellArrival s) ≡ ends s
 unfolding ends
 stops-ends (refused n) = refl
-stops-ends (answers (arrived i number (handedUp l))) = refl
-stops-ends (answers (arrived i number duplicate)) = refl
-stops-ends (answers (arrived i number rogue)) = refl
+stops-ends (answers (arrived i number p (handedUp l))) = refl
+stops-ends (answers (arrived i number p duplicate)) = refl
+stops-ends (answers (arrived i number p rogue)) = refl
 stops-ends (answers (placed i)) = refl
 stops-ends (answers done) = refl
 stops-ends (answers (swept streams records)) = refl

@@ -14,6 +14,7 @@ use Rattle.refusal.specs.Checks.Said.{refused, answers}
 use Rattle.refusal.specs.Numbers.{TABLE, NETWORK}
 use Rattle.refusal.proofs.Checks.{Positive, first-positive}
 use Rattle.record.specs.Sizes.{slotsMost}
+use Rattle.frame.specs.declared.Rank.{Rank}
 use Rattle.calls.specs.Table.{Table, at}
 use Rattle.calls.specs.Calls.{Act, refuse, arrive, opens, closes, resets, ticks, Answer, Verdict, arrived, handedUp, duplicate, rogue, arriving, act, answer}
 use Rattle.calls.specs.Told.{tellArrival}
@@ -92,7 +93,7 @@ readVerdict v l = cond (eqb v 1) (handedUp l) (cond (eqb v 2) duplicate rogue)
 
 abbrev readBy : (refusal verdict : ℕ) → ArrivalAnswer → Option (Said Answer)
 readBy zero zero e = none
-readBy zero (suc v) e = some (answers (arrived (e .slot) (e .number) (readVerdict (suc v) (e .length))))
+readBy zero (suc v) e = some (answers (arrived (e .slot) (e .number) (record { priority = e .priority; vlantag = e .vlantag }) (readVerdict (suc v) (e .length))))
 readBy (suc n) v e = some (refused (suc n))
 
 abbrev pub readEach : ArrivalAnswer → Option (Said Answer)
@@ -105,15 +106,15 @@ read-refused : (n : ℕ) → 2 < n → ReadsBack (refused n)
 read-refused zero h = absurd (omega arith)
 read-refused (suc n) h = refl
 
-read-verdict : (slot number : ℕ) (v : Verdict) → ReadsBack (answers (arrived slot number v))
-read-verdict slot number (handedUp l) = refl
-read-verdict slot number duplicate = refl
-read-verdict slot number rogue = refl
+read-verdict : (slot number : ℕ) (p : Rank) (v : Verdict) → ReadsBack (answers (arrived slot number p v))
+read-verdict slot number p (handedUp l) = refl
+read-verdict slot number p duplicate = refl
+read-verdict slot number p rogue = refl
 
 read-act : (t : Table) (left : List ℕ) (a : Act) → Arrived left a → Later (answer t a) → ReadsBack (answer t a)
 unfolding answer
 read-act t left (refuse n) k h = read-refused n h
-read-act t left (arrive i number network bare) k h = read-verdict i number _
+read-act t left (arrive i number network p bare) k h = read-verdict i number p _
 read-act t left (opens i s) k h = absurd (k .fact)
 read-act t left (closes i) k h = absurd (k .fact)
 read-act t left (resets i) k h = absurd (k .fact)

@@ -41,9 +41,9 @@ framesIn (suc n) s = take (word s 0) (drop 2 s) ∷ framesIn n (drop (2 + word s
 -- "Handed-up frames are packed into the output in the same form": what a result adds to it.
 unfoldable pub addsFor : Said Answer → (bytes : List ℕ) → List ℕ
 addsFor (refused n) bytes = []
-addsFor (answers (arrived i number (handedUp l))) bytes = l / 256 % 256 ∷ l % 256 ∷ take l bytes
-addsFor (answers (arrived i number duplicate)) bytes = []
-addsFor (answers (arrived i number rogue)) bytes = []
+addsFor (answers (arrived i number p (handedUp l))) bytes = l / 256 % 256 ∷ l % 256 ∷ take l bytes
+addsFor (answers (arrived i number p duplicate)) bytes = []
+addsFor (answers (arrived i number p rogue)) bytes = []
 addsFor (answers (placed i)) bytes = []
 addsFor (answers done) bytes = []
 addsFor (answers (swept streams records)) bytes = []

@@ -7,7 +7,7 @@ use mathlib.Core.List.{List, [], _∷_, _++_}
 use lib.ListN.{replicate}
 use Rattle.refusal.specs.Checks.Said.{refused, answers}
 use Rattle.refusal.specs.Numbers.{TABLE, NETWORK, LONG, SHORT, UNTAGGED, UNKNOWN, ROOM, BATCH}
-use Rattle.frame.specs.Frame.{untagged}
+use Rattle.frame.specs.Frame.{untagged, unranked}
 use Rattle.calls.specs.Table.{blank}
 use Rattle.calls.specs.Calls.{arrived, handedUp, duplicate}
 use Rattle.calls.specs.Example.{filled, frame, sentTo}
@@ -33,14 +33,14 @@ abbrev pub FourReached : Type 0
 FourReached =
     (batchOf filled (burstInto (replicate 40 0)) .said ≡ answers 4)
     × (batchOf filled (burstInto (replicate 40 0)) .answers
-    ≡ some (answers (arrived 0 7 (handedUp 14))) ∷ some (answers (arrived 0 7 duplicate)) ∷ some (refused UNTAGGED) ∷ some (refused UNKNOWN) ∷ replicate 28 none)
+    ≡ some (answers (arrived 0 7 unranked (handedUp 14))) ∷ some (answers (arrived 0 7 unranked duplicate)) ∷ some (refused UNTAGGED) ∷ some (refused UNKNOWN) ∷ replicate 28 none)
     × (batchOf filled (burstInto (replicate 40 0)) .output ≡ packedFrame ++ replicate 24 0)
 
 -- With room for the first only, the duplicate ends the call with 8: one frame came before it, and two are not reached.
 abbrev pub EndsWithRoom : Type 0
 EndsWithRoom =
     (batchOf filled (burstInto (replicate 16 0)) .said ≡ answers 1)
-    × (batchOf filled (burstInto (replicate 16 0)) .answers ≡ some (answers (arrived 0 7 (handedUp 14))) ∷ some (refused ROOM) ∷ replicate 30 none)
+    × (batchOf filled (burstInto (replicate 16 0)) .answers ≡ some (answers (arrived 0 7 unranked (handedUp 14))) ∷ some (refused ROOM) ∷ replicate 30 none)
     × (batchOf filled (burstInto (replicate 16 0)) .output ≡ packedFrame)
 
 -- Into no output at all: the call goes on past 5, 6, 4 (a length of 0) and 3 (one of 2001), and ends with 8 at the first frame

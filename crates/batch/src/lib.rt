@@ -198,6 +198,8 @@ fn unreached() -> ArrivalAnswer
         number: 0,
         verdict: 0,
         refusal: 0,
+        priority: 0,
+        vlantag: 0,
     }
 }
 
@@ -226,7 +228,7 @@ fn arrive_by(t: &mut [Stream], index: &[u8], network: u8, frame: &[u8], out: &mu
     };
     let room = calls::fits(frame, out);
     let j = receiver::decide_in(t, i, network, number, room);
-    calls::finish(j, i, h.at, number, frame, out)
+    calls::finish(j, i, h, number, frame, out)
 }
 
 // All frames, one after the other, until one is refused with 8. The agreement is tested once, before the first: no arrival

@@ -12,6 +12,7 @@ use Rattle.record.specs.Words.{if_then_else_}
 use Rattle.frame.specs.Frame.{Tag, numberIn, tagged, readOf, headShort, hasVlan}
 use Rattle.frame.proofs.Heads.{tag-of}
 use Rattle.stream.specs.Decisions.{Verdict}
+use Rattle.frame.specs.declared.Rank.{Rank}
 use Rattle.calls.specs.Table.{Table}
 use Rattle.calls.specs.Calls.{Call, arriving, linking, opening, closing, resetting, ticking, Answer, placed, done, swept}
 use Rattle.calls.specs.Calls as calls
@@ -39,10 +40,10 @@ unfolding seenOf answered
 hears-of receive recovered i t c = go c (receive t c .said) refl
   where
     -- an arrival of this stream or of another
-    own : (network : ℕ) (f out : List ℕ) (j n : ℕ) (v : calls.Verdict) → receive t (arriving network f out) .said ≡ answers (calls.arrived j n v)
+    own : (network : ℕ) (f out : List ℕ) (j n : ℕ) (x : Rank) (v : calls.Verdict) → receive t (arriving network f out) .said ≡ answers (calls.arrived j n x v)
         → (b : Bool) → Hears i t (arriving network f out) (if b then arrived n (told v) else nothing)
-    own network f out j n v e true = hears (told v) (ap (λ (m : ℕ). arrived m (told v)) (recovered t network f out j n v e .number))
-    own network f out j n v e false = other refl
+    own network f out j n x v e true = hears (told v) (ap (λ (m : ℕ). arrived m (told v)) (recovered t network f out j n x v e .number))
+    own network f out j n x v e false = other refl
 
     own-link : (network : ℕ) (f out : List ℕ) (n : ℕ) (v : Verdict) (b : Bool) → Hears i t (linking network f out) (if b then arrived n v else nothing)
     own-link network f out n v true = link refl refl
@@ -55,11 +56,11 @@ hears-of receive recovered i t c = go c (receive t c .said) refl
 
     go : (c : Call) (x : Said Answer) → receive t c .said ≡ x → Hears i t c (seenOf i t c (receive t c) x)
     go c (refused n) e = other refl
-    go (arriving network f out) (answers (calls.arrived j n v)) e = own network f out j n v e (eqb j i)
+    go (arriving network f out) (answers (calls.arrived j n x v)) e = own network f out j n x v e (eqb j i)
     go (arriving network f out) (answers (placed j)) e = other refl
     go (arriving network f out) (answers done) e = other refl
     go (arriving network f out) (answers (swept streams records)) e = other refl
-    go (linking network f out) (answers (calls.arrived j n v)) e = own-link network f out n (told v) (eqb j i)
+    go (linking network f out) (answers (calls.arrived j n x v)) e = own-link network f out n (told v) (eqb j i)
     go (linking network f out) (answers (placed j)) e = other refl
     go (linking network f out) (answers done) e = other refl
     go (linking network f out) (answers (swept streams records)) e = other refl

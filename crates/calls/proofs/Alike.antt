@@ -17,6 +17,7 @@ use Rattle.frame.specs.Bytes.{overlay}
 use Rattle.frame.specs.Frame.{Tag, groupSource, readOf, untagged, headerOf, destOf, vlanOf, typeAt}
 use Rattle.frame.specs.TagCalls.{Outcome, Bare, takeFrom, takeTag}
 use Rattle.frame.specs.declared.Header.{Header}
+use Rattle.frame.specs.declared.Rank.{Rank}
 use Rattle.frame.proofs.Heads.{tag-of}
 use Rattle.stream.specs.Record.{lawful}
 use Rattle.stream.specs.Decisions.{up}
@@ -50,11 +51,11 @@ module _ {n : ℕ} (b : byFrame n ≡ true) where
   not-by : {A : Type 0} (m : ℕ) → byFrame m ≡ false → _≡_ {A = Said A} (refused m) (refused n) → ⊥
   not-by m f e = let k : m ≡ n = cc in let z : true ≡ false = sym b ∙ ap byFrame (sym k) ∙ f in let y : _≡_ {A = ℕ} 0 1 = cc in omega arith
 
-  arrival-not : (t : Table) (i number network : ℕ) (f out : List ℕ) → answer t (arrivalAt t i number network (length f - 6) (untagged f) out) ≡ refused n → ⊥
+  arrival-not : (t : Table) (i number network : ℕ) (rank : Rank) (f out : List ℕ) → answer t (arrivalAt t i number network rank (length f - 6) (untagged f) out) ≡ refused n → ⊥
   unfolding arrivalAt answer
-  arrival-not t i number network f out e = go (leb (length t) i) (lawful (at t i)) (ltb (length out) (length f - 6)) e
+  arrival-not t i number network rank f out e = go (leb (length t) i) (lawful (at t i)) (ltb (length out) (length f - 6)) e
     where
-      go : (a l r : Bool) → answer t (cond a (refuse UNKNOWN) (cond (not l) (refuse DAMAGED) (cond r (refuse ROOM) (arrive i number network (untagged f))))) ≡ refused n → ⊥
+      go : (a l r : Bool) → answer t (cond a (refuse UNKNOWN) (cond (not l) (refuse DAMAGED) (cond r (refuse ROOM) (arrive i number network rank (untagged f))))) ≡ refused n → ⊥
       go true l r e = not-by UNKNOWN refl e
       go false false r e = not-by DAMAGED refl e
       go false true true e = not-by ROOM refl e
@@ -77,7 +78,7 @@ take-refuses-frame t network f out n m k b = rw (past t network f out m k) (go (
   where
     not-by-arrival : (s : Bool) (g : Tag) → answer t (arrival t network f out (cond s (refused GROUP) (answers g))) ≡ refused n → ⊥
     not-by-arrival true g e = not-by b GROUP refl e
-    not-by-arrival false g e = arrival-not b t _ _ network f out e
+    not-by-arrival false g e = arrival-not b t _ _ network _ f out e
 
     go : (x : Said Tag) → (answer t (arrival t network f out (admitted f x)) ≡ refused n) ↔ (takeFrom f out x .said ≡ refused n)
     go (refused j) = alike
@@ -86,12 +87,12 @@ take-refuses-frame t network f out n m k b = rw (past t network f out m k) (go (
 -- ---- 8
 
 -- what an arrival says at a lawful record
-arrival-says : (t : Table) (i number network : ℕ) (f out : List ℕ) → i < length t → lawful (at t i) ≡ true
-    → answer t (arrivalAt t i number network (length f - 6) (untagged f) out) ≡ cond (ltb (length out) (length f - 6)) (refused ROOM) (answer t (arrive i number network (untagged f)))
+arrival-says : (t : Table) (i number network : ℕ) (rank : Rank) (f out : List ℕ) → i < length t → lawful (at t i) ≡ true
+    → answer t (arrivalAt t i number network rank (length f - 6) (untagged f) out) ≡ cond (ltb (length out) (length f - 6)) (refused ROOM) (answer t (arrive i number network rank (untagged f)))
 unfolding arrivalAt answer
-arrival-says t i number network f out h l = simp (lt-leb (length t) i h, l) (go (ltb (length out) (length f - 6)))
+arrival-says t i number network rank f out h l = simp (lt-leb (length t) i h, l) (go (ltb (length out) (length f - 6)))
   where
-    go : (r : Bool) → answer t (cond r (refuse ROOM) (arrive i number network (untagged f))) ≡ cond r (answer t (refuse ROOM)) (answer t (arrive i number network (untagged f)))
+    go : (r : Bool) → answer t (cond r (refuse ROOM) (arrive i number network rank (untagged f))) ≡ cond r (answer t (refuse ROOM)) (answer t (arrive i number network rank (untagged f)))
     go true = refl
     go false = refl
 
@@ -112,13 +113,13 @@ take-refuses-alike t network f out n m k s w l = rw (past t network f out m k, a
     go (refused j) e = alike
     go (answers g) e =
         let p = slot-of t f g e in
-        let a = arrival-says t _ (g .number) network f out (some-place _ t w) l in
+        let a = arrival-says t _ (g .number) network (g .header .rank) f out (some-place _ t w) l in
         rw (p, a, take-says f out g) (small (ltb (length out) (length f - 6)) _ _)
 
 -- ---- what is written
 abbrev Takes : (f out : List ℕ) → Act → Type 0
 Takes f out (refuse n) = Unit {0}
-Takes f out (arrive i number network bare) =
+Takes f out (arrive i number network rank bare) =
     takeTag f out ≡ record { said = answers (record { number = number; length = length bare }); bytes = writtenFor up bare out }
 Takes f out (opens i s) = Unit {0}
 Takes f out (closes i) = Unit {0}
@@ -153,7 +154,7 @@ module _ (t : Table) (network : ℕ) (f out : List ℕ) where
   all = taken (ltb slotsMost (length t)) (λ e. nothing) (λ e. taken (ltb 1 network) (λ e. nothing) (λ e. read (admitted f (readOf f)) refl))
 
 pub take-writes-alike : TakeWritesAlike
-take-writes-alike t network f out i number bare e = let k = rw e at (all t network f out) in k .fact
+take-writes-alike t network f out i number rank bare e = let k = rw e at (all t network f out) in k .fact
 
 -- ---- a group source
 

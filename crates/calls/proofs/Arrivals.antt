@@ -17,7 +17,7 @@ use Rattle.refusal.proofs.Checks.{passed}
 use Rattle.record.specs.declared.Stream.{Stream}
 use Rattle.record.specs.Words.{if_then_else_}
 use Rattle.record.specs.Sizes.{slotsMost}
-use Rattle.frame.specs.Frame.{Tag, typeAt, cutAt, untagged, readOf}
+use Rattle.frame.specs.Frame.{Tag, typeAt, cutAt, untagged, unranked, readOf}
 use Rattle.frame.specs.Bytes.{overlay}
 use Rattle.frame.specs.TagCalls.{writtenWithout}
 use Rattle.frame.specs.Link.{linkOf, saidLink, butLast, writtenShorter}
@@ -31,6 +31,7 @@ use Rattle.stream.specs.Record.{lawful}
 use Rattle.stream.specs.Decisions as decisions
 use Rattle.stream.specs.Steps.{marksOf, weighedAs, weighed, recordAfter, recordShort}
 use Rattle.stream.specs.Steps as steps
+use Rattle.frame.specs.declared.Rank.{Rank}
 use Rattle.stream.specs.declared.Marks.{Marks}
 use Rattle.stream.specs.declared.Weighed.{Weighed}
 use Rattle.stream.specs.declared.Weighed.the-variants as weighs
@@ -100,18 +101,18 @@ marks-right s number network room m e = go (leb (s .window) 64) refl
 
 -- What the steps of an arrival at a slot come to, whatever its frame is: of a tagged frame `bare` is the frame without its tag, of a virtual
 -- link's the frame without its last byte, `need` its length, and `written` what the writer leaves.
-module _ (t : Table) (i number network need : ℕ) (bare written out : List ℕ)
+module _ (t : Table) (i number network : ℕ) (rank : Rank) (need : ℕ) (bare written out : List ℕ)
     (inside : i < length t) (size : length bare ≡ need) (writes : need ≤ length out → written ≡ overlay bare out) where
   abbrev came : Act
-  came = arrivalAt t i number network need bare out
+  came = arrivalAt t i number network rank need bare out
 
   pub record Ends (j : Judged) : Type 0 where
-    pub said : finished j i number need ≡ answer t came
+    pub said : finished j i number rank need ≡ answer t came
     pub table : set t i (recordOf (at t i) network j) ≡ after t came
     pub output : bytesOf j written out ≡ output t out came
 
   told : (v : decisions.Verdict) (m : Marks)
-      → finished (judgedAs (steps.answer v m)) i number need ≡ answers (arrived i number (verdictWith (length bare) v))
+      → finished (judgedAs (steps.answer v m)) i number rank need ≡ answers (arrived i number rank (verdictWith (length bare) v))
   told decisions.up m = rw size
   told decisions.duplicate m = refl
   told decisions.rogue m = refl
@@ -142,7 +143,7 @@ module _ (t : Table) (i number network need : ℕ) (bare written out : List ℕ)
           let m = marksOf (at t i) number (decisions.caseOf (at t i) number) in
           let d : j ≡ judgedAs (weighed (at t i) number) = g ∙ rw l in
           let e = weighed-verdict (at t i) number l in
-          let c : came ≡ arrive i number network bare = simp (lt-leb _ _ inside, l, le-ltb _ _ fits) in
+          let c : came ≡ arrive i number network rank bare = simp (lt-leb _ _ inside, l, le-ltb _ _ fits) in
           record {
             said = rw (d, e, c) (told v m);
             table = rw (d, c, after-judged (at t i) network (weighed (at t i) number), steps-decide (at t i) number network l);
@@ -154,9 +155,9 @@ module _ (t : Table) (p : Stream → Bool) where
   pub found-inside : {i : ℕ} → found p t ≡ At i → i < length t
   found-inside w = rw (found-at p t w .0) at (some-place p t (found-at p t w .1))
 
-  pub unknown-act : (number network need : ℕ) (bare out : List ℕ) → found p t ≡ Nothing → arrivalAt t (search p t) number network need bare out ≡ refuse UNKNOWN
+  pub unknown-act : (number network : ℕ) (rank : Rank) (need : ℕ) (bare out : List ℕ) → found p t ≡ Nothing → arrivalAt t (search p t) number network rank need bare out ≡ refuse UNKNOWN
   unfolding arrivalAt
-  unknown-act number network need bare out w = simp (le-leb _ _ (no-place p t (found-none p t w)))
+  unknown-act number network rank need bare out w = simp (le-leb _ _ (no-place p t (found-none p t w)))
 
 module _ (t : Table) (network : ℕ) (f out : List ℕ) where
   -- 1 to 5 and 14 are asked first, and what follows goes by what was read
@@ -188,15 +189,15 @@ module _ (t : Table) (network : ℕ) (f out : List ℕ) where
     tag : asked (length t) network f ≡ answers (record { header = h; number = number })
     tag = sym p ∙ ap saidAsked e
 
-    act-at : {i : ℕ} → search (hears false (h .dest) (h .vlan)) t ≡ i → act t (arriving network f out) ≡ arrivalAt t i number network (length f - 6) (untagged f) out
+    act-at : {i : ℕ} → search (hears false (h .dest) (h .vlan)) t ≡ i → act t (arriving network f out) ≡ arrivalAt t i number network (h .rank) (length f - 6) (untagged f) out
     unfolding arrival
-    act-at s = act-asked ∙ ap (arrival t network f out) tag ∙ ap (λ (k : ℕ). arrivalAt t k number network (length f - 6) (untagged f) out) s
+    act-at s = act-asked ∙ ap (arrival t network f out) tag ∙ ap (λ (k : ℕ). arrivalAt t k number network (h .rank) (length f - 6) (untagged f) out) s
 
     pub arrival-unknown : (r : Answer) → found (hears false (h .dest) (h .vlan)) t ≡ Nothing → saidArrival r ≡ refused UNKNOWN
         → Meets t (arriving network f out) (record { said = saidArrival r; table = t; output = out })
     unfolding after answer output
     arrival-unknown r w a =
-        by-act t (arriving network f out) (refuse UNKNOWN) (act-at refl ∙ unknown-act t _ number network (length f - 6) (untagged f) out w) a refl refl
+        by-act t (arriving network f out) (refuse UNKNOWN) (act-at refl ∙ unknown-act t _ number network (h .rank) (length f - 6) (untagged f) out w) a refl refl
 
     module _ {i : ℕ} (w : found (hears false (h .dest) (h .vlan)) t ≡ At i) where
       known : TagIs f h number
@@ -212,10 +213,10 @@ module _ (t : Table) (network : ℕ) (f out : List ℕ) where
 
       pub arrival-decided : (r : Answer) {room : Bool} {j : Judged} {u : Table} {o : List ℕ}
           → room ≡ hasRoom (length f - 6) out → j ≡ judged (at t i) number room → u ≡ set t i (recordOf (at t i) network j)
-          → saidArrival r ≡ finished j i number (length f - 6) → o ≡ bytesOf j (writtenWithout f (h .at) out) out
+          → saidArrival r ≡ finished j i number (h .rank) (length f - 6) → o ≡ bytesOf j (writtenWithout f (h .at) out) out
           → Meets t (arriving network f out) (record { said = saidArrival r; table = u; output = o })
       arrival-decided r k g a b c =
-          let x = decides t i number network (length f - 6) (untagged f) (writtenWithout f (h .at) out) out (found-inside t _ w) size writes k g in
+          let x = decides t i number network (h .rank) (length f - 6) (untagged f) (writtenWithout f (h .at) out) out (found-inside t _ w) size writes k g in
           by-act t (arriving network f out) _ (act-at (found-at _ t w .0)) (b ∙ x .said) (a ∙ x .table) (c ∙ x .output)
 
 -- The same of a virtual link's: 1 to 4 and 14 are asked first.
@@ -241,15 +242,15 @@ module _ (t : Table) (network : ℕ) (f out : List ℕ) where
     read : linkAsked (length t) network f ≡ answers (record { dest = dest; number = number })
     read = sym p ∙ ap saidLink e
 
-    act-link-at : {i : ℕ} → search (hears true dest 0) t ≡ i → act t (linking network f out) ≡ arrivalAt t i number network (length f - 1) (butLast f) out
+    act-link-at : {i : ℕ} → search (hears true dest 0) t ≡ i → act t (linking network f out) ≡ arrivalAt t i number network unranked (length f - 1) (butLast f) out
     unfolding linkArrival
-    act-link-at s = act-link-asked ∙ ap (linkArrival t network f out) read ∙ ap (λ (k : ℕ). arrivalAt t k number network (length f - 1) (butLast f) out) s
+    act-link-at s = act-link-asked ∙ ap (linkArrival t network f out) read ∙ ap (λ (k : ℕ). arrivalAt t k number network unranked (length f - 1) (butLast f) out) s
 
     pub link-unknown : (r : Answer) → found (hears true dest 0) t ≡ Nothing → saidArrival r ≡ refused UNKNOWN
         → Meets t (linking network f out) (record { said = saidArrival r; table = t; output = out })
     unfolding after answer output
     link-unknown r w a =
-        by-act t (linking network f out) (refuse UNKNOWN) (act-link-at refl ∙ unknown-act t _ number network (length f - 1) (butLast f) out w) a refl refl
+        by-act t (linking network f out) (refuse UNKNOWN) (act-link-at refl ∙ unknown-act t _ number network unranked (length f - 1) (butLast f) out w) a refl refl
 
     module _ {i : ℕ} (w : found (hears true dest 0) t ≡ At i) where
       sizes : LinkSizes f
@@ -260,9 +261,9 @@ module _ (t : Table) (network : ℕ) (f out : List ℕ) where
 
       pub link-decided : (r : Answer) {room : Bool} {j : Judged} {u : Table} {o : List ℕ}
           → room ≡ hasRoom (length f - 1) out → j ≡ judged (at t i) number room → u ≡ set t i (recordOf (at t i) network j)
-          → saidArrival r ≡ finished j i number (length f - 1) → o ≡ bytesOf j (writtenShorter f out) out
+          → saidArrival r ≡ finished j i number unranked (length f - 1) → o ≡ bytesOf j (writtenShorter f out) out
           → Meets t (linking network f out) (record { said = saidArrival r; table = u; output = o })
       link-decided r k g a b c =
           let z = sizes in
-          let x = decides t i number network (length f - 1) (butLast f) (writtenShorter f out) out (found-inside t _ w) (but-last-length f) (shorter-fits f out (z .some) (z .few)) k g in
+          let x = decides t i number network unranked (length f - 1) (butLast f) (writtenShorter f out) out (found-inside t _ w) (but-last-length f) (shorter-fits f out (z .some) (z .few)) k g in
           by-act t (linking network f out) _ (act-link-at (found-at _ t w .0)) (b ∙ x .said) (a ∙ x .table) (c ∙ x .output)

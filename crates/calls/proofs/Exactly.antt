@@ -15,7 +15,7 @@ use Rattle.refusal.proofs.Checks.{first-exactly}
 use Rattle.record.specs.declared.Stream.{Stream}
 use Rattle.record.specs.Sizes.{frameMost}
 use Rattle.record.specs.Words.{yes}
-use Rattle.frame.specs.Frame.{Tag, typeAt, isTagged, headShort, tagShort, headerOf, numberIn, destOf, vlanOf, untagged, readOf}
+use Rattle.frame.specs.Frame.{Tag, typeAt, isTagged, headShort, tagShort, headerOf, numberIn, destOf, vlanOf, untagged, readOf, rankOf, unranked}
 use Rattle.frame.specs.Refusals.{tooLong, short, noTag}
 use Rattle.stream.specs.Record.{settled, damaged}
 use Rattle.stream.specs.Decisions.{verdict, expires}
@@ -96,7 +96,7 @@ slotFor t f = search (hears false (destOf f) (vlanOf f)) t
 
 arrival-says : (t : Table) (network : ℕ) (f out : List ℕ)
     → answer t (act t (arriving network f out))
-    ≡ firstOf (checksOf t (arriving network f out)) (arrived (slotFor t f) (numberIn f) (verdictWith (length (untagged f)) (verdict (at t (slotFor t f)) (numberIn f))))
+    ≡ firstOf (checksOf t (arriving network f out)) (arrived (slotFor t f) (numberIn f) (rankOf f) (verdictWith (length (untagged f)) (verdict (at t (slotFor t f)) (numberIn f))))
 unfolding act checked admitted arrival arrivalAt answer checksOf firstOf headerOf
 arrival-says t network f out = simp (answer-cond, read-first, admitted-cond, arrival-cond, no-network, no-stream)
 
@@ -112,7 +112,7 @@ linkFor t f = search (hears true (destOf f) 0) t
 
 link-says : (t : Table) (network : ℕ) (f out : List ℕ)
     → answer t (act t (linking network f out))
-    ≡ firstOf (checksOf t (linking network f out)) (arrived (linkFor t f) (lastByte f) (verdictWith (length (butLast f)) (verdict (at t (linkFor t f)) (lastByte f))))
+    ≡ firstOf (checksOf t (linking network f out)) (arrived (linkFor t f) (lastByte f) unranked (verdictWith (length (butLast f)) (verdict (at t (linkFor t f)) (lastByte f))))
 unfolding act checked linkArrival linkOf arrivalAt answer checksOf firstOf
 link-says t network f out = simp (answer-cond, link-cond, no-network, no-stream)
 

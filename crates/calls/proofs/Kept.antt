@@ -39,7 +39,7 @@ coincide t c r s p q i = record {
 keeps : (t : Table) (out : List ℕ) (n : ℕ) (a : Act) → answer t a ≡ refused n → (after t a ≡ t) × (output t out a ≡ out)
 unfolding answer after output
 keeps t out n (refuse m) e = (refl, refl)
-keeps t out n (arrive i number network bare) e = absurd (let z : _≡_ {A = ℕ} 0 1 = cc in omega arith)
+keeps t out n (arrive i number network rank bare) e = absurd (let z : _≡_ {A = ℕ} 0 1 = cc in omega arith)
 keeps t out n (opens i s) e = absurd (let z : _≡_ {A = ℕ} 0 1 = cc in omega arith)
 keeps t out n (closes i) e = absurd (let z : _≡_ {A = ℕ} 0 1 = cc in omega arith)
 keeps t out n (resets i) e = absurd (let z : _≡_ {A = ℕ} 0 1 = cc in omega arith)
@@ -52,7 +52,7 @@ refused-changes-nothing t c n e = keeps t (outOf c) n (act t c) e
 as-long : (t : Table) (a : Act) → length (after t a) ≡ length t
 unfolding after
 as-long t (refuse n) = refl
-as-long t (arrive i number network bare) = length-set t i _
+as-long t (arrive i number network rank bare) = length-set t i _
 as-long t (opens i s) = length-set t i s
 as-long t (closes i) = length-set t i _
 as-long t (resets i) = length-set t i _
@@ -68,7 +68,7 @@ other t i j s e = getD-set-other t i j s blank (λ h. eqb-false i j e (sym h))
 stays : (t : Table) (a : Act) (j : ℕ) → forSlot a j ≡ false → at (after t a) j ≡ at t j
 unfolding after forSlot
 stays t (refuse n) j e = refl
-stays t (arrive i number network bare) j e = other t i j _ e
+stays t (arrive i number network rank bare) j e = other t i j _ e
 stays t (opens i s) j e = other t i j s e
 stays t (closes i) j e = other t i j _ e
 stays t (resets i) j e = other t i j _ e
@@ -80,17 +80,17 @@ others-stay t c j e = stays t (act t c) j e
 -- ---- equal `said` means equal answers
 arrived-tell : (r s : Arrived) → saidArrival r ≡ saidArrival s → r ≡ s
 arrived-tell (arrived.Refused m) (arrived.Refused n) e = cc
-arrived-tell (arrived.Refused m) (arrived.Arrival j b w) e = cc
-arrived-tell (arrived.Arrival i a v) (arrived.Refused n) e = cc
-arrived-tell (arrived.Arrival i a (verdict.HandedUp l)) (arrived.Arrival j b (verdict.HandedUp m)) e = cc
-arrived-tell (arrived.Arrival i a (verdict.HandedUp l)) (arrived.Arrival j b verdict.Duplicate) e = cc
-arrived-tell (arrived.Arrival i a (verdict.HandedUp l)) (arrived.Arrival j b verdict.Rogue) e = cc
-arrived-tell (arrived.Arrival i a verdict.Duplicate) (arrived.Arrival j b (verdict.HandedUp m)) e = cc
-arrived-tell (arrived.Arrival i a verdict.Duplicate) (arrived.Arrival j b verdict.Duplicate) e = cc
-arrived-tell (arrived.Arrival i a verdict.Duplicate) (arrived.Arrival j b verdict.Rogue) e = cc
-arrived-tell (arrived.Arrival i a verdict.Rogue) (arrived.Arrival j b (verdict.HandedUp m)) e = cc
-arrived-tell (arrived.Arrival i a verdict.Rogue) (arrived.Arrival j b verdict.Duplicate) e = cc
-arrived-tell (arrived.Arrival i a verdict.Rogue) (arrived.Arrival j b verdict.Rogue) e = cc
+arrived-tell (arrived.Refused m) (arrived.Arrival j b y w) e = cc
+arrived-tell (arrived.Arrival i a x v) (arrived.Refused n) e = cc
+arrived-tell (arrived.Arrival i a x (verdict.HandedUp l)) (arrived.Arrival j b y (verdict.HandedUp m)) e = cc
+arrived-tell (arrived.Arrival i a x (verdict.HandedUp l)) (arrived.Arrival j b y verdict.Duplicate) e = cc
+arrived-tell (arrived.Arrival i a x (verdict.HandedUp l)) (arrived.Arrival j b y verdict.Rogue) e = cc
+arrived-tell (arrived.Arrival i a x verdict.Duplicate) (arrived.Arrival j b y (verdict.HandedUp m)) e = cc
+arrived-tell (arrived.Arrival i a x verdict.Duplicate) (arrived.Arrival j b y verdict.Duplicate) e = cc
+arrived-tell (arrived.Arrival i a x verdict.Duplicate) (arrived.Arrival j b y verdict.Rogue) e = cc
+arrived-tell (arrived.Arrival i a x verdict.Rogue) (arrived.Arrival j b y (verdict.HandedUp m)) e = cc
+arrived-tell (arrived.Arrival i a x verdict.Rogue) (arrived.Arrival j b y verdict.Duplicate) e = cc
+arrived-tell (arrived.Arrival i a x verdict.Rogue) (arrived.Arrival j b y verdict.Rogue) e = cc
 
 opened-tell : (r s : Opened) → saidOpened r ≡ saidOpened s → r ≡ s
 opened-tell (opened.Refused m) (opened.Refused n) e = cc

@@ -15,7 +15,7 @@ use Rattle.record.specs.declared.Stream.{Stream}
 use Rattle.record.specs.Words.{yes}
 use Rattle.record.specs.Sizes.{frameMost, linkRule}
 use Rattle.refusal.specs.Numbers.{LONG, SHORT, GROUP}
-use Rattle.frame.specs.Frame.{Tag, destOf, groupSource}
+use Rattle.frame.specs.Frame.{Tag, destOf, groupSource, unranked}
 use Rattle.stream.specs.Record.{settled, lawful, damaged, closed}
 use Rattle.stream.specs.Decisions.{expires, ticked}
 use Rattle.stream.specs.Laws.{Fitting}
@@ -30,7 +30,7 @@ use Rattle.calls.proofs.Lowest.{lowest-found}
 -- what is known of each
 abbrev pub Fact : Table → Act → Type 0
 Fact t (refuse n) = Unit {0}
-Fact t (arrive i number network bare) = (i < length t) × (lawful (at t i) ≡ true) × Fitting (at t i) number
+Fact t (arrive i number network rank bare) = (i < length t) × (lawful (at t i) ≡ true) × Fitting (at t i) number
 Fact t (opens i s) = (i < length t) × (lawful s ≡ true) × (isFree (at t i) ≡ true)
 Fact t (closes i) = i < length t
 Fact t (resets i) = (i < length t) × (yes (at t i .used) ≡ true) × (settled (at t i) ≡ true)
@@ -78,7 +78,7 @@ module _ (t : Table) where
   unfolding linkArrival linkOf arrivalAt
   link-known network f out = go (ltb frameMost (length f)) (ltb (length f) linkLeast) (groupSource f)
     where
-      at-slot : (dest : ℕ) → Known t (arrivalAt t (search (hears true dest 0) t) (lastByte f) network (length f - 1) (butLast f) out)
+      at-slot : (dest : ℕ) → Known t (arrivalAt t (search (hears true dest 0) t) (lastByte f) network unranked (length f - 1) (butLast f) out)
       at-slot dest =
           known (leb (length t) _) (λ e. nothing) (λ e. known (not (lawful _)) (λ l. nothing)
           (λ l. known (ltb (length out) (length f - 1)) (λ r. nothing) (λ r. record { fact = (leb-false (length t) _ e, not-false _ l, byte-fits (at t (search (hears true dest 0) t)) f) })))
@@ -158,7 +158,7 @@ module _ (t : Table) (sound : (j : ℕ) → damaged (at t j) ≡ false) where
   after-sound : (a : Act) → Known t a → (j : ℕ) → damaged (at (after t a) j) ≡ false
   unfolding after
   after-sound (refuse n) k j = sound j
-  after-sound (arrive i number network bare) k j = stored i _ (k .fact .0) (lawful-sound _ (decided-lawful (at t i) number network (k .fact .2) (k .fact .1))) j
+  after-sound (arrive i number network rank bare) k j = stored i _ (k .fact .0) (lawful-sound _ (decided-lawful (at t i) number network (k .fact .2) (k .fact .1))) j
   after-sound (opens i s) k j = stored i s (k .fact .0) (lawful-sound s (k .fact .1)) j
   after-sound (closes i) k j = stored i _ (k .fact) (closed-sound (at t i)) j
   after-sound (resets i) k j = stored i _ (k .fact .0) (lawful-sound _ (reset-lawful (at t i) (k .fact .1) (k .fact .2))) j

@@ -1,4 +1,4 @@
--- Document 01, "Calls and the order of checks", and document 02, order 1: what each call on a table comes to, for every
+-- Document 01, "Calls and the order of checks", and document 02, orders 1, 10 and 11: what each call on a table comes to, for every
 -- table and every input. Assumes nothing.
 use Prim.Native.Nat.{ℕ, _-_}
 use mathlib.Core.Path.{_≡_}
@@ -13,7 +13,8 @@ use Rattle.record.specs.declared.Stream.{Stream}
 use Rattle.record.specs.Words.{if_then_else_, yes}
 use Rattle.record.specs.Sizes.{slotsMost}
 use Rattle.frame.specs.Bytes.{overlay}
-use Rattle.frame.specs.Frame.{Tag, destOf, groupSource, readOf, untagged}
+use Rattle.frame.specs.Frame.{Tag, destOf, groupSource, readOf, untagged, unranked}
+use Rattle.frame.specs.declared.Rank.{Rank}
 use Rattle.stream.specs.Record.{settled, lawful, damaged, opened, closed}
 use Rattle.stream.specs.Decisions.{verdict, decided, reset, expires, ticked}
 use Rattle.stream.specs.Decisions as decisions
@@ -32,7 +33,7 @@ pub data Call : Type 0 where
 -- What a call comes to: a refusal, or what it does.
 pub data Act : Type 0 where
   refuse : (number : ℕ) → Act
-  arrive : (slot number network : ℕ) (bare : List ℕ) → Act  -- the frame without its tag
+  arrive : (slot number network : ℕ) (rank : Rank) (bare : List ℕ) → Act  -- the frame without its tag
   opens : (slot : ℕ) → Stream → Act
   closes : (slot : ℕ) → Act
   resets : (slot : ℕ) → Act
@@ -48,23 +49,23 @@ admitted f (answers g) = if groupSource f then refused GROUP else answers g
 
 -- The lowest slot with the key is taken. 8 is given when the output holds fewer than `need` bytes, for every arrival that gets
 -- this far, even a duplicate. `bare` is what is handed up.
-unfoldable pub arrivalAt : (t : Table) (slot number network need : ℕ) (bare out : List ℕ) → Act
-arrivalAt t i number network need bare out =
+unfoldable pub arrivalAt : (t : Table) (slot number network : ℕ) (rank : Rank) (need : ℕ) (bare out : List ℕ) → Act
+arrivalAt t i number network rank need bare out =
     if leb (length t) i then refuse UNKNOWN
     else if not (lawful (at t i)) then refuse DAMAGED
     else if ltb (length out) need then refuse ROOM
-    else arrive i number network bare
+    else arrive i number network rank bare
 
 unfoldable pub arrival : (t : Table) (network : ℕ) (frame out : List ℕ) → Said Tag → Act
 arrival t network f out (refused n) = refuse n
 arrival t network f out (answers g) =
-    arrivalAt t (search (hears false (g .header .dest) (g .header .vlan)) t) (g .number) network (length f - 6) (untagged f) out
+    arrivalAt t (search (hears false (g .header .dest) (g .header .vlan)) t) (g .number) network (g .header .rank) (length f - 6) (untagged f) out
 
--- An arrival of a virtual link: 1, 2, 3, 4, 14, 6, 7, 8 (fewer than length - 1 bytes).
+-- An arrival of a virtual link: 1, 2, 3, 4, 14, 6, 7, 8 (fewer than length - 1 bytes). It reads no VLAN tag.
 unfoldable pub linkArrival : (t : Table) (network : ℕ) (frame out : List ℕ) → Said Link → Act
 linkArrival t network f out (refused n) = refuse n
 linkArrival t network f out (answers g) =
-    arrivalAt t (search (hears true (g .dest) 0) t) (g .number) network (length f - 1) (butLast f) out
+    arrivalAt t (search (hears true (g .dest) 0) t) (g .number) network unranked (length f - 1) (butLast f) out
 
 -- a slot within the table and in use
 unfoldable pub inUse : Table → (slot : ℕ) → Bool
@@ -102,21 +103,21 @@ act t c = if ltb slotsMost (length t) then refuse TABLE else checked t c
 -- The table after it. Only the slot it is for changes; a tick ages every lawful record.
 unfoldable pub after : Table → Act → Table
 after t (refuse n) = t
-after t (arrive i number network bare) = set t i (decided (at t i) number network)
+after t (arrive i number network rank bare) = set t i (decided (at t i) number network)
 after t (opens i s) = set t i s
 after t (closes i) = set t i (closed (at t i))
 after t (resets i) = set t i (reset (at t i))
 after t ticks = map ticked t
 
--- An arrival carries the slot, the number and one of three verdicts: handed up with its length, duplicate, rogue. Open
--- tells the slot. Close and reset tell nothing more. A tick tells how many streams it reset and how many records in use
--- are damaged.
+-- An arrival carries the slot, the number and one of three verdicts: handed up with its length, duplicate, rogue; and, with each
+-- of them, the priority and whether a VLAN tag was there (order 11). Open tells the slot. Close and reset tell nothing more. A
+-- tick tells how many streams it reset and how many records in use are damaged.
 pub data Verdict : Type 0 where
   handedUp : (length : ℕ) → Verdict
   duplicate rogue : Verdict
 
 pub data Answer : Type 0 where
-  arrived : (slot number : ℕ) → Verdict → Answer
+  arrived : (slot number : ℕ) → Rank → Verdict → Answer
   placed : (slot : ℕ) → Answer
   done : Answer
   swept : (streams records : ℕ) → Answer
@@ -128,7 +129,7 @@ verdictWith l decisions.rogue = rogue
 
 unfoldable pub answer : Table → Act → Said Answer
 answer t (refuse n) = refused n
-answer t (arrive i number network bare) = answers (arrived i number (verdictWith (length bare) (verdict (at t i) number)))
+answer t (arrive i number network rank bare) = answers (arrived i number rank (verdictWith (length bare) (verdict (at t i) number)))
 answer t (opens i s) = answers (placed i)
 answer t (closes i) = answers done
 answer t (resets i) = answers done
@@ -152,7 +153,7 @@ outOf ticking = []
 
 unfoldable pub output : Table → (out : List ℕ) → Act → List ℕ
 output t out (refuse n) = out
-output t out (arrive i number network bare) = writtenFor (verdict (at t i) number) bare out
+output t out (arrive i number network rank bare) = writtenFor (verdict (at t i) number) bare out
 output t out (opens i s) = out
 output t out (closes i) = out
 output t out (resets i) = out

@@ -9,7 +9,7 @@ use Rattle.refusal.specs.Checks.{Said}
 use Rattle.refusal.specs.Checks.Said.{refused, answers}
 use Rattle.refusal.specs.Numbers.{SHORT, UNTAGGED, ROOM, GROUP}
 use Rattle.record.specs.Sizes.{vectorRule}
-use Rattle.frame.specs.Frame.{destOf, vlanOf, untagged}
+use Rattle.frame.specs.Frame.{destOf, vlanOf, untagged, unranked}
 use Rattle.stream.specs.Record.{lawful, damaged, opened}
 use Rattle.calls.specs.Table.{Table, blank, at, search, someSlot, hears, isFree}
 use Rattle.calls.specs.Calls.{Call, arriving, opening, resetting, ticking, arrive, opens, resets, act, after, answer, Answer, arrived, placed, swept, handedUp, duplicate}
@@ -53,12 +53,12 @@ abbrev pub WorkedExample : Type 0
 WorkedExample =
     answersOf eight example
     ≡ answers (placed 0)
-    ∷ answers (arrived 0 7 (handedUp 14))
-    ∷ answers (arrived 0 7 duplicate)
+    ∷ answers (arrived 0 7 unranked (handedUp 14))
+    ∷ answers (arrived 0 7 unranked duplicate)
     ∷ answers (swept 0 0)
     ∷ answers (swept 0 0)
     ∷ answers (swept 1 0)
-    ∷ answers (arrived 0 7 (handedUp 14))
+    ∷ answers (arrived 0 7 unranked (handedUp 14))
     ∷ []
 
 -- The premises of the laws are met. By the table of free slots and the open,
@@ -79,7 +79,7 @@ FreeMet =
 abbrev pub FilledMet : Type 0
 FilledMet =
     (someSlot (hears false (destOf frame) (vlanOf frame)) filled ≡ true) × (lawful (at filled (slotFor filled)) ≡ true)
-    × (act filled (arriving 0 frame buffer) ≡ arrive 0 7 0 (untagged frame))
+    × (act filled (arriving 0 frame buffer) ≡ arrive 0 7 0 unranked (untagged frame))
     × (act filled (resetting 0) ≡ resets 0)
     × (answer filled (act filled (arriving 0 dest buffer)) ≡ refused SHORT)
     × (answer filled (act filled (arriving 0 frame [])) ≡ refused ROOM)
@@ -97,7 +97,7 @@ abbrev pub GroupCases : Type 0
 GroupCases =
     (answer filled (act filled (arriving 0 (sentBy 0x01) buffer)) ≡ refused GROUP)
     × (answer filled (act filled (arriving 0 (sentBy 0xFF) buffer)) ≡ refused GROUP)
-    × (act filled (arriving 0 (sentBy 0xFE) buffer) ≡ arrive 0 7 0 (untagged (sentBy 0xFE)))
+    × (act filled (arriving 0 (sentBy 0xFE) buffer) ≡ arrive 0 7 0 unranked (untagged (sentBy 0xFE)))
     × (answer filled (act filled (arriving 0 (untagged (sentBy 0x01)) buffer)) ≡ refused UNTAGGED)
     × (answer eight (act eight (arriving 0 (sentBy 0x01) [])) ≡ refused GROUP)
-    × (answersOf eight (opening (set dest 0 0x01) 0 vectorRule 4 3 ∷ arriving 0 (sentTo 0x01) buffer ∷ []) ≡ answers (placed 0) ∷ answers (arrived 0 7 (handedUp 14)) ∷ [])
+    × (answersOf eight (opening (set dest 0 0x01) 0 vectorRule 4 3 ∷ arriving 0 (sentTo 0x01) buffer ∷ []) ≡ answers (placed 0) ∷ answers (arrived 0 7 unranked (handedUp 14)) ∷ [])

@@ -13,8 +13,9 @@ use Rattle.record.specs.declared.Stream.{Stream}
 use Rattle.record.specs.Sizes.{slotsMost}
 use Rattle.record.specs.Words.{yes}
 use Rattle.frame.specs.Bytes.{overlay}
-use Rattle.frame.specs.Frame.{Tag, destOf, groupSource, vlanOf, readOf, writeOf}
+use Rattle.frame.specs.Frame.{Tag, destOf, groupSource, vlanOf, readOf, writeOf, rankOf}
 use Rattle.frame.specs.TagCalls.{takeTag}
+use Rattle.frame.specs.declared.Rank.{Rank}
 use Rattle.stream.specs.Record.{lawful, damaged}
 use Rattle.stream.specs.Decisions.{up}
 use Rattle.calls.specs.Table.{Table, at, search, someSlot, hears, isFree}
@@ -52,7 +53,7 @@ RefusedChangesNothing =
 -- "Calls for one slot leave every other record as it is." A tick is for every slot, and a refused call for none.
 unfoldable pub forSlot : Act → (slot : ℕ) → Bool
 forSlot (refuse n) j = false
-forSlot (arrive i number network bare) j = eqb i j
+forSlot (arrive i number network rank bare) j = eqb i j
 forSlot (opens i s) j = eqb i j
 forSlot (closes i) j = eqb i j
 forSlot (resets i) j = eqb i j
@@ -112,8 +113,8 @@ TakeRefusesAlike =
 -- and for an arrival that is not refused, taking the tag out "answers number and length and writes as handed up does".
 abbrev pub TakeWritesAlike : Type 0
 TakeWritesAlike =
-    (t : Table) (network : ℕ) (f out : List ℕ) (i number : ℕ) (bare : List ℕ)
-    → act t (arriving network f out) ≡ arrive i number network bare
+    (t : Table) (network : ℕ) (f out : List ℕ) (i number : ℕ) (rank : Rank) (bare : List ℕ)
+    → act t (arriving network f out) ≡ arrive i number network rank bare
     → takeTag f out ≡ record { said = answers (record { number = number; length = length bare }); bytes = writtenFor up bare out }
 
 -- Order 1: "Such a frame now reaches no stream." Every arrival of a frame with a group source is refused,
@@ -137,5 +138,5 @@ HalvesFit =
     → length t ≤ slotsMost → network ≤ 1 → number < 65536 → writeOf f number ≡ answers g
     → someSlot (hears false (destOf f) (vlanOf f)) t ≡ true → i ≡ search (hears false (destOf f) (vlanOf f)) t
     → lawful (at t i) ≡ true → yes (at t i .state .any) ≡ true → length f ≤ length out
-    → (answer t (act t (arriving network g out)) ≡ answers (arrived i number (handedUp (length f))))
+    → (answer t (act t (arriving network g out)) ≡ answers (arrived i number (rankOf f) (handedUp (length f))))
     × (output t out (act t (arriving network g out)) ≡ overlay f out)

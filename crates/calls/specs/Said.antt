@@ -21,7 +21,7 @@ saidVerdict verdict.Rogue = calls.rogue
 
 abbrev pub saidArrival : Answer → Said calls.Answer
 saidArrival (answer.Refused n) = refused n
-saidArrival (answer.Arrival slot number v) = answers (calls.arrived slot number (saidVerdict v))
+saidArrival (answer.Arrival slot number rank v) = answers (calls.arrived slot number rank (saidVerdict v))
 
 abbrev pub saidOpened : Opened → Said calls.Answer
 saidOpened (opened.Refused n) = refused n

@@ -21,6 +21,7 @@ use Rattle.stream.specs.Decisions.{reset}
 use Rattle.stream.specs.Steps.{weighed, recordAfter}
 use Rattle.stream.specs.declared.Weighed.{Weighed}
 use Rattle.stream.specs.declared.Weighed.the-variants as weighs
+use Rattle.frame.specs.declared.Rank.{Rank}
 use Rattle.calls.specs.Calls.{admitted, Answer, arrived, handedUp, duplicate, rogue}
 use Rattle.calls.specs.declared.Found.{Found}
 use Rattle.calls.specs.declared.Found.the-variants as found
@@ -94,11 +95,11 @@ abbrev pub recordOf : Stream → (network : ℕ) → Judged → Stream
 recordOf s network j = recordAfter s network (weighedIn j)
 
 -- The answer.
-abbrev pub finished : Judged → (slot number length : ℕ) → Said Answer
-finished (judges.Refused n) slot number l = refused n
-finished (judges.HandedUp m) slot number l = answers (arrived slot number (handedUp l))
-finished judges.Duplicate slot number l = answers (arrived slot number duplicate)
-finished judges.Rogue slot number l = answers (arrived slot number rogue)
+abbrev pub finished : Judged → (slot number : ℕ) → Rank → (length : ℕ) → Said Answer
+finished (judges.Refused n) slot number rank l = refused n
+finished (judges.HandedUp m) slot number rank l = answers (arrived slot number rank (handedUp l))
+finished judges.Duplicate slot number rank l = answers (arrived slot number rank duplicate)
+finished judges.Rogue slot number rank l = answers (arrived slot number rank rogue)
 
 -- The output bytes: those that handed up leaves, and nothing else writes.
 abbrev pub bytesOf : Judged → (written out : List ℕ) → List ℕ

@@ -4,6 +4,7 @@ use super::Answer;
 use super::Asked;
 use super::Judged;
 use super::Verdict;
+use frame::Header;
 use frame::TagRead;
 use record::Stream;
 use stream::Weighed;
@@ -114,32 +115,36 @@ fn judged_as(w: Weighed, room: bool) -> Judged
 pub fn finish(
     j: Judged,
     slot: usize,
-    at: usize,
+    h: Header,
     number: u16,
     frame: &[u8],
     out: &mut [u8],
 ) -> Answer
-    ensures { λ r. ⌜ saidArrival r ≡ finished j slot number (length (now (frame .entry)) - 6) ⌝ }
-    ensures { λ _. ⌜ now (out .exit) ≡ bytesOf j (writtenWithout (now (frame .entry)) at (now (out .entry))) (now (out .entry)) ⌝ }
+    ensures { λ r. ⌜ saidArrival r ≡ finished j slot number (h .rank) (length (now (frame .entry)) - 6) ⌝ }
+    ensures { λ _. ⌜ now (out .exit) ≡ bytesOf j (writtenWithout (now (frame .entry)) (h .at) (now (out .entry))) (now (out .entry)) ⌝ }
 {
+    let rank = h.rank;
     match j {
         Judged::Refused(n) => Answer::Refused(n),
         Judged::HandedUp(_) => {
-            frame::write_without(frame, at, out);
+            frame::write_without(frame, h.at, out);
             Answer::Arrival {
                 slot,
                 number,
+                rank,
                 verdict: Verdict::HandedUp(bare_length(frame)),
             }
         }
         Judged::Duplicate => Answer::Arrival {
             slot,
             number,
+            rank,
             verdict: Verdict::Duplicate,
         },
         Judged::Rogue => Answer::Arrival {
             slot,
             number,
+            rank,
             verdict: Verdict::Rogue,
         },
     }

@@ -1,5 +1,5 @@
 // The by-value part of each call on a table: what it answers, what it stores, what it writes (document 01, "Calls and the
-// order of checks", and document 02, orders 1 and 10). The walks over the table are in the crate `receiver`.
+// order of checks", and document 02, orders 1, 10 and 11). The walks over the table are in the crate `receiver`.
 mod arrival;
 mod link;
 mod slot;
@@ -12,6 +12,7 @@ pub use arrival::judge;
 pub use arrival::refused;
 pub use arrival::unknown;
 use frame::Header;
+use frame::Rank;
 pub use link::ask_link;
 pub use link::finish_link;
 pub use link::fits_link;
@@ -40,19 +41,20 @@ pub enum Verdict {
     Rogue,
 }
 
-// The answer of an arrival: a refusal's number, or its stream's slot, its number and its verdict.
+// The answer of an arrival: a refusal's number, or its stream's slot, its number, its priority and its verdict.
 pub enum Answer {
     Refused(u8),
     Arrival {
         slot: usize,
         number: u16,
+        rank: Rank,
         verdict: Verdict,
     },
 }
 
 // The same in plain fields, since an enum can't cross to C, and an array of these is what a batch answers. Refusal 0: verdict
-// is 1 handed up, 2 duplicate, 3 rogue, and length is what was written to the output, 0 but for a frame handed up. Where it
-// is refused, refusal is the number and the rest is 0.
+// is 1 handed up, 2 duplicate, 3 rogue, and length is what was written to the output, 0 but for a frame handed up; priority is 0
+// to 7, and vlantag 1 if a VLAN tag was there. Where it is refused, refusal is the number and the rest is 0.
 #[repr(C)]
 pub struct ArrivalAnswer {
     pub slot: usize,
@@ -60,6 +62,8 @@ pub struct ArrivalAnswer {
     pub number: u16,
     pub verdict: u8,
     pub refusal: u8,
+    pub priority: u8,
+    pub vlantag: u8,
 }
 
 // The answer of an open: the slot.

@@ -4,12 +4,14 @@ use super::Answer;
 use super::Judged;
 use super::Verdict;
 use frame::LinkRead;
+use frame::Rank;
 use record::Stream;
 ghost use mathlib.Core.Path.{_≡_};
 ghost use mathlib.Core.Bool.{true};
 ghost use Prim.Native.Nat.{_-_};
 ghost use lib.ListN.{length};
 ghost use Rattle.refusal.specs.Checks.Said.{refused};
+ghost use Rattle.frame.specs.Frame.{unranked};
 ghost use Rattle.frame.specs.Link.{saidLink, writtenShorter};
 ghost use Rattle.calls.specs.Said.{saidArrival};
 ghost use Rattle.calls.specs.Table.{hears};
@@ -71,11 +73,16 @@ pub fn fits_link(frame: &[u8], out: &[u8]) -> bool
     shorter_length(frame) <= out.len()
 }
 
-// The answer; and where the frame is handed up, the frame without its last byte at the start of the output.
+// The answer, with no priority, since no VLAN tag is read; and where the frame is handed up, the frame without its last byte at
+// the start of the output.
 pub fn finish_link(j: Judged, slot: usize, number: u16, frame: &[u8], out: &mut [u8]) -> Answer
-    ensures { λ r. ⌜ saidArrival r ≡ finished j slot number (length (now (frame .entry)) - 1) ⌝ }
+    ensures { λ r. ⌜ saidArrival r ≡ finished j slot number unranked (length (now (frame .entry)) - 1) ⌝ }
     ensures { λ _. ⌜ now (out .exit) ≡ bytesOf j (writtenShorter (now (frame .entry)) (now (out .entry))) (now (out .entry)) ⌝ }
 {
+    let rank = Rank {
+        priority: 0,
+        vlantag: 0,
+    };
     match j {
         Judged::Refused(n) => Answer::Refused(n),
         Judged::HandedUp(_) => {
@@ -83,17 +90,20 @@ pub fn finish_link(j: Judged, slot: usize, number: u16, frame: &[u8], out: &mut 
             Answer::Arrival {
                 slot,
                 number,
+                rank,
                 verdict: Verdict::HandedUp(shorter_length(frame)),
             }
         }
         Judged::Duplicate => Answer::Arrival {
             slot,
             number,
+            rank,
             verdict: Verdict::Duplicate,
         },
         Judged::Rogue => Answer::Arrival {
             slot,
             number,
+            rank,
             verdict: Verdict::Rogue,
         },
     }

@@ -2,12 +2,13 @@
 use super::Answer;
 use super::ArrivalAnswer;
 use super::Verdict;
+use frame::Rank;
 ghost use mathlib.Core.Path.{_≡_};
 ghost use Rattle.calls.specs.Said.{saidVerdict, saidArrival};
 ghost use Rattle.calls.specs.Told.{tellVerdict, tellArrival};
 
-fn tell_verdict(slot: usize, number: u16, v: Verdict) -> ArrivalAnswer
-    ensures { λ r. ⌜ r ≡ tellVerdict slot number (saidVerdict v) ⌝ }
+fn tell_verdict(slot: usize, number: u16, rank: Rank, v: Verdict) -> ArrivalAnswer
+    ensures { λ r. ⌜ r ≡ tellVerdict slot number rank (saidVerdict v) ⌝ }
 {
     match v {
         Verdict::HandedUp(length) => ArrivalAnswer {
@@ -16,6 +17,8 @@ fn tell_verdict(slot: usize, number: u16, v: Verdict) -> ArrivalAnswer
             number,
             verdict: 1,
             refusal: 0,
+            priority: rank.priority,
+            vlantag: rank.vlantag,
         },
         Verdict::Duplicate => ArrivalAnswer {
             slot,
@@ -23,6 +26,8 @@ fn tell_verdict(slot: usize, number: u16, v: Verdict) -> ArrivalAnswer
             number,
             verdict: 2,
             refusal: 0,
+            priority: rank.priority,
+            vlantag: rank.vlantag,
         },
         Verdict::Rogue => ArrivalAnswer {
             slot,
@@ -30,6 +35,8 @@ fn tell_verdict(slot: usize, number: u16, v: Verdict) -> ArrivalAnswer
             number,
             verdict: 3,
             refusal: 0,
+            priority: rank.priority,
+            vlantag: rank.vlantag,
         },
     }
 }
@@ -44,11 +51,14 @@ pub fn tell_arrival(a: Answer) -> ArrivalAnswer
             number: 0,
             verdict: 0,
             refusal,
+            priority: 0,
+            vlantag: 0,
         },
         Answer::Arrival {
             slot,
             number,
+            rank,
             verdict,
-        } => tell_verdict(slot, number, verdict),
+        } => tell_verdict(slot, number, rank, verdict),
     }
 }

@@ -88,8 +88,8 @@ first-up s n a = rw a
 
 restart : RestartGetsThrough theReceiver
 unfolding theReceiver
-restart t i gap c n v q e =
-    answered-arrival (run theReceiver t gap) (act (run theReceiver t gap) c) i n v e .verdict
+restart t i gap c n x v q e =
+    answered-arrival (run theReceiver t gap) (act (run theReceiver t gap) c) i n x v e .verdict
     ∙ first-up (at (run theReceiver t gap) i) n (over q .any)
 
 pub restart-gets-through : {receive : Receiver} → MeetsContract receive → RestartGetsThrough receive

@@ -1,6 +1,6 @@
 -- One name for all that a run with numbers computes with: to unfold it is to unfold them. Assumes nothing.
 use Rattle.record.specs.Words.{yes}
-use Rattle.frame.specs.Frame.{groupSource, hasVlan, vlanOf, typeAt, isTagged, headShort, tagShort, headerOf, readOf, cutAt}
+use Rattle.frame.specs.Frame.{groupSource, hasVlan, vlanOf, typeAt, isTagged, headShort, tagShort, headerOf, rankOf, readOf, cutAt}
 use Rattle.stream.specs.History.{value, wordsOf, bitOf, same, isEmpty, bit, within, setBit, push, pushes, leaving, advance}
 use Rattle.stream.specs.Record.{isFresh, settled, placed, linked, shaped, lawful, damaged}
 use Rattle.stream.specs.Decisions.{signed, difference, vectorCase, matchCase, caseOf, stateAfter, outOfOrder, losses, tally, countsAfter, verdict, decided, reset, expires, ticked}
@@ -12,5 +12,5 @@ use Rattle.demands.specs.Unlimited.{elem, highest, apart, judged, rememb
 use Rattle.demands.specs.Examples.{address, frame, from, odd, stream, start, gap, later, indices, alone, silence, two}
 
 unfoldable pub computing : Unit {0}
-unfolding yes groupSource hasVlan vlanOf typeAt isTagged headShort tagShort headerOf readOf cutAt value wordsOf bitOf same isEmpty bit within setBit push pushes leaving advance isFresh settled placed linked shaped lawful damaged signed difference vectorCase matchCase caseOf stateAfter outOfOrder losses tally countsAfter verdict decided reset expires ticked search someSlot hasKey ofLinks hears isFree count admitted arrivalAt arrival inUse open-call checked act after answer output theReceiver run answered seenOf log numbers verdicts ticks every elem highest apart judged remembered unlimited near allNear address frame from odd stream start gap later indices alone silence two
+unfolding yes groupSource hasVlan vlanOf typeAt isTagged headShort tagShort headerOf rankOf readOf cutAt value wordsOf bitOf same isEmpty bit within setBit push pushes leaving advance isFresh settled placed linked shaped lawful damaged signed difference vectorCase matchCase caseOf stateAfter outOfOrder losses tally countsAfter verdict decided reset expires ticked search someSlot hasKey ofLinks hears isFree count admitted arrivalAt arrival inUse open-call checked act after answer output theReceiver run answered seenOf log numbers verdicts ticks every elem highest apart judged remembered unlimited near allNear address frame from odd stream start gap later indices alone silence two
 computing = tt

@@ -13,8 +13,9 @@ use Rattle.refusal.specs.Numbers.{TABLE, NETWORK, UNKNOWN, DAMAGED, ROOM, SETTI
 use Rattle.record.specs.declared.Stream.{Stream}
 use Rattle.record.specs.Words.{if_then_else_}
 use Rattle.record.specs.Sizes.{slotsMost}
-use Rattle.frame.specs.Frame.{Tag, destOf, readOf, untagged}
+use Rattle.frame.specs.Frame.{Tag, destOf, readOf, untagged, unranked}
 use Rattle.frame.specs.Link.{Link, linkOf, butLast}
+use Rattle.frame.specs.declared.Rank.{Rank}
 use Rattle.stream.specs.Record.{settled, lawful, opened}
 use Rattle.stream.specs.Decisions.{verdict}
 use Rattle.calls.specs.Table.{Table, at, search, someSlot, hasKey, hears, isFree}
@@ -49,10 +50,10 @@ module _ (i : ℕ) (t : Table) where
 
   -- an arrival of either family
   module _ (c : Call) (h : (r : Result) (a : Answer) → answered i t c r a ≡ heard i a) (key : Stream → Bool) (n : ℕ) (e : arrivalOf i t c ≡ ifLowest i t key n) where
-    arrives : (w : ℕ) (bare : List ℕ) → ltb (search key t) (length t) ≡ true → Tells c (arrive (search key t) n w bare)
+    arrives : (w : ℕ) (rank : Rank) (bare : List ℕ) → ltb (search key t) (length t) ≡ true → Tells c (arrive (search key t) n w rank bare)
     unfolding answer seenOf numbers someSlot
-    arrives w bare b = record {
-      fits = rw (e, h (resultOf t c (arrive (search key t) n w bare)) (calls.arrived (search key t) n v)) (go (eqb (search key t) i) refl);
+    arrives w rank bare b = record {
+      fits = rw (e, h (resultOf t c (arrive (search key t) n w rank bare)) (calls.arrived (search key t) n rank v)) (go (eqb (search key t) i) refl);
       refuses = λ number m s r. absurd (let z : _≡_ {A = ℕ} 0 1 = cc in omega arith);
     }
       where
@@ -63,27 +64,27 @@ module _ (i : ℕ) (t : Table) where
         go true q = rw (b, q)
         go false q = rw (b, q)
 
-    slot-tells : (network need : ℕ) (bare out : List ℕ) → Tells c (arrivalAt t (search key t) n network need bare out)
+    slot-tells : (network : ℕ) (rank : Rank) (need : ℕ) (bare out : List ℕ) → Tells c (arrivalAt t (search key t) n network rank need bare out)
     unfolding arrivalAt elem someSlot
-    slot-tells network need bare out =
+    slot-tells network rank need bare out =
         let j : ℕ = search key t in
         branch (leb (length t) j) (λ q. not-sent UNKNOWN (rw (e, le-ltb j (length t) (leb-true (length t) j q)))) (λ q.
         branch (not (lawful (at t j))) (λ _. of-four DAMAGED refl) (λ _.
         branch (ltb (length out) need) (λ _. of-four ROOM refl) (λ _.
-        arrives network bare (lt-ltb j (length t) (omega (arith, leb-false (length t) j q))))))
+        arrives network rank bare (lt-ltb j (length t) (omega (arith, leb-false (length t) j q))))))
 
   module _ (network : ℕ) (f out : List ℕ) where
     arrival-tells : (r : Said Tag) → admitted f (readOf f) ≡ r → Tells (arriving network f out) (arrival t network f out r)
     unfolding arrival answered numberFor
     arrival-tells (refused n) e = not-sent n (rw e)
     arrival-tells (answers g) e =
-        slot-tells (arriving network f out) (λ r a. refl) (hears false (g .header .dest) (g .header .vlan)) (g .number) (rw e) network (length f - 6) (untagged f) out
+        slot-tells (arriving network f out) (λ r a. refl) (hears false (g .header .dest) (g .header .vlan)) (g .number) (rw e) network (g .header .rank) (length f - 6) (untagged f) out
 
     link-tells : (r : Said Link) → linkOf f ≡ r → Tells (linking network f out) (linkArrival t network f out r)
     unfolding linkArrival answered linkNumberFor
     link-tells (refused n) e = not-sent n (rw e)
     link-tells (answers g) e =
-        slot-tells (linking network f out) (λ r a. refl) (hears true (g .dest) 0) (g .number) (rw e) network (length f - 1) (butLast f) out
+        slot-tells (linking network f out) (λ r a. refl) (hears true (g .dest) 0) (g .number) (rw e) network unranked (length f - 1) (butLast f) out
 
   -- A close or a reset is no arrival, whichever slot it is for.
   unheard : (b : Bool) → _≡_ {A = List ℕ} [] (numbers ((if b then ended else nothing) ∷ []) ++ [])

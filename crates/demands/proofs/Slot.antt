@@ -15,6 +15,7 @@ use Rattle.record.specs.Words.{if_then_else_, yes}
 use Rattle.record.specs.Sizes.{slotsMost}
 use Rattle.frame.specs.Frame.{Tag, destOf}
 use Rattle.frame.specs.Link.{Link}
+use Rattle.frame.specs.declared.Rank.{Rank}
 use Rattle.stream.specs.Record.{settled, lawful, opened}
 use Rattle.stream.specs.Decisions.{Verdict, up, duplicate, rogue, verdict, decided}
 use Rattle.stream.proofs.Logic.{not-iff}
@@ -54,9 +55,9 @@ module _ (i : ℕ) (t : Table) (within : i < length t) where
   refuses n = record { moves = λ u. refl }
 
   -- an arrival of either family, which the stream sees as the answer tells
-  arrives : (c : Call) → ((r : Result) (a : Answer) → answered i t c r a ≡ heard i a) → (j n w : ℕ) (bare : List ℕ) → Sound c (arrive j n w bare)
+  arrives : (c : Call) → ((r : Result) (a : Answer) → answered i t c r a ≡ heard i a) → (j n w : ℕ) (rank : Rank) (bare : List ℕ) → Sound c (arrive j n w rank bare)
   unfolding answer after seenOf
-  arrives c h j n w bare = record { moves = rw (h (resultOf t c (arrive j n w bare)) (calls.arrived j n (verdictWith (length bare) (verdict (at t j) n)))) (go (eqb j i) refl) }
+  arrives c h j n w rank bare = record { moves = rw (h (resultOf t c (arrive j n w rank bare)) (calls.arrived j n rank (verdictWith (length bare) (verdict (at t j) n)))) (go (eqb j i) refl) }
     where
       go : (v : Bool) → eqb j i ≡ v
           → Moves (at t i) (if eqb j i then arrived n (told (verdictWith (length bare) (verdict (at t j) n))) else nothing)
@@ -97,23 +98,23 @@ module _ (i : ℕ) (t : Table) (within : i < length t) where
   ages = record { moves = (refl, at-ticked t i) }
 
   -- the checks, in their order
-  slot-sound : (c : Call) → ((r : Result) (a : Answer) → answered i t c r a ≡ heard i a) → (j n network need : ℕ) (bare out : List ℕ) → Sound c (arrivalAt t j n network need bare out)
+  slot-sound : (c : Call) → ((r : Result) (a : Answer) → answered i t c r a ≡ heard i a) → (j n network : ℕ) (rank : Rank) (need : ℕ) (bare out : List ℕ) → Sound c (arrivalAt t j n network rank need bare out)
   unfolding arrivalAt
-  slot-sound c h j n network need bare out =
+  slot-sound c h j n network rank need bare out =
       branch (leb (length t) j) (λ e. refuses UNKNOWN) (λ e.
       branch (not (lawful (at t j))) (λ e. refuses DAMAGED) (λ e.
       branch (ltb (length out) need) (λ e. refuses ROOM) (λ e.
-      arrives c h j n network bare)))
+      arrives c h j n network rank bare)))
 
   arrival-sound : (network : ℕ) (f out : List ℕ) (r : Said Tag) → Sound (arriving network f out) (arrival t network f out r)
   unfolding arrival answered
   arrival-sound network f out (refused n) = refuses n
-  arrival-sound network f out (answers g) = slot-sound (arriving network f out) (λ r a. refl) _ _ _ _ _ _
+  arrival-sound network f out (answers g) = slot-sound (arriving network f out) (λ r a. refl) _ _ _ _ _ _ _
 
   link-sound : (network : ℕ) (f out : List ℕ) (r : Said Link) → Sound (linking network f out) (linkArrival t network f out r)
   unfolding linkArrival answered
   link-sound network f out (refused n) = refuses n
-  link-sound network f out (answers g) = slot-sound (linking network f out) (λ r a. refl) _ _ _ _ _ _
+  link-sound network f out (answers g) = slot-sound (linking network f out) (λ r a. refl) _ _ _ _ _ _ _
 
   open-sound : (dest : List ℕ) (vlan rule window time : ℕ) (s : Stream) → Sound (opening dest vlan rule window time) (open-call t s)
   unfolding open-call

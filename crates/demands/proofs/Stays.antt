@@ -10,6 +10,7 @@ use Rattle.refusal.specs.Checks.Said.{refused, answers}
 use Rattle.record.specs.Words.{if_then_else_}
 use Rattle.record.specs.Sizes.{slotsMost}
 use Rattle.frame.specs.Link.{Link, linkOf, butLast}
+use Rattle.frame.specs.declared.Rank.{Rank}
 use Rattle.stream.specs.Record.{settled, lawful}
 use Rattle.calls.specs.Table.{Table, at, search, hears}
 use Rattle.calls.specs.Calls.{Call, Act, refuse, arrive, resets, ticks, arriving, linking, opening, closing, resetting, ticking, act, checked, arrivalAt, linkArrival, inUse, after}
@@ -40,14 +41,14 @@ as-long t c {n} l = subst (λ (m : ℕ). m ≤ n) (sym (length-kept t c)) l
 
 data Plain : Act → Type 0 where
   refuses : (n : ℕ) → Plain (refuse n)
-  comes : (i number network : ℕ) (bare : List ℕ) → Plain (arrive i number network bare)
+  comes : (i number network : ℕ) (rank : Rank) (bare : List ℕ) → Plain (arrive i number network rank bare)
   renews : (i : ℕ) → Plain (resets i)
   ages : Plain ticks
 
 same : (ix : Index) (t : Table) {a : Act} → Plain a → indexAfter ix t a ≡ ix
 unfolding indexAfter
 same ix t (refuses n) = refl
-same ix t (comes i number network bare) = refl
+same ix t (comes i number network rank bare) = refl
 same ix t (renews i) = refl
 same ix t ages = refl
 
@@ -61,7 +62,7 @@ module _ (t : Table) (network : ℕ) (f out : List ℕ) where
   said-plain (refused n) = refuses n
   said-plain (answers g) =
       let i : ℕ = search (hears true (g .dest) 0) t in
-      branch (leb (length t) i) (refuses _) (branch (not (lawful (at t i))) (refuses _) (branch (ltb (length out) (length f - 1)) (refuses _) (comes i (g .number) network (butLast f))))
+      branch (leb (length t) i) (refuses _) (branch (not (lawful (at t i))) (refuses _) (branch (ltb (length out) (length f - 1)) (refuses _) (comes i (g .number) network _ (butLast f))))
 
   plain-link : Plain (act t (linking network f out))
   unfolding act checked

@@ -8,6 +8,7 @@ use Rattle.refusal.specs.Checks.Said.{refused, answers}
 use Rattle.record.specs.Sizes.{vectorRule}
 use Rattle.stream.specs.Record.{fresh}
 use Rattle.stream.specs.Decisions.{Verdict, up, duplicate, rogue, verdict, decided}
+use Rattle.frame.specs.Frame.{unranked}
 use Rattle.calls.specs.Table.{Table, at}
 use Rattle.calls.specs.Calls.{Act, refuse, arrive, opens, closes, resets, ticks, act, after, answer, output, outOf, Result, arrived, handedUp, ticking}
 use Rattle.calls.specs.Calls as calls
@@ -21,7 +22,7 @@ same-act : (t : Table) (out : List ℕ) (a : Act)
     → byAct verdict decided t out a ≡ record { said = answer t a; table = after t a; output = output t out a }
 unfolding byAct answer after output
 same-act t out (refuse n) = refl
-same-act t out (arrive i n w bare) = refl
+same-act t out (arrive i n w x bare) = refl
 same-act t out (opens i s) = refl
 same-act t out (closes i) = refl
 same-act t out (resets i) = refl
@@ -39,13 +40,13 @@ right-otherwise t c =
 
 -- ---- what differs
 
-refused-not-up : refused 1 ≡ answers (arrived 0 10 (handedUp 14)) → ⊥
+refused-not-up : refused 1 ≡ answers (arrived 0 10 unranked (handedUp 14)) → ⊥
 refused-not-up e = let z : _≡_ {A = ℕ} 0 1 = cc in omega arith
 
-duplicate-not-up : answers (arrived 0 10 calls.duplicate) ≡ answers (arrived 0 10 (handedUp 14)) → ⊥
+duplicate-not-up : answers (arrived 0 10 unranked calls.duplicate) ≡ answers (arrived 0 10 unranked (handedUp 14)) → ⊥
 duplicate-not-up e = let z : _≡_ {A = ℕ} 0 1 = cc in omega arith
 
-up-not-duplicate : answers (arrived 0 9 (handedUp 14)) ≡ answers (arrived 0 9 calls.duplicate) → ⊥
+up-not-duplicate : answers (arrived 0 9 unranked (handedUp 14)) ≡ answers (arrived 0 9 unranked calls.duplicate) → ⊥
 up-not-duplicate e = let z : _≡_ {A = ℕ} 0 1 = cc in omega arith
 
 rogue-not-up : {vs ws : List Verdict} → rogue ∷ vs ≡ up ∷ ws → ⊥

@@ -9,6 +9,7 @@ use Rattle.record.specs.Words.{if_then_else_, yes}
 use Rattle.record.specs.Sizes.{vectorRule}
 use Rattle.stream.specs.Record.{lawful}
 use Rattle.stream.specs.Decisions.{Verdict, up, isUp}
+use Rattle.frame.specs.declared.Rank.{Rank}
 use Rattle.calls.specs.Table.{Table, at}
 use Rattle.calls.specs.Calls.{Call, opening, arrived, placed}
 use Rattle.calls.specs.Calls as calls
@@ -69,9 +70,9 @@ OpenedDecides receive =
 -- number may be any, and the stream may be of any rule, a virtual link too. (A frame that is refused does not count.)
 abbrev pub RestartGetsThrough : Receiver → Type 0
 RestartGetsThrough receive =
-    (t : Table) (i : ℕ) (gap : List Call) (c : Call) (number : ℕ) (v : calls.Verdict)
+    (t : Table) (i : ℕ) (gap : List Call) (c : Call) (number : ℕ) (x : Rank) (v : calls.Verdict)
     → Silent receive t i gap
-    → receive (run receive t gap) c .said ≡ answers (arrived i number v)
+    → receive (run receive t gap) c .said ≡ answers (arrived i number x v)
     → told v ≡ up
 
 -- Increments: what a program adds up over the frames that it is handed, by any function from indices to integers, ..

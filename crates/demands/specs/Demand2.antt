@@ -11,8 +11,9 @@ use Rattle.refusal.specs.Checks.Said.{answers}
 use Rattle.record.specs.declared.Stream.{Stream}
 use Rattle.record.specs.Words.{if_then_else_, yes}
 use Rattle.record.specs.Sizes.{linkRule}
-use Rattle.frame.specs.Frame.{numberIn}
+use Rattle.frame.specs.Frame.{numberIn, rankOf, unranked}
 use Rattle.frame.specs.Link.{lastByte}
+use Rattle.frame.specs.declared.Rank.{Rank}
 use Rattle.stream.specs.History.{empty}
 use Rattle.stream.specs.Decisions.{up, duplicate, handedUp, tally, with, verdict, decided}
 use Rattle.stream.specs.Decisions as decisions
@@ -30,18 +31,19 @@ Demand2 receive = MeetsContract receive
 abbrev pub Demand2Tags : Tagger → Type 0
 Demand2Tags tagger = MeetsTags tagger
 
--- What that says of an arrival that is not refused: the number is the one in the tag, the verdict is what the recovery
--- gives on the stream's record, and so is the record with its counters; every other record stays.
-pub record Recovered (receive : Receiver) (t : Table) (network : ℕ) (frame out : List ℕ) (i n : ℕ) (v : Verdict) : Type 0 where
+-- What that says of an arrival that is not refused: the number is the one in the tag, the priority is the VLAN tag's (order 11), the
+-- verdict is what the recovery gives on the stream's record, and so is the record with its counters; every other record stays.
+pub record Recovered (receive : Receiver) (t : Table) (network : ℕ) (frame out : List ℕ) (i n : ℕ) (x : Rank) (v : Verdict) : Type 0 where
   pub number : n ≡ numberIn frame
+  pub rank : x ≡ rankOf frame
   pub verdict : told v ≡ verdict (at t i) n
   pub records : receive t (arriving network frame out) .table ≡ set t i (decided (at t i) n network)
 
 abbrev pub ArrivalsRecovered : Receiver → Type 0
 ArrivalsRecovered receive =
-    (t : Table) (network : ℕ) (frame out : List ℕ) (i n : ℕ) (v : Verdict)
-    → receive t (arriving network frame out) .said ≡ answers (arrived i n v)
-    → Recovered receive t network frame out i n v
+    (t : Table) (network : ℕ) (frame out : List ℕ) (i n : ℕ) (x : Rank) (v : Verdict)
+    → receive t (arriving network frame out) .said ≡ answers (arrived i n x v)
+    → Recovered receive t network frame out i n x v
 
 -- ---- document 02, order 10: "For such a stream demand 2 asks for these rules in place of vector or match recovery."
 
@@ -72,14 +74,15 @@ linkRecord s number network =
     with s (if linkPasses s number then handedUp s number 0 empty else s .state) (tally (s .counts) network (linkVerdict s number) false 0)
 
 -- An arrival of a virtual link that is not refused: its slot has rule 3, and "the number is the frame's last byte".
-pub record LinkRecovered (receive : Receiver) (t : Table) (network : ℕ) (frame out : List ℕ) (i n : ℕ) (v : Verdict) : Type 0 where
+pub record LinkRecovered (receive : Receiver) (t : Table) (network : ℕ) (frame out : List ℕ) (i n : ℕ) (x : Rank) (v : Verdict) : Type 0 where
   pub rule : at t i .rule ≡ linkRule
   pub number : n ≡ lastByte frame
+  pub rank : x ≡ unranked  -- such an arrival reads no VLAN tag (order 11)
   pub verdict : told v ≡ linkVerdict (at t i) n
   pub records : receive t (linking network frame out) .table ≡ set t i (linkRecord (at t i) n network)
 
 abbrev pub LinksRecovered : Receiver → Type 0
 LinksRecovered receive =
-    (t : Table) (network : ℕ) (frame out : List ℕ) (i n : ℕ) (v : Verdict)
-    → receive t (linking network frame out) .said ≡ answers (arrived i n v)
-    → LinkRecovered receive t network frame out i n v
+    (t : Table) (network : ℕ) (frame out : List ℕ) (i n : ℕ) (x : Rank) (v : Verdict)
+    → receive t (linking network frame out) .said ≡ answers (arrived i n x v)
+    → LinkRecovered receive t network frame out i n x v

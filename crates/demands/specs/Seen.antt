@@ -30,7 +30,7 @@ told calls.rogue = rogue
 
 -- An arrival is this stream's if the answer tells its slot.
 abbrev pub heard : (slot : ℕ) → Answer → Seen
-heard i (calls.arrived j number v) = if eqb j i then arrived number (told v) else nothing
+heard i (calls.arrived j number x v) = if eqb j i then arrived number (told v) else nothing
 heard i (placed j) = nothing
 heard i done = nothing
 heard i (swept streams records) = nothing

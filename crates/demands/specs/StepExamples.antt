@@ -10,6 +10,7 @@ use Rattle.refusal.specs.Checks.Said.{refused, answers}
 use Rattle.refusal.specs.Numbers.{SHORT, ROOM}
 use Rattle.record.specs.Sizes.{vectorRule}
 use Rattle.stream.specs.Decisions.{up, duplicate, rogue}
+use Rattle.frame.specs.Frame.{unranked}
 use Rattle.calls.specs.Table.{Table}
 use Rattle.calls.specs.Calls.{Answer, arriving, opening, closing, ticking}
 use Rattle.calls.specs.Calls as calls
@@ -73,7 +74,7 @@ afterGap = ranSteps theMachine start gapSteps
 
 -- the answer on a frame of the stream in slot 0, and the bytes of `frame 1 n` without its tag
 abbrev pub of0 : (number : ℕ) → calls.Verdict → Option (Said Answer)
-of0 number v = some (answers (calls.arrived 0 number v))
+of0 number v = some (answers (calls.arrived 0 number unranked v))
 
 unfoldable pub bare : List ℕ
 bare = take 12 (frame 1 0) ++ drop 18 (frame 1 0)
@@ -88,7 +89,7 @@ pub record WrapInOne : Type 0 where
   pub cut-said : batchOf beforeCut cut .said ≡ answers 2
   pub cut-answers : batchOf beforeCut cut .answers ≡ of0 5000 calls.rogue ∷ of0 9 calls.duplicate ∷ some (refused ROOM) ∷ replicate 29 none
   pub cut-output : batchOf beforeCut cut .output ≡ replicate 16 9
-  pub fourth : theReceiver (batchOf beforeCut cut .table) (arriving 0 (frame 1 10) (replicate 14 9)) .said ≡ answers (calls.arrived 0 10 (calls.handedUp 14))
+  pub fourth : theReceiver (batchOf beforeCut cut .table) (arriving 0 (frame 1 10) (replicate 14 9)) .said ≡ answers (calls.arrived 0 10 unranked (calls.handedUp 14))
   -- The last one tells the run at the wrap.
   pub said : batchOf afterGap wrap .said ≡ answers 10
   pub answers : batchOf afterGap wrap .answers

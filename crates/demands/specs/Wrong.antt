@@ -19,8 +19,8 @@ use Rattle.demands.specs.Demand3.{Demand3}
 -- A receiver that decides its own way: the definitions' in all but the verdict on an arrival and the record after it.
 unfoldable pub byAct : (Stream → ℕ → Verdict) → (Stream → (number network : ℕ) → Stream) → Table → (out : List ℕ) → Act → Result
 byAct v d t out (refuse n) = record { said = refused n; table = t; output = out }
-byAct v d t out (arrive i number network bare) = record {
-  said = answers (calls.arrived i number (verdictWith (length bare) (v (at t i) number)));
+byAct v d t out (arrive i number network x bare) = record {
+  said = answers (calls.arrived i number x (verdictWith (length bare) (v (at t i) number)));
   table = set t i (d (at t i) number network);
   output = writtenFor (v (at t i) number) bare out;
 }

@@ -13,6 +13,7 @@ use Rattle.record.specs.Words.{if_then_else_}
 use Rattle.frame.specs.Bytes.{overlay}
 use Rattle.stream.specs.Decisions as decisions
 use Rattle.stream.specs.Decisions.{verdict}
+use Rattle.frame.specs.declared.Rank.{Rank}
 use Rattle.calls.specs.Table.{Table, at}
 use Rattle.calls.specs.Calls.{Call, Act, refuse, arrive, opens, closes, resets, ticks, act, Answer, arrived, placed, done, swept, handedUp, duplicate, rogue, verdictWith, answer, writtenFor, outOf, output, Result}
 use Rattle.batch.specs.Batch.{Batch, framesMost, addsFor, adds, reached}
@@ -30,24 +31,24 @@ use Rattle.end_to_end.specs.Batches.{takes, gotIn, gotFrom, gotSteps, Go
 -- A frame that is handed up stands whole in the output: as many bytes as are told.
 abbrev pub Whole : Said Answer → List ℕ → Type 0
 Whole (refused n) out = Unit {0}
-Whole (answers (arrived j n (handedUp l))) out = l ≤ length out
-Whole (answers (arrived j n duplicate)) out = Unit {0}
-Whole (answers (arrived j n rogue)) out = Unit {0}
+Whole (answers (arrived j n x (handedUp l))) out = l ≤ length out
+Whole (answers (arrived j n x duplicate)) out = Unit {0}
+Whole (answers (arrived j n x rogue)) out = Unit {0}
 Whole (answers (placed j)) out = Unit {0}
 Whole (answers done) out = Unit {0}
 Whole (answers (swept streams records)) out = Unit {0}
 
-whole-verdict : (i n : ℕ) (bare out : List ℕ) (v : decisions.Verdict)
-    → Whole (answers (arrived i n (verdictWith (length bare) v))) (writtenFor v bare out)
+whole-verdict : (i n : ℕ) (x : Rank) (bare out : List ℕ) (v : decisions.Verdict)
+    → Whole (answers (arrived i n x (verdictWith (length bare) v))) (writtenFor v bare out)
 unfolding overlay
-whole-verdict i n bare out decisions.up = rw length-append (omega arith)
-whole-verdict i n bare out decisions.duplicate = tt
-whole-verdict i n bare out decisions.rogue = tt
+whole-verdict i n x bare out decisions.up = rw length-append (omega arith)
+whole-verdict i n x bare out decisions.duplicate = tt
+whole-verdict i n x bare out decisions.rogue = tt
 
 whole-act : (t : Table) (out : List ℕ) (a : Act) → Whole (answer t a) (output t out a)
 unfolding answer output
 whole-act t out (refuse n) = tt
-whole-act t out (arrive i n network bare) = whole-verdict i n bare out (verdict (at t i) n)
+whole-act t out (arrive i n network x bare) = whole-verdict i n x bare out (verdict (at t i) n)
 whole-act t out (opens i s) = tt
 whole-act t out (closes i) = tt
 whole-act t out (resets i) = tt
@@ -60,10 +61,10 @@ whole k t c = rw (k t c .said, k t c .output) (whole-act t (outOf c) (act t c))
 same-bytes : (i : ℕ) (s : Said Answer) (bytes rest : List ℕ) → Whole s bytes → gotOf i s (drop 2 (addsFor s bytes ++ rest)) ≡ gotOf i s bytes
 unfolding gotOf addsFor
 same-bytes i (refused n) bytes rest w = refl
-same-bytes i (answers (arrived j n (handedUp l))) bytes rest w =
+same-bytes i (answers (arrived j n x (handedUp l))) bytes rest w =
     ap (λ (f : List ℕ). if eqb j i then f ∷ [] else []) (take-at (take l bytes) rest l (length-take-le l bytes w))
-same-bytes i (answers (arrived j n duplicate)) bytes rest w = refl
-same-bytes i (answers (arrived j n rogue)) bytes rest w = refl
+same-bytes i (answers (arrived j n x duplicate)) bytes rest w = refl
+same-bytes i (answers (arrived j n x rogue)) bytes rest w = refl
 same-bytes i (answers (placed j)) bytes rest w = refl
 same-bytes i (answers done) bytes rest w = refl
 same-bytes i (answers (swept streams records)) bytes rest w = refl
@@ -72,10 +73,10 @@ same-bytes i (answers (swept streams records)) bytes rest w = refl
 pub goes-on : (s : Said Answer) (bytes rest : List ℕ) → Whole s bytes → drop (takes s) (addsFor s bytes ++ rest) ≡ rest
 unfolding takes addsFor
 goes-on (refused n) bytes rest w = refl
-goes-on (answers (arrived j n (handedUp l))) bytes rest w =
+goes-on (answers (arrived j n x (handedUp l))) bytes rest w =
     drop-at (l / 256 % 256 ∷ l % 256 ∷ take l bytes) rest (2 + l) (omega (arith, length-take-le l bytes w))
-goes-on (answers (arrived j n duplicate)) bytes rest w = refl
-goes-on (answers (arrived j n rogue)) bytes rest w = refl
+goes-on (answers (arrived j n x duplicate)) bytes rest w = refl
+goes-on (answers (arrived j n x rogue)) bytes rest w = refl
 goes-on (answers (placed j)) bytes rest w = refl
 goes-on (answers done) bytes rest w = refl
 goes-on (answers (swept streams records)) bytes rest w = refl

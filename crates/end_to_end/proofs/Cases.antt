@@ -11,7 +11,7 @@ use Rattle.refusal.specs.Numbers.{TABLE, NETWORK, UNKNOWN, DAMAGED, ROOM, SETTI
 use Rattle.record.specs.declared.Stream.{Stream}
 use Rattle.record.specs.Words.{if_then_else_}
 use Rattle.record.specs.Sizes.{slotsMost}
-use Rattle.frame.specs.Frame.{Tag, destOf, readOf, untagged}
+use Rattle.frame.specs.Frame.{Tag, destOf, readOf, untagged, unranked}
 use Rattle.frame.specs.Link.{Link, linkOf, butLast}
 use Rattle.stream.specs.Record.{settled, lawful, opened}
 use Rattle.calls.specs.Table.{Table, at, search, someSlot, hasKey, hears, isFree}
@@ -26,8 +26,8 @@ module _ (t : Table) where
   -- An arrival has a frame that is read, an open a key that no slot has.
   pub record Each (P : Call → Act → Type 0) : Type 0 where
     pub refuses : (c : Call) (n : ℕ) → P c (refuse n)
-    pub arrives : (network : ℕ) (f out : List ℕ) (g : Tag) (i : ℕ) → readOf f ≡ answers g → P (arriving network f out) (arrive i (g .number) network (untagged f))
-    pub links : (network : ℕ) (f out : List ℕ) (g : Link) (i : ℕ) → linkOf f ≡ answers g → P (linking network f out) (arrive i (g .number) network (butLast f))
+    pub arrives : (network : ℕ) (f out : List ℕ) (g : Tag) (i : ℕ) → readOf f ≡ answers g → P (arriving network f out) (arrive i (g .number) network (g .header .rank) (untagged f))
+    pub links : (network : ℕ) (f out : List ℕ) (g : Link) (i : ℕ) → linkOf f ≡ answers g → P (linking network f out) (arrive i (g .number) network unranked (butLast f))
     pub opens : (dest : List ℕ) (vlan rule window time i : ℕ) → someSlot (hasKey (destOf dest) vlan) t ≡ false
         → P (opening dest vlan rule window time) (opens i (opened (destOf dest) vlan rule window time))
     pub closes : (i : ℕ) → P (closing i) (closes i)

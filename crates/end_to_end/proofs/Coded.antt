@@ -101,9 +101,9 @@ unfolding gotTold batches.gotIn gotOf takes
 told-is i [] output = refl
 told-is i (none ∷ xs) output = told-is i xs output
 told-is i (some (refused n) ∷ xs) output = told-is i xs output
-told-is i (some (answers (arrived j n (handedUp l))) ∷ xs) output = ap (λ (rest : List (List ℕ)). (if eqb j i then take l (drop 2 output) ∷ [] else []) ++ rest) (told-is i xs _)
-told-is i (some (answers (arrived j n duplicate)) ∷ xs) output = told-is i xs output
-told-is i (some (answers (arrived j n rogue)) ∷ xs) output = told-is i xs output
+told-is i (some (answers (arrived j n x (handedUp l))) ∷ xs) output = ap (λ (rest : List (List ℕ)). (if eqb j i then take l (drop 2 output) ∷ [] else []) ++ rest) (told-is i xs _)
+told-is i (some (answers (arrived j n x duplicate)) ∷ xs) output = told-is i xs output
+told-is i (some (answers (arrived j n x rogue)) ∷ xs) output = told-is i xs output
 told-is i (some (answers (placed j)) ∷ xs) output = told-is i xs output
 told-is i (some (answers done) ∷ xs) output = told-is i xs output
 told-is i (some (answers (swept streams records)) ∷ xs) output = told-is i xs output

@@ -7,8 +7,9 @@ use lib.Dec.{eqb}
 use lib.ListN.{length}
 use Rattle.refusal.specs.Checks.Said.{answers}
 use Rattle.record.specs.Words.{if_then_else_}
-use Rattle.frame.specs.Frame.{untagged}
+use Rattle.frame.specs.Frame.{untagged, unranked}
 use Rattle.frame.specs.Link.{butLast}
+use Rattle.frame.specs.declared.Rank.{Rank}
 use Rattle.frame.proofs.Bytes.{overlay-front}
 use Rattle.stream.specs.Decisions.{Verdict, up, duplicate, rogue, isUp, verdict}
 use Rattle.calls.specs.Table.{Table, at}
@@ -47,12 +48,12 @@ module _ (i : ℕ) (t : Table) where
     fact : (isArrival (seen i t c (leaves t c a)) ≡ true → frameOf c ≡ [] → ⊥) → gotOf i (answer t a) (output t (outOf c) a) ≡ bares (seen i t c (leaves t c a)) (frameOf c)
 
   -- As many bytes as the answer tells are the frame without its tag.
-  arrives : (network : ℕ) (f out : List ℕ) (j n w : ℕ) → Gives (arriving network f out) (arrive j n w (untagged f))
+  arrives : (network : ℕ) (f out : List ℕ) (j n w : ℕ) (x : Rank) → Gives (arriving network f out) (arrive j n w x (untagged f))
   unfolding answer output gotOf seenOf answered
-  arrives network f out j n w = record { fact = λ z. go (verdict (at t j) n) (eqb j i) refl }
+  arrives network f out j n w x = record { fact = λ z. go (verdict (at t j) n) (eqb j i) refl }
     where
       go : (v : Verdict) (b : Bool) → eqb j i ≡ b
-          → gotOf i (answers (calls.arrived j n (verdictWith (length (untagged f)) v))) (writtenFor v (untagged f) out)
+          → gotOf i (answers (calls.arrived j n x (verdictWith (length (untagged f)) v))) (writtenFor v (untagged f) out)
           ≡ bares (if eqb j i then arrived n (told (verdictWith (length (untagged f)) v)) else nothing) f
       go up true e = rw e (ap (λ (x : List ℕ). x ∷ []) (overlay-front (untagged f) out refl))
       go up false e = rw e
@@ -61,13 +62,13 @@ module _ (i : ℕ) (t : Table) where
       go rogue true e = rw e
       go rogue false e = rw e
 
-  links : (network : ℕ) (f out : List ℕ) (j n w : ℕ) → Gives (linking network f out) (arrive j n w (butLast f))
+  links : (network : ℕ) (f out : List ℕ) (j n w : ℕ) (x : Rank) → Gives (linking network f out) (arrive j n w x (butLast f))
   unfolding answer output gotOf seenOf answered
-  links network f out j n w = record { fact = go (verdict (at t j) n) (eqb j i) refl }
+  links network f out j n w x = record { fact = go (verdict (at t j) n) (eqb j i) refl }
     where
       go : (v : Verdict) (b : Bool) → eqb j i ≡ b
           → (isArrival (if eqb j i then arrived n (told (verdictWith (length (butLast f)) v)) else nothing) ≡ true → _≡_ {A = List ℕ} [] [] → ⊥)
-          → gotOf i (answers (calls.arrived j n (verdictWith (length (butLast f)) v))) (writtenFor v (butLast f) out)
+          → gotOf i (answers (calls.arrived j n x (verdictWith (length (butLast f)) v))) (writtenFor v (butLast f) out)
           ≡ bares (if eqb j i then arrived n (told (verdictWith (length (butLast f)) v)) else nothing) []
       go v true e z = absurd (z (rw e refl) refl)
       go up false e z = rw e
@@ -83,8 +84,8 @@ module _ (i : ℕ) (t : Table) where
   unfolding answer output gotOf seenOf answered
   each = record {
     refuses = λ c n. record { fact = λ z. refl };
-    arrives = λ network f out g j e. arrives network f out j (g .number) network;
-    links = λ network f out g j e. links network f out j (g .number) network;
+    arrives = λ network f out g j e. arrives network f out j (g .number) network (g .header .rank);
+    links = λ network f out g j e. links network f out j (g .number) network unranked;
     opens = λ dest vlan rule window time j e. record { fact = λ z. refl };
     closes = λ j. record { fact = λ z. silent (eqb j i) };
     resets = λ j. record { fact = λ z. silent (eqb j i) };

@@ -12,7 +12,7 @@ use borrow.Author.Tests.{eq-eqb, le-ltb, lt-leb}
 use Rattle.refusal.specs.Checks.{Said}
 use Rattle.refusal.specs.Checks.Said.{refused, answers}
 use Rattle.record.specs.Sizes.{slotsMost}
-use Rattle.frame.specs.Frame.{destOf, vlanOf, typeAt, isTagged, groupSource, readOf, untagged, tagBytes, tagAt, tagged}
+use Rattle.frame.specs.Frame.{destOf, vlanOf, typeAt, isTagged, groupSource, readOf, untagged, tagBytes, tagAt, tagged, rankOf}
 use Rattle.frame.proofs.Heads.{type-least}
 use Rattle.frame.proofs.Words.{same-source}
 use Rattle.frame.proofs.Writes.{tag-length, wrote-is}
@@ -87,7 +87,7 @@ same-copy y (inr q) = q ∙ y .copy1
 abbrev ReadAs : (given : List ℕ) (n : ℕ) → Type 0
 ReadAs given n =
     readOf (tagged given n)
-    ≡ answers (record { header = record { dest = destOf given; vlan = vlanOf given; at = typeAt given; tagged = true }; number = n })
+    ≡ answers (record { header = record { dest = destOf given; vlan = vlanOf given; at = typeAt given; tagged = true; rank = rankOf given }; number = n })
 
 -- A call with a tagged frame, where nothing refuses it.
 module _ (given : List ℕ) (n : ℕ) (t : Table) (i network : ℕ) (out : List ℕ) where
@@ -105,7 +105,7 @@ module _ (given : List ℕ) (n : ℕ) (t : Table) (i network : ℕ) (out : List 
 
   -- It reaches the stream,
   reaches : Accepted given → ReadAs given n → Held (destOf given) (vlanOf given) t i → Called t network given out
-      → act t call ≡ arrive i n network (untagged frame)
+      → act t call ≡ arrive i n network (rankOf given) (untagged frame)
   unfolding act checked arrival arrivalAt
   reaches d r h c =
       let tag = admits-all frame (readOf frame) (tagged-too given n d) ∙ r in
@@ -120,7 +120,7 @@ module _ (given : List ℕ) (n : ℕ) (t : Table) (i network : ℕ) (out : List 
       )
 
   -- and the stream hears its number.
-  hears : act t call ≡ arrive i n network (untagged frame) → numbers (log theReceiver i t (call ∷ [])) ≡ n ∷ []
+  hears : act t call ≡ arrive i n network (rankOf given) (untagged frame) → numbers (log theReceiver i t (call ∷ [])) ≡ n ∷ []
   unfolding log numbers theReceiver answer seenOf answered
   hears e = rw (e, eq-eqb i i refl)
 

@@ -11,12 +11,13 @@ use borrow.Author.Tests.{eq-eqb, ne-eqb}
 use Rattle.refusal.specs.Checks.{Said}
 use Rattle.refusal.specs.Checks.Said.{refused, answers}
 use Rattle.frame.specs.Bytes.{word, overlay}
-use Rattle.frame.specs.Frame.{typeAt, untagged}
+use Rattle.frame.specs.Frame.{typeAt, untagged, unranked}
 use Rattle.frame.specs.Link.{butLast}
 use Rattle.frame.proofs.Heads.{tag-of}
 use Rattle.frame.proofs.Links.{link-sizes, but-last-length}
 use Rattle.frame.proofs.TakeThenPut.{cut-length}
 use Rattle.stream.specs.Decisions.{Verdict, up, duplicate, rogue, verdict}
+use Rattle.frame.specs.declared.Rank.{Rank}
 use Rattle.calls.specs.Table.{Table, at}
 use Rattle.calls.specs.Calls.{Call, Act, arrive, Answer, arrived, placed, done, swept, handedUp, answer, verdictWith, Result}
 use Rattle.calls.specs.Calls as calls
@@ -34,11 +35,11 @@ module _ (t : Table) where
   record Small (a : Act) : Type 0 where
     fact : takes (answer t a) ≤ 2 + 65535
 
-  arrives : (i n network : ℕ) (bare : List ℕ) → length bare ≤ 65535 → Small (arrive i n network bare)
+  arrives : (i n network : ℕ) (x : Rank) (bare : List ℕ) → length bare ≤ 65535 → Small (arrive i n network x bare)
   unfolding answer takes
-  arrives i n network bare h = record { fact = go (verdict (at t i) n) }
+  arrives i n network x bare h = record { fact = go (verdict (at t i) n) }
     where
-      go : (v : Verdict) → takes (answers (arrived i n (verdictWith (length bare) v))) ≤ 2 + 65535
+      go : (v : Verdict) → takes (answers (arrived i n x (verdictWith (length bare) v))) ≤ 2 + 65535
       go up = omega (arith, h)
       go duplicate = omega arith
       go rogue = omega arith
@@ -50,8 +51,8 @@ module _ (t : Table) where
     refuses = λ c n. record { fact = omega arith };
     arrives = λ network f out g i e.
         let r = tag-of f g e in
-        arrives i (g .number) network (untagged f) (omega (arith, r .few, cut-length f (typeAt f) (omega (arith, r .room))));
-    links = λ network f out g i e. arrives i (g .number) network (butLast f) (omega (arith, link-sizes f e .few, but-last-length f));
+        arrives i (g .number) network (g .header .rank) (untagged f) (omega (arith, r .few, cut-length f (typeAt f) (omega (arith, r .room))));
+    links = λ network f out g i e. arrives i (g .number) network unranked (butLast f) (omega (arith, link-sizes f e .few, but-last-length f));
     opens = λ dest vlan rule window time i e. record { fact = omega arith };
     closes = λ i. record { fact = omega arith };
     resets = λ i. record { fact = omega arith };
@@ -67,11 +68,11 @@ stands : (s : Said Answer) (bytes rest : List ℕ) → takes s ≤ 2 + 65535
     → (eqb (takes s) 0 || eqb (takes s) (2 + word (addsFor s bytes ++ rest) 0)) ≡ true
 unfolding takes addsFor
 stands (refused n) bytes rest h = refl
-stands (answers (arrived j n (handedUp l))) bytes rest h =
+stands (answers (arrived j n x (handedUp l))) bytes rest h =
     let e : 2 + l ≡ 2 + word ((l / 256 % 256 ∷ l % 256 ∷ take l bytes) ++ rest) 0 = omega (arith, h) in
     rw (ne-eqb (2 + l) 0 (λ z. omega arith), eq-eqb (2 + l) _ e)
-stands (answers (arrived j n calls.duplicate)) bytes rest h = refl
-stands (answers (arrived j n calls.rogue)) bytes rest h = refl
+stands (answers (arrived j n x calls.duplicate)) bytes rest h = refl
+stands (answers (arrived j n x calls.rogue)) bytes rest h = refl
 stands (answers (placed j)) bytes rest h = refl
 stands (answers done) bytes rest h = refl
 stands (answers (swept streams records)) bytes rest h = refl

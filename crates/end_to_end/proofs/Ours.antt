@@ -118,7 +118,7 @@ module _ (dest vlan : ℕ) where
 
   abbrev Bars : Act → Type 0
   Bars (refuse n) = Unit {0}
-  Bars (arrive i number network bare) = Unit {0}
+  Bars (arrive i number network x bare) = Unit {0}
   Bars (opens i s) = key s ≡ false
   Bars (closes i) = Unit {0}
   Bars (resets i) = Unit {0}
@@ -163,7 +163,7 @@ module _ (dest vlan : ℕ) where
       still-without : (a : Act) → Barred a → key (at (after t a) k) ≡ false
       unfolding after
       still-without (refuse n) b = e
-      still-without (arrive j n w bare) b = stored j _ (λ z. key-decided (at t j) n w ∙ rw z e)
+      still-without (arrive j n w x bare) b = stored j _ (λ z. key-decided (at t j) n w ∙ rw z e)
       still-without (opens j s) b = stored j s (λ _. b .fact)
       still-without (closes j) b = stored j _ (λ _. key-closed (at t j))
       still-without (resets j) b = stored j _ (λ z. key-reset (at t j) ∙ rw z e)

@@ -8,6 +8,7 @@ use mathlib.Core.List.{List, [], _∷_, _++_, map, flatMap}
 use lib.ListN.{take, drop, replicate}
 use Rattle.refusal.specs.Checks.Said.{refused, answers}
 use Rattle.refusal.specs.Numbers.{UNKNOWN}
+use Rattle.frame.specs.Frame.{unranked}
 use Rattle.calls.specs.Table.{Table, at}
 use Rattle.calls.specs.Calls.{arriving, ticking, arrived, handedUp, duplicate}
 use Rattle.batch.specs.Batch.{Batch, batchOf}
@@ -47,10 +48,10 @@ fourAndOne = batch four ∷ single (arriving 1 (numbered 1 11 (23 ∷ [])) (repl
 
 pub record BatchGot : Type 0 where
   pub answered : batchOf start four .answers
-      ≡ some (answers (arrived 0 10 (handedUp 16)))
+      ≡ some (answers (arrived 0 10 unranked (handedUp 16)))
       ∷ some (refused UNKNOWN)
-      ∷ some (answers (arrived 0 10 duplicate))
-      ∷ some (answers (arrived 3 77 (handedUp 17)))
+      ∷ some (answers (arrived 0 10 unranked duplicate))
+      ∷ some (answers (arrived 3 77 unranked (handedUp 17)))
       ∷ replicate 28 none
   pub output : batchOf start four .output ≡ preceded (plain 1 (21 ∷ 22 ∷ [])) ++ preceded (plain 3 (31 ∷ 32 ∷ 33 ∷ [])) ++ (9 ∷ 9 ∷ 9 ∷ [])
   -- The length bytes tell 16 and 17; with another length in front of either frame it would be seen.
@@ -58,8 +59,8 @@ pub record BatchGot : Type 0 where
   pub first-wrong : lengthsStand (batchOf start four .answers) (0 ∷ 15 ∷ drop 2 (batchOf start four .output)) ≡ false
   pub second-wrong : lengthsStand (batchOf start four .answers) (take 18 (batchOf start four .output) ++ 17 ∷ 0 ∷ drop 20 (batchOf start four .output)) ≡ false
   -- of a longer frame too: 300 is 1 and 44
-  pub long : lengthsStand (some (answers (arrived 0 0 (handedUp 300))) ∷ []) (1 ∷ 44 ∷ []) ≡ true
-  pub long-wrong : lengthsStand (some (answers (arrived 0 0 (handedUp 300))) ∷ []) (0 ∷ 44 ∷ []) ≡ false
+  pub long : lengthsStand (some (answers (arrived 0 0 unranked (handedUp 300))) ∷ []) (1 ∷ 44 ∷ []) ≡ true
+  pub long-wrong : lengthsStand (some (answers (arrived 0 0 unranked (handedUp 300))) ∷ []) (0 ∷ 44 ∷ []) ≡ false
   -- Each stream gets its own frames, each once: the frame for slot 3 stands behind the one for slot 0.
   pub slot-0 : gotSteps theMachine 0 start fourAndOne ≡ plain 1 (21 ∷ 22 ∷ []) ∷ plain 1 (23 ∷ []) ∷ []
   pub slot-3 : gotSteps theMachine 3 start fourAndOne ≡ plain 3 (31 ∷ 32 ∷ 33 ∷ []) ∷ []

@@ -25,9 +25,9 @@ use Rattle.end_to_end.specs.Bytes.{givenAt, gotOf, got, onceEach, Betwee
 -- how many bytes an answer of a batch has in the output: none, or a frame behind its two length bytes
 unfoldable pub takes : Said Answer → ℕ
 takes (refused n) = 0
-takes (answers (arrived j n (handedUp length))) = 2 + length
-takes (answers (arrived j n duplicate)) = 0
-takes (answers (arrived j n rogue)) = 0
+takes (answers (arrived j n x (handedUp length))) = 2 + length
+takes (answers (arrived j n x duplicate)) = 0
+takes (answers (arrived j n x rogue)) = 0
 takes (answers (placed j)) = 0
 takes (answers done) = 0
 takes (answers (swept streams records)) = 0

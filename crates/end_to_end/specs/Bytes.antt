@@ -44,9 +44,9 @@ givenAt pairs (k ∷ ks) = givenOf (nth pairs k) ++ givenAt pairs ks
 -- answer tells.
 unfoldable pub gotOf : (slot : ℕ) → Said Answer → (out : List ℕ) → List (List ℕ)
 gotOf i (refused n) out = []
-gotOf i (answers (arrived j n (handedUp length))) out = if eqb j i then take length out ∷ [] else []
-gotOf i (answers (arrived j n duplicate)) out = []
-gotOf i (answers (arrived j n rogue)) out = []
+gotOf i (answers (arrived j n x (handedUp length))) out = if eqb j i then take length out ∷ [] else []
+gotOf i (answers (arrived j n x duplicate)) out = []
+gotOf i (answers (arrived j n x rogue)) out = []
 gotOf i (answers (placed j)) out = []
 gotOf i (answers done) out = []
 gotOf i (answers (swept streams records)) out = []

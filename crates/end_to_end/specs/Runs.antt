@@ -9,7 +9,7 @@ use Rattle.refusal.specs.Checks.{Said}
 use Rattle.refusal.specs.Checks.Said.{refused, answers}
 use Rattle.refusal.specs.Numbers.{UNKNOWN, ROOM}
 use Rattle.record.specs.Sizes.{vectorRule}
-use Rattle.frame.specs.Frame.{destOf, tagged}
+use Rattle.frame.specs.Frame.{destOf, tagged, unranked}
 use Rattle.stream.specs.Record.{lawful, opened}
 use Rattle.calls.specs.Table.{Table, at}
 use Rattle.calls.specs.Calls.{Call, arriving, ticking, Answer, arrived, handedUp}
@@ -259,7 +259,7 @@ pub record HeardNeeded : Type 0 where
   -- a frame with another VLAN id: no stream has its key
   pub vlan : Unheard marked 32 (refused UNKNOWN) × Called (new L R) 0 marked (replicate 32 0) × (Ours (new L R) 0 marked → ⊥)
   -- a frame to another destination: the other stream hears it
-  pub destination : Unheard other 32 (answers (arrived 1 0 (handedUp 14))) × Called (new L R) 0 other (replicate 32 0) × (Ours (new L R) 0 other → ⊥)
+  pub destination : Unheard other 32 (answers (arrived 1 0 unranked (handedUp 14))) × Called (new L R) 0 other (replicate 32 0) × (Ours (new L R) 0 other → ⊥)
   -- just enough room, and one byte less
   pub enough : Called (new L R) 0 (message 0) (replicate 14 0) × (numbers (log theReceiver 0 (new L R) (copyComes (message 0) 14 ∷ [])) ≡ 0 ∷ [])
   pub room : Unheard (message 0) 13 (refused ROOM) × Ours (new L R) 0 (message 0) × (Called (new L R) 0 (message 0) (replicate 13 0) → ⊥)

@@ -1,7 +1,7 @@
 -- The example of document 01, and the file with every kind, by computation. Assumes nothing.
 use mathlib.Core.Path.{refl}
 use Rattle.record.specs.Words.{yes}
-use Rattle.frame.specs.Frame.{groupSource, hasVlan, vlanOf, typeAt, isTagged, headShort, tagShort, headerOf, readOf, cutAt}
+use Rattle.frame.specs.Frame.{groupSource, hasVlan, vlanOf, typeAt, isTagged, headShort, tagShort, headerOf, rankOf, readOf, cutAt}
 use Rattle.stream.specs.History.{value, wordsOf, bitOf, same, isEmpty, bit, within, setBit, push, pushes, leaving, advance}
 use Rattle.stream.specs.Record.{isFresh, settled, placed, linked, shaped, lawful, damaged}
 use Rattle.stream.specs.Decisions.{signed, difference, vectorCase, matchCase, caseOf, stateAfter, outOfOrder, losses, tally, countsAfter, verdict, decided, reset, expires, ticked}
@@ -15,7 +15,7 @@ use Rattle.event_file.specs.Example.{hex, ExampleRuns}
 use Rattle.event_file.specs.EveryKind.{EveryKind, LinkKinds}
 
 unfoldable computing : Unit {0}
-unfolding yes groupSource hasVlan vlanOf typeAt isTagged headShort tagShort headerOf readOf cutAt value wordsOf bitOf same isEmpty bit within setBit push pushes leaving advance isFresh settled lawful damaged placed linked shaped signed difference vectorCase matchCase caseOf stateAfter outOfOrder losses tally countsAfter verdict decided reset expires ticked search someSlot hasKey ofLinks hears isFree count admitted arrivalAt arrival inUse open-call checked act after answer digitsOf decimalOf recordsIn recordsOf eventOf askedBy asked answerOf lineOf entryFor tableAfter linesFrom linesOf hex
+unfolding yes groupSource hasVlan vlanOf typeAt isTagged headShort tagShort headerOf rankOf readOf cutAt value wordsOf bitOf same isEmpty bit within setBit push pushes leaving advance isFresh settled lawful damaged placed linked shaped signed difference vectorCase matchCase caseOf stateAfter outOfOrder losses tally countsAfter verdict decided reset expires ticked search someSlot hasKey ofLinks hears isFree count admitted arrivalAt arrival inUse open-call checked act after answer digitsOf decimalOf recordsIn recordsOf eventOf askedBy asked answerOf lineOf entryFor tableAfter linesFrom linesOf hex
 computing = tt
 
 pub example-runs : ExampleRuns

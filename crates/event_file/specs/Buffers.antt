@@ -26,7 +26,7 @@ pub record Writes (most : ℕ) (new : List ℕ) (at : ℕ) (old now : List ℕ) 
 
 -- no line takes more bytes than this, and the last line takes so many
 abbrev pub lineMost : ℕ
-lineMost = 71
+lineMost = 92
 
 abbrev pub lastMost : ℕ
 lastMost = 4

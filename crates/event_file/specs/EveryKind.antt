@@ -1,4 +1,4 @@
--- Document 01, "Event file and the program `events`", and document 02, order 5: a file with every kind, every letter, a bad record of
+-- Document 01, "Event file and the program `events`", and document 02, orders 5 and 11: a file with every kind, every letter, a bad record of
 -- each sort and a cut, worked out by hand. Two kinds, two fields or two letters that are exchanged give other lines. Assumes nothing.
 use Prim.Native.Nat.{ℕ}
 use mathlib.Core.Path.{_≡_}
@@ -18,11 +18,11 @@ everyInput =
     ++ hex "0016 04 01 020000000001 020000000009 F1C1 0000 0007 0800"
     ++ hex "0016 04 00 020000000001 020000000009 F1C1 0000 000B 0800"
     ++ hex "0016 04 00 020000000001 020000000009 F1C1 0000 000A 0800"
-    -- in VLAN 5, with priority 1 or 0: 256, then 64 ahead, and 65
-    ++ hex "001A 04 01 020000000001 020000000009 8100 2005 F1C1 0000 0100 0800"
+    -- in VLAN 5, with priority 6, 0 and 5: 256, then 64 ahead, and 65
+    ++ hex "001A 04 01 020000000001 020000000009 8100 C005 F1C1 0000 0100 0800"
     ++ hex "001A 04 01 020000000001 020000000009 8100 0005 F1C1 0000 0140 0800"
-    ++ hex "001A 04 01 020000000001 020000000009 8100 0005 F1C1 0000 0181 0800"
-    -- match takes every number but the last one; a VLAN id of 0 is as no tag
+    ++ hex "001A 04 01 020000000001 020000000009 8100 A005 F1C1 0000 0181 0800"
+    -- match takes every number but the last one; a VLAN id of 0 is as no tag, but for the priority
     ++ hex "0016 04 00 020000000002 020000000009 F1C1 0000 0009 0800"
     ++ hex "0016 04 00 020000000002 020000000009 F1C1 0000 1388 0800"
     ++ hex "001A 04 00 020000000002 020000000009 8100 3000 F1C1 0000 0009 0800"
@@ -56,11 +56,11 @@ everyInput =
 abbrev pub everyOutput : List ℕ
 everyOutput =
     text "1 O 0\n2 O 1\n3 O 2\n"
-    ++ text "4 A up 0 7\n5 A dup 0 7\n6 A rogue 0 11\n7 A up 0 10\n"
-    ++ text "8 A up 1 256\n9 A up 1 320\n10 A rogue 1 385\n"
-    ++ text "11 A up 2 9\n12 A up 2 5000\n13 A up 2 9\n14 A dup 2 9\n"
-    ++ text "15 T 0 0\n16 T 1 0\n17 A up 1 1000\n"
-    ++ text "18 R ok\n19 A up 0 10\n20 C ok\n21 A no 6\n22 O 0\n"
+    ++ text "4 A up 0 7 0\n5 A dup 0 7\n6 A rogue 0 11\n7 A up 0 10 0\n"
+    ++ text "8 A up 1 256 6\n9 A up 1 320 0\n10 A rogue 1 385\n"
+    ++ text "11 A up 2 9 0\n12 A up 2 5000 0\n13 A up 2 9 1\n14 A dup 2 9\n"
+    ++ text "15 T 0 0\n16 T 1 0\n17 A up 1 1000 0\n"
+    ++ text "18 R ok\n19 A up 0 10 0\n20 C ok\n21 A no 6\n22 O 0\n"
     ++ text "23 C no 12\n24 R no 12\n25 O no 10\n26 O no 9\n"
     ++ text "27 A no 2\n28 A no 5\n29 A no 14\n30 A no 4\n"
     ++ text "31 bad\n32 bad\n33 bad\n34 bad\n35 bad\n36 bad\n37 bad\n38 bad\n39 bad\n40 bad\n41 bad\n"
@@ -90,7 +90,7 @@ abbrev pub linkOutput : List ℕ
 linkOutput =
     text "1 O 0\n2 O no 9\n3 O no 9\n"
     ++ text "4 O no 10\n5 A no 6\n6 O 1\n7 O no 10\n"
-    ++ text "8 R ok\n9 T 0 0\n10 C ok\n11 O 0\n12 A up 0 7\nend\n"
+    ++ text "8 R ok\n9 T 0 0\n10 C ok\n11 O 0\n12 A up 0 7 0\nend\n"
 
 abbrev pub LinkKinds : Type 0
 LinkKinds = linesOf linkInput ≡ linkOutput

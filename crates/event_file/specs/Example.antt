@@ -29,12 +29,12 @@ exampleInput =
 abbrev pub exampleOutput : List ℕ
 exampleOutput =
     text "1 O 0\n"
-    ++ text "2 A up 0 7\n"
+    ++ text "2 A up 0 7 0\n"
     ++ text "3 A dup 0 7\n"
     ++ text "4 T 0 0\n"
     ++ text "5 T 0 0\n"
     ++ text "6 T 1 0\n"
-    ++ text "7 A up 0 7\n"
+    ++ text "7 A up 0 7 0\n"
     ++ text "end\n"
 
 -- The example's input gives its output.

@@ -1,4 +1,4 @@
--- Document 01, "Event file and the program `events`": one line a record, and the last line. Assumes nothing.
+-- Document 01, "Event file and the program `events`", and document 02, order 11: one line a record, and the last line. Assumes nothing.
 use Prim.Native.Nat.{ℕ}
 use Prim.Native.Char.{code}
 use mathlib.Core.List.{List, [], _∷_, _++_}
@@ -28,11 +28,17 @@ verdictWord (handedUp length) = text "up"
 verdictWord duplicate = text "dup"
 verdictWord rogue = text "rogue"
 
+-- Order 11: "`events` prints the priority last on `up` lines."
+abbrev pub priorityOf : Verdict → (priority : ℕ) → List ℕ
+priorityOf (handedUp length) n = text " " ++ decimalOf n
+priorityOf duplicate n = []
+priorityOf rogue n = []
+
 -- A refusal prints `no` and its number. Open prints the slot. Close and reset print `ok`. Tick prints streams reset and
 -- records damaged.
 unfoldable pub answerOf : Said Answer → List ℕ
 answerOf (refused number) = text "no " ++ decimalOf number
-answerOf (answers (arrived slot number v)) = verdictWord v ++ text " " ++ pairOf slot number
+answerOf (answers (arrived slot number x v)) = verdictWord v ++ text " " ++ pairOf slot number ++ priorityOf v (x .priority)
 answerOf (answers (placed slot)) = decimalOf slot
 answerOf (answers done) = text "ok"
 answerOf (answers (swept streams records)) = pairOf streams records

@@ -11,7 +11,7 @@ ghost use mathlib.Core.List.{[], _∷_, _++_};
 ghost use lib.ListN.{length};
 ghost use Rattle.calls.specs.Said.{saidVerdict, saidArrival, saidOpened, saidDone, saidSwept};
 ghost use Rattle.event_file.specs.Text.{text, decimalOf};
-ghost use Rattle.event_file.specs.Lines.{pairOf, verdictWord, answerOf, lineOf, bad, told, lastLine, numeralOf, letterOf, saidReply, saidTold};
+ghost use Rattle.event_file.specs.Lines.{pairOf, verdictWord, priorityOf, answerOf, lineOf, bad, told, lastLine, numeralOf, letterOf, saidReply, saidTold};
 ghost use Rattle.event_file.specs.Buffers.{Put, Writes, lineMost, lastMost};
 
 // The answer of the call that a record asked for.
@@ -30,7 +30,7 @@ pub enum Told {
 }
 
 // A line takes no more bytes than this, and the last line this many.
-pub const LINE: usize = 71;
+pub const LINE: usize = 92;
 
 pub const LAST: usize = 4;
 
@@ -150,28 +150,45 @@ fn verdict_word(v: Verdict, buf: &mut [u8], at: usize) -> usize
     }
 }
 
-// An answer takes at most 47 bytes: a word of five, a space, and a pair of numbers.
+// The priority, of a frame that is handed up (document 02, order 11).
+fn priority(v: Verdict, n: u8, buf: &mut [u8], at: usize) -> usize
+    requires { ⌜ at + 21 ≤ length (now buf) ⌝ }
+    ensures { λ r. ⌜ (Put (priorityOf (saidVerdict v) n) at (now (buf .entry)) (now (buf .exit)) r) × (r ≤ at + 21) ⌝ }
+{
+    match v {
+        Verdict::HandedUp(_) => {
+            let x = byte(b' ', buf, at);
+            write_numeral(in_digits(n), buf, x)
+        }
+        Verdict::Duplicate => at,
+        Verdict::Rogue => at,
+    }
+}
+
+// An answer takes at most 68 bytes: a word of five, a space, a pair of numbers, a space and a number.
 fn arrival(a: Answer, buf: &mut [u8], at: usize) -> usize
-    requires { ⌜ at + 47 ≤ length (now buf) ⌝ }
-    ensures { λ r. ⌜ (Put (answerOf (saidArrival a)) at (now (buf .entry)) (now (buf .exit)) r) × (r ≤ at + 47) ⌝ }
+    requires { ⌜ at + 68 ≤ length (now buf) ⌝ }
+    ensures { λ r. ⌜ (Put (answerOf (saidArrival a)) at (now (buf .entry)) (now (buf .exit)) r) × (r ≤ at + 68) ⌝ }
 {
     match a {
         Answer::Refused(n) => refused(n, buf, at),
         Answer::Arrival {
             slot,
             number,
+            rank,
             verdict,
         } => {
             let x = verdict_word(verdict, buf, at);
             let y = byte(b' ', buf, x);
-            pair(slot as u64, number as u64, buf, y)
+            let z = pair(slot as u64, number as u64, buf, y);
+            priority(verdict, rank.priority, buf, z)
         }
     }
 }
 
 fn opened(o: Opened, buf: &mut [u8], at: usize) -> usize
-    requires { ⌜ at + 47 ≤ length (now buf) ⌝ }
-    ensures { λ r. ⌜ (Put (answerOf (saidOpened o)) at (now (buf .entry)) (now (buf .exit)) r) × (r ≤ at + 47) ⌝ }
+    requires { ⌜ at + 68 ≤ length (now buf) ⌝ }
+    ensures { λ r. ⌜ (Put (answerOf (saidOpened o)) at (now (buf .entry)) (now (buf .exit)) r) × (r ≤ at + 68) ⌝ }
 {
     match o {
         Opened::Refused(n) => refused(n, buf, at),
@@ -180,8 +197,8 @@ fn opened(o: Opened, buf: &mut [u8], at: usize) -> usize
 }
 
 fn done(d: Done, buf: &mut [u8], at: usize) -> usize
-    requires { ⌜ at + 47 ≤ length (now buf) ⌝ }
-    ensures { λ r. ⌜ (Put (answerOf (saidDone d)) at (now (buf .entry)) (now (buf .exit)) r) × (r ≤ at + 47) ⌝ }
+    requires { ⌜ at + 68 ≤ length (now buf) ⌝ }
+    ensures { λ r. ⌜ (Put (answerOf (saidDone d)) at (now (buf .entry)) (now (buf .exit)) r) × (r ≤ at + 68) ⌝ }
 {
     match d {
         Done::Refused(n) => refused(n, buf, at),
@@ -190,8 +207,8 @@ fn done(d: Done, buf: &mut [u8], at: usize) -> usize
 }
 
 fn swept(s: Swept, buf: &mut [u8], at: usize) -> usize
-    requires { ⌜ at + 47 ≤ length (now buf) ⌝ }
-    ensures { λ r. ⌜ (Put (answerOf (saidSwept s)) at (now (buf .entry)) (now (buf .exit)) r) × (r ≤ at + 47) ⌝ }
+    requires { ⌜ at + 68 ≤ length (now buf) ⌝ }
+    ensures { λ r. ⌜ (Put (answerOf (saidSwept s)) at (now (buf .entry)) (now (buf .exit)) r) × (r ≤ at + 68) ⌝ }
 {
     match s {
         Swept::Refused(n) => refused(n, buf, at),
@@ -212,8 +229,8 @@ fn letter(r: Reply) -> u8
 }
 
 fn write_reply(r: Reply, buf: &mut [u8], at: usize) -> usize
-    requires { ⌜ at + 47 ≤ length (now buf) ⌝ }
-    ensures { λ x. ⌜ (Put (answerOf (saidReply r)) at (now (buf .entry)) (now (buf .exit)) x) × (x ≤ at + 47) ⌝ }
+    requires { ⌜ at + 68 ≤ length (now buf) ⌝ }
+    ensures { λ x. ⌜ (Put (answerOf (saidReply r)) at (now (buf .entry)) (now (buf .exit)) x) × (x ≤ at + 68) ⌝ }
 {
     match r {
         Reply::Open(o) => opened(o, buf, at),

@@ -355,7 +355,7 @@ fn serve(from: i32, onto: i32, input: &mut [u8], lines: &mut [u8], out: &mut [u8
 }
 
 // Bytes of the input buffer (a record and its length bytes fit, 65537, and a read brings a large piece), and of the lines (a
-// line fits, 71).
+// line fits, 92).
 const INPUT: usize = 262144;
 
 const LINES: usize = 65536;

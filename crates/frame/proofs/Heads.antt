@@ -1,7 +1,7 @@
 -- What the readers' definitions come to, by the tests that a reader makes, and what their answers tell.
 -- Assumes nothing.
 use mathlib.Core.Path.{_≡_, refl, sym, ap, ap₂, _∙_}
-use Prim.Native.Nat.{ℕ, _+_, _%_, _≤_, _<_}
+use Prim.Native.Nat.{ℕ, _+_, _%_, _≤_, _<_, _/_}
 use native.Mathlib.Omega.{arith}
 use mathlib.Core.Bool.{Bool, true, false, cond, not, _&&_, _||_}
 use mathlib.Core.List.{List}
@@ -13,7 +13,7 @@ use Rattle.refusal.specs.Numbers.{LONG, SHORT, UNTAGGED}
 use Rattle.refusal.proofs.Checks.{passed, same-value}
 use Rattle.record.specs.Sizes.{frameMost}
 use Rattle.frame.specs.Bytes.{word}
-use Rattle.frame.specs.Frame.{Tag, typeAt, hasVlan, isTagged, headShort, tagShort, headerOf, headOf, destOf, vlanOf, numberIn, readOf}
+use Rattle.frame.specs.Frame.{Tag, typeAt, hasVlan, isTagged, headShort, tagShort, headerOf, rankOf, unranked, headOf, destOf, vlanOf, numberIn, readOf}
 use Rattle.frame.specs.TagCalls.{saidHead, saidRead}
 use Rattle.frame.specs.declared.Header.{Header}
 use Rattle.frame.specs.declared.Head.{Head}
@@ -75,16 +75,16 @@ head-vlan-cut f h q e = head-refused f (omega (arith, type-vlan f (sym q ∙ e))
 
 -- with no VLAN tag
 pub head-plain : (f : List ℕ) {d t : ℕ} → 14 ≤ length f → d ≡ destOf f → t ≡ word f 12 → (t ≡ 0x8100 → ⊥)
-    → answers (record { dest = d; vlan = 0; at = 12; tagged = eqb t 0xF1C1 }) ≡ headOf f
-unfolding headOf headerOf isTagged vlanOf hasVlan
+    → answers (record { dest = d; vlan = 0; at = 12; tagged = eqb t 0xF1C1; rank = unranked }) ≡ headOf f
+unfolding headOf headerOf isTagged vlanOf hasVlan rankOf
 head-plain f h p q n =
     let m : word f 12 ≡ 0x8100 → ⊥ = λ e. n (q ∙ e) in
     rw (p, q) (simp (head-whole f (rw (type-plain f m) h), type-plain f m, ne-eqb _ _ m))
 
 -- with one
 pub head-vlan : (f : List ℕ) {d t v w : ℕ} → 18 ≤ length f → d ≡ destOf f → t ≡ word f 12 → t ≡ 0x8100 → v ≡ word f 14 → w ≡ word f 16
-    → answers (record { dest = d; vlan = v % 4096; at = 16; tagged = eqb w 0xF1C1 }) ≡ headOf f
-unfolding headOf headerOf isTagged vlanOf hasVlan
+    → answers (record { dest = d; vlan = v % 4096; at = 16; tagged = eqb w 0xF1C1; rank = record { priority = v / 8192; vlantag = 1 } }) ≡ headOf f
+unfolding headOf headerOf isTagged vlanOf hasVlan rankOf
 head-vlan f h p q e r s =
     let m : word f 12 ≡ 0x8100 = sym q ∙ e in
     rw (p, r, s) (simp (head-whole f (rw (type-vlan f m) h), type-vlan f m, eq-eqb _ _ m))

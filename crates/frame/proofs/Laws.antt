@@ -1,8 +1,10 @@
--- What else holds of one frame's bytes: the destination as one number, that two outcomes coincide, and that a refusal
+-- What else holds of one frame's bytes: the priority bits, the destination as one number, that two outcomes coincide, and that a refusal
 -- changes nothing. Assumes nothing.
 use mathlib.Core.Path.{_≡_, refl, sym, ap, ap₂, _∙_}
-use Prim.Native.Nat.{ℕ, _+_, _-_, _*_, _<_}
+use Prim.Native.Nat.{ℕ, _+_, _-_, _*_, _/_, _%_, _≤_, _<_}
 use native.Mathlib.Omega.{arith}
+use native.Mathlib.Decide.{decLt}
+use mathlib.Core.Logic.{_⊎_, inl, inr}
 use mathlib.Core.List.{List}
 use lib.ListN.{length, getD}
 use lib.Dec.{ltb}
@@ -10,9 +12,9 @@ use Rattle.refusal.specs.Checks.{Said}
 use Rattle.refusal.specs.Checks.Said.{refused, answers}
 use Rattle.refusal.proofs.Checks.{same-value}
 use Rattle.frame.specs.Bytes.{word, overlay, Bytes}
-use Rattle.frame.specs.Frame.{Tag, readOf, untagged, writeOf}
+use Rattle.frame.specs.Frame.{Tag, vlanOf, rankOf, readOf, untagged, writeOf}
 use Rattle.frame.specs.TagCalls.{takeFrom, takeTag, writeInto, writeTag, saidHead, saidRead, saidPlace, saidTaken, saidWritten}
-use Rattle.frame.specs.Laws.{DestSix, TakeRefusedKeeps, WriteRefusedKeeps, Coincide, AnswersTell}
+use Rattle.frame.specs.Laws.{PriorityBits, DestSix, TakeRefusedKeeps, WriteRefusedKeeps, Coincide, AnswersTell}
 use Rattle.frame.specs.declared.Head.{Head}
 use Rattle.frame.specs.declared.Head.the-variants as head
 use Rattle.frame.specs.declared.TagRead.{TagRead}
@@ -25,6 +27,15 @@ use Rattle.frame.specs.declared.Written.{Written}
 use Rattle.frame.specs.declared.Written.the-variants as written
 use Rattle.frame.proofs.Writes.{picks-keeps}
 use Rattle.frame.proofs.Words.{six}
+
+-- ---- the two bytes of a VLAN tag behind 8100 hex
+
+in-parts : (w : ℕ) → w < 65536 → (w / 8192 ≤ 7) × (w % 4096 < 4096) × ((w ≡ w / 8192 * 8192 + w % 4096) ⊎ (w ≡ w / 8192 * 8192 + 4096 + w % 4096))
+in-parts w h = (omega arith, omega arith, elim (decLt (w % 8192) 4096) [ yes k ↦ inl (omega arith) | no k ↦ inr (omega arith) ])
+
+pub priority-bits : PriorityBits
+unfolding rankOf vlanOf
+priority-bits f b v = let p = in-parts (word f 14) (omega (arith, b 14, b 15)) in rw v (refl, p .0, p .1, p .2)
 
 -- ---- the destination as one number stands for its six bytes
 

@@ -14,7 +14,7 @@ use Rattle.refusal.specs.Checks.Said.{refused, answers}
 use Rattle.refusal.specs.Numbers.{ROOM}
 use Rattle.record.specs.Sizes.{untaggedMost}
 use Rattle.frame.specs.Bytes.{word, overlay}
-use Rattle.frame.specs.Frame.{typeAt, groupSource, hasVlan, isTagged, headerOf, destOf, vlanOf, readOf, tagBytes, cutAt, tagAt, untagged, tagged, writeOf}
+use Rattle.frame.specs.Frame.{typeAt, groupSource, hasVlan, isTagged, headerOf, rankOf, unranked, destOf, vlanOf, readOf, tagBytes, cutAt, tagAt, untagged, tagged, writeOf}
 use Rattle.frame.specs.TagCalls.{Outcome, writeInto, writeTag, takeFrom, takeTag}
 use Rattle.frame.specs.RoundTrips.{PutThenTake, NoGroupWritten, WriteThenTake}
 use Rattle.frame.proofs.Bytes.{overlay-front}
@@ -77,6 +77,14 @@ module _ (f : List ℕ) (n : ℕ) (room : typeAt f + 2 ≤ length f) where
       go (plain h t v) = rw v
       go (vlan h t v) = rw (front 14 (omega arith))
 
+  same-rank : rankOf (tagged f n) ≡ rankOf f
+  unfolding rankOf
+  same-rank = rw (same-place .1) (go (place f))
+    where
+      go : Place f → cond (hasVlan f) (record { priority = word (tagged f n) 14 / 8192; vlantag = 1 }) unranked ≡ cond (hasVlan f) (record { priority = word f 14 / 8192; vlantag = 1 }) unranked
+      go (plain h t v) = rw v
+      go (vlan h t v) = rw (front 14 (omega arith))
+
   is-tagged : isTagged (tagged f n) ≡ true
   unfolding isTagged
   is-tagged = rw (same-place .0) (eq-eqb _ _ (inside (typeAt f) 0 (omega arith)))
@@ -90,12 +98,12 @@ module _ (f : List ℕ) (n : ℕ) (room : typeAt f + 2 ≤ length f) where
 
   -- and it is read: the frame's key and the number
   pub read-tagged : length f ≤ untaggedMost → n < 65536
-      → readOf (tagged f n) ≡ answers (record { header = record { dest = destOf f; vlan = vlanOf f; at = typeAt f; tagged = true }; number = n })
+      → readOf (tagged f n) ≡ answers (record { header = record { dest = destOf f; vlan = vlanOf f; at = typeAt f; tagged = true; rank = rankOf f }; number = n })
   unfolding headerOf
   read-tagged few small =
       let long = tag-length f (typeAt f) n (omega arith) in
       let p = same-place .0 in
-      read-is (tagged f n) (omega arith) (omega arith) is-tagged ∙ rw (same-dest, same-vlan, is-tagged, p, the-number small)
+      read-is (tagged f n) (omega arith) (omega arith) is-tagged ∙ rw (same-dest, same-vlan, same-rank, is-tagged, p, the-number small)
 
 -- what the writer makes, the reader reads, and without its tag it is the frame
 pub put-then-take : PutThenTake

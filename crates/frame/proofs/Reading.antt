@@ -1,6 +1,6 @@
 -- Short in the paper's words, and reserved bytes ignored on reading. Assumes nothing.
 use mathlib.Core.Path.{_≡_, refl, sym, ap, ap₂, _∙_}
-use Prim.Native.Nat.{ℕ, _+_, _%_, _≤_, _<_}
+use Prim.Native.Nat.{ℕ, _+_, _%_, _≤_, _<_, _/_}
 use native.Mathlib.Omega.{arith}
 use native.Mathlib.Decide.{decLt}
 use mathlib.Core.Bool.{Bool, true, false, cond, _&&_, _||_}
@@ -13,7 +13,7 @@ use borrow.Author.Tests.{lt-ltb, eq-eqb, ltb-true, eqb-true}
 use Rattle.frame.specs.Bytes.{word}
 use Rattle.refusal.specs.Checks.{Said}
 use Rattle.refusal.specs.Checks.Said.{refused, answers}
-use Rattle.frame.specs.Frame.{Tag, typeAt, hasVlan, vlanOf, isTagged, headShort, tagShort, headerOf, numberIn, readOf, cutAt, untagged}
+use Rattle.frame.specs.Frame.{Tag, typeAt, hasVlan, vlanOf, isTagged, headShort, tagShort, headerOf, rankOf, unranked, numberIn, readOf, cutAt, untagged}
 use Rattle.frame.specs.TagCalls.{takeTag, takeFrom}
 use Rattle.frame.specs.Refusals.{short}
 use Rattle.frame.specs.Laws.{Stands, ShortWords, ReservedIgnored}
@@ -109,11 +109,19 @@ module _ (f g : List ℕ) (l : length f ≡ length g)
       go (plain n o v) = rw (← same-vlan, v)
       go (vlan e o v) = rw (← same-vlan, v) (ap (λ (w : ℕ). w % 4096) (before 14 (omega arith)))
 
+  same-rank : rankOf f ≡ rankOf g
+  unfolding rankOf
+  same-rank = go (place f)
+    where
+      go : Place f → cond (hasVlan f) (record { priority = word f 14 / 8192; vlantag = 1 }) unranked ≡ cond (hasVlan g) (record { priority = word g 14 / 8192; vlantag = 1 }) unranked
+      go (plain n o v) = rw (← same-vlan, v)
+      go (vlan e o v) = rw (← same-vlan, v) (ap (λ (w : ℕ). record { priority = w / 8192; vlantag = 1 }) (before 14 (omega arith)))
+
   same-header : headerOf f ≡ headerOf g
   unfolding headerOf
   same-header =
       let h = type-least f in
-      rw (before 0 (omega arith), before 2 (omega arith), before 4 (omega arith), same-id, same-tag, same-type)
+      rw (before 0 (omega arith), before 2 (omega arith), before 4 (omega arith), same-id, same-rank, same-tag, same-type)
 
   same-number : numberIn f ≡ numberIn g
   same-number = behind (typeAt f + 4) (omega arith) ∙ ap (λ (o : ℕ). word g (o + 4)) same-type

@@ -12,6 +12,7 @@ use Rattle.record.specs.Words.{if_then_else_}
 use Rattle.record.specs.Sizes.{frameMost, untaggedMost}
 use Rattle.frame.specs.Bytes.{word}
 use Rattle.frame.specs.declared.Header.{Header}
+use Rattle.frame.specs.declared.Rank.{Rank}
 
 -- Destination 6 bytes: as one number, high byte first.
 abbrev pub destOf : List ℕ → ℕ
@@ -61,9 +62,17 @@ headShort f = ltb (length f) 14 || (hasVlan f && ltb (length f) 18)
 unfoldable pub tagShort : List ℕ → Bool
 tagShort f = isTagged f && ltb (length f) (typeAt f + 8)
 
+-- "The VLAN tag's three priority bits", the highest of the bytes at 14 and 15, "0 to 7, and whether a tag was there. .. An untagged
+-- frame gives 0 and no" (order 11).
+abbrev pub unranked : Rank
+unranked = record { priority = 0; vlantag = 0 }
+
+unfoldable pub rankOf : List ℕ → Rank
+rankOf f = if hasVlan f then record { priority = word f 14 / 8192; vlantag = 1 } else unranked
+
 -- What the reader finds before a frame's data,
 unfoldable pub headerOf : List ℕ → Header
-headerOf f = record { dest = destOf f; vlan = vlanOf f; at = typeAt f; tagged = isTagged f }
+headerOf f = record { dest = destOf f; vlan = vlanOf f; at = typeAt f; tagged = isTagged f; rank = rankOf f }
 
 -- and with the tag of a tagged frame, the number too.
 pub record Tag : Type 0 where

@@ -1,6 +1,6 @@
--- Document 01, "The frame" and "Calls and the order of checks", and document 02, order 1: what else holds of one frame's
+-- Document 01, "The frame" and "Calls and the order of checks", and document 02, orders 1 and 11: what else holds of one frame's
 -- bytes, as statements. Assumes nothing.
-use Prim.Native.Nat.{ℕ, _+_, _≤_, _<_}
+use Prim.Native.Nat.{ℕ, _+_, _*_, _≤_, _<_}
 use mathlib.Core.Path.{_≡_}
 use mathlib.Core.Logic.{_↔_, _⊎_}
 use mathlib.Core.Bool.{true}
@@ -10,7 +10,7 @@ use Rattle.refusal.specs.Checks.{Said}
 use Rattle.refusal.specs.Checks.Said.{refused}
 use Rattle.refusal.specs.Numbers.{GROUP}
 use Rattle.frame.specs.Bytes.{word, Bytes}
-use Rattle.frame.specs.Frame.{destOf, typeAt, readOf}
+use Rattle.frame.specs.Frame.{destOf, hasVlan, vlanOf, typeAt, rankOf, readOf}
 use Rattle.frame.specs.TagCalls.{Outcome, takeTag, writeTag, saidHead, saidRead, saidPlace, saidTaken, saidWritten}
 use Rattle.frame.specs.Refusals.{short}
 
@@ -27,6 +27,14 @@ ShortWords =
     ⊎ (Stands 0x8100 12 f × (length f < 18))
     ⊎ (Stands 0x8100 12 f × Stands 0xF1C1 16 f × (length f < 24))
     ⊎ ((Stands 0x8100 12 f → ⊥) × Stands 0xF1C1 12 f × (length f < 20)))
+
+-- Order 11, "the VLAN tag's three priority bits": the two bytes at 14 are the priority, one bit that belongs to neither, and the VLAN
+-- id. So the priority is 0 to 7, and that bit has no part in it.
+abbrev pub PriorityBits : Type 0
+PriorityBits =
+    (f : List ℕ) → Bytes f → hasVlan f ≡ true
+    → (rankOf f .vlantag ≡ 1) × (rankOf f .priority ≤ 7) × (vlanOf f < 4096)
+    × ((word f 14 ≡ rankOf f .priority * 8192 + vlanOf f) ⊎ (word f 14 ≡ rankOf f .priority * 8192 + 4096 + vlanOf f))
 
 -- Equal destination numbers mean equal six bytes.
 abbrev pub DestSix : Type 0

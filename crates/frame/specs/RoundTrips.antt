@@ -9,7 +9,7 @@ use lib.ListN.{length, take}
 use Rattle.refusal.specs.Checks.Said.{refused, answers}
 use Rattle.refusal.specs.Numbers.{SHORT, TAGGED}
 use Rattle.frame.specs.Bytes.{word, overlay, Bytes}
-use Rattle.frame.specs.Frame.{Tag, destOf, groupSource, hasVlan, vlanOf, typeAt, reservedOf, formerOf, readOf, writeOf, untagged, tagAt}
+use Rattle.frame.specs.Frame.{Tag, destOf, groupSource, hasVlan, vlanOf, typeAt, rankOf, reservedOf, formerOf, readOf, writeOf, untagged, tagAt}
 use Rattle.frame.specs.TagCalls.{takeTag, writeTag}
 
 -- Putting one in and taking it out gives the frame and number back: of every frame that is accepted, and its key and
@@ -17,7 +17,7 @@ use Rattle.frame.specs.TagCalls.{takeTag, writeTag}
 abbrev pub PutThenTake : Type 0
 PutThenTake =
     (f : List ℕ) (n : ℕ) (g : List ℕ) → n < 65536 → writeOf f n ≡ answers g
-    → (readOf g ≡ answers (record { header = record { dest = destOf f; vlan = vlanOf f; at = typeAt f; tagged = true }; number = n })) × (untagged g ≡ f)
+    → (readOf g ≡ answers (record { header = record { dest = destOf f; vlan = vlanOf f; at = typeAt f; tagged = true; rank = rankOf f }; number = n })) × (untagged g ≡ f)
 
 -- The same of the two calls, with any buffers that have room: what the one wrote, the other takes apart.
 abbrev pub WriteThenTake : Type 0

@@ -1,5 +1,5 @@
 // The bytes of one frame: the header reader, a tag taken out, a tag written (document 01, "The frame", and document 02,
-// order 1); `link` has what is read and written of a virtual link's.
+// orders 1 and 11); `link` has what is read and written of a virtual link's.
 mod link;
 
 pub use link::read_link;
@@ -22,6 +22,13 @@ pub struct Header {
     pub at: usize,
     // Whether F1C1 stands there.
     pub tagged: bool,
+    pub rank: Rank,
+}
+
+// The VLAN tag's three priority bits, 0 to 7, and whether such a tag is there: 1, or 0 and priority 0 (order 11).
+pub struct Rank {
+    pub priority: u8,
+    pub vlantag: u8,
 }
 
 // A frame's header, or a frame too short to have one.
@@ -108,7 +115,7 @@ pub fn group_source(frame: &[u8]) -> bool
     frame[6] % 2 == 1
 }
 
-// Destination, VLAN id, place of the type field, and whether F1C1 stands there: the 14 and 18 byte rules only.
+// Destination, VLAN id, place of the type field, whether F1C1 stands there, and the priority: the 14 and 18 byte rules only.
 pub fn read_head(frame: &[u8]) -> Head
     ensures { λ r. ⌜ saidHead r ≡ headOf (now (frame .entry)) ⌝ }
 {
@@ -118,23 +125,34 @@ pub fn read_head(frame: &[u8]) -> Head
     let dest = dest_of(frame);
     let first = word_at(frame, 12);
     if first != 0x8100 {
+        let rank = Rank {
+            priority: 0,
+            vlantag: 0,
+        };
         return Head::Whole(Header {
             dest,
             vlan: 0,
             at: 12,
             tagged: first == 0xF1C1,
+            rank,
         });
     }
     if frame.len() < 18 {
         return Head::Short;
     }
-    let vlan = word_at(frame, 14) % 4096;
+    let control = word_at(frame, 14);
+    let vlan = control % 4096;
+    let rank = Rank {
+        priority: (control / 8192) as u8,
+        vlantag: 1,
+    };
     let second = word_at(frame, 16);
     Head::Whole(Header {
         dest,
         vlan,
         at: 16,
         tagged: second == 0xF1C1,
+        rank,
     })
 }
 

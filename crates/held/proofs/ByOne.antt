@@ -12,7 +12,8 @@ use borrow.Author.Tests.{eq-eqb}
 use Rattle.refusal.specs.Checks.{Said, Check, First}
 use Rattle.refusal.specs.Checks.Said.{refused, answers}
 use Rattle.frame.specs.Bytes.{overlay}
-use Rattle.frame.specs.Frame.{numberIn}
+use Rattle.frame.specs.Frame.{numberIn, unranked}
+use Rattle.frame.specs.declared.Rank.{Rank}
 use Rattle.frame.specs.TagCalls.{takeFrom, takeTag, writeInto, writeTag}
 use Rattle.frame.specs.Refusals.{takeChecks, writeChecks}
 use Rattle.stream.specs.Decisions.{Verdict, up, duplicate, rogue, linkSteps, linkUp, linkCase}
@@ -40,7 +41,7 @@ use Rattle.sender.proofs.Computed.{computing as sending}
 use Rattle.frame.specs.Link.{lastByte, butLast, linkOf}
 use Rattle.demands.specs.Demand2.{forward, linkPasses}
 use Rattle.held.specs.LinkCases.{link, linkFrame}
-use Rattle.held.specs.ByOne.{spoilt, losesTable, losesOutput, writesNothing, storesNothing, storesNoOpen, storesNoReset, tellsNext, loosens, spoiltBatch, batchLosesTable, batchLosesOutput, batchRefuses, framesLose, takeUnknown, takeLoses, writeUnknown, writeLoses, sendsUnknown, neverResets, ByOne}
+use Rattle.held.specs.ByOne.{spoilt, losesTable, losesOutput, writesNothing, storesNothing, storesNoOpen, storesNoReset, tellsNext, tellsHigher, loosens, spoiltBatch, batchLosesTable, batchLosesOutput, batchRefuses, framesLose, takeUnknown, takeLoses, writeUnknown, writeLoses, sendsUnknown, neverResets, ByOne}
 
 -- ---- what differs
 
@@ -105,7 +106,7 @@ unfolding refusing
 by-15 h = ⊎-elim (λ x. let z : _≡_ {A = ℕ} 15 1 = x .1 in omega arith) (λ x. ⊎-elim (λ y. let z : _≡_ {A = ℕ} 15 2 = y .1 in omega arith) (λ y. ⊎-elim (λ z. false≢true (z .0)) (λ z. z .1) (y .1)) (x .1)) h
 
 pub by-one : ByOne
-unfolding refusing sending nth risen risesOnRefusal firstTooSoon sendsUnknown neverResets writesNothing storesNothing storesNoOpen storesNoReset tellsNext loosens byAct deciding handsUpAll duplicateRenews duplicateIsRogue countsNoLoss handedOf distinct sumOf sumOnce absent begin sent dead begun idle room linked lastByte butLast linkOf linkSteps linkUp linkCase linkArrival forward linkPasses
+unfolding refusing sending nth risen risesOnRefusal firstTooSoon sendsUnknown neverResets writesNothing storesNothing storesNoOpen storesNoReset tellsNext tellsHigher loosens byAct deciding handsUpAll duplicateRenews duplicateIsRogue countsNoLoss handedOf distinct sumOf sumOnce absent begin sent dead begun idle room linked lastByte butLast linkOf linkSteps linkUp linkCase linkArrival forward linkPasses
 by-one = record {
   number = λ h. none 6 (checksOf [] ticking) refl (h [] (ticking ∷ []) .0 .number 6 .0 refl);
   unrefused = λ h. done-not-refused (h (replicate 65 blank) (ticking ∷ []) .0 .number 1 .1 (inl (refl, refl)));
@@ -122,12 +123,14 @@ by-one = record {
   sent-number = λ h. none 6 (sendChecks [] [] []) refl (h .number atFirst [] [] [] 6 .0 refl);
   sent-keeps = λ h. let e = ap (λ (r : Sends). numberIn (r .out0)) (h .keeps near plain (room0 20) (room1 19) 8 refl) in omega (arith, e);
   output = λ h. (let z : _≡_ {A = ℕ} 0 2 = ap (λ (l : List ℕ). getD l 0 0) (h begun (from 0 1 10) .output) in omega arith);
-  recovered-number = λ h. (let z : _≡_ {A = ℕ} 11 10 = h begun 0 (frame 1 10) (replicate 14 0) 1 11 (handedUp 14) refl .number in omega arith);
-  recovered-verdict = λ h. rogue-not duplicate (h begun 0 (frame 1 9) (replicate 14 0) 1 9 calls.rogue refl .verdict) (inr refl);
-  recovered-records = λ h. (let z : _≡_ {A = ℕ} 9 10 = ap (λ (t : Table). at t 1 .state .anchor) (h begun 0 (frame 1 10) (replicate 14 0) 1 10 (handedUp 14) refl .records) in omega arith);
-  link-number = λ h. (let z : _≡_ {A = ℕ} 2 1 = h linked 0 (linkFrame 1 1) (replicate 14 0) 1 2 (handedUp 14) refl .number in omega arith);
-  link-verdict = λ h. rogue-not duplicate (h linked 0 (linkFrame 1 255) (replicate 14 0) 1 255 calls.rogue refl .verdict) (inr refl);
-  link-records = λ h. (let z : _≡_ {A = ℕ} 255 1 = ap (λ (t : Table). at t 1 .state .anchor) (h linked 0 (linkFrame 1 1) (replicate 14 0) 1 1 (handedUp 14) refl .records) in omega arith);
+  recovered-number = λ h. (let z : _≡_ {A = ℕ} 11 10 = h begun 0 (frame 1 10) (replicate 14 0) 1 11 unranked (handedUp 14) refl .number in omega arith);
+  recovered-rank = λ h. (let z : _≡_ {A = ℕ} 1 0 = ap (λ (x : Rank). x .priority) (h begun 0 (frame 1 10) (replicate 14 0) 1 10 (record { priority = 1; vlantag = 0 }) (handedUp 14) refl .rank) in omega arith);
+  recovered-verdict = λ h. rogue-not duplicate (h begun 0 (frame 1 9) (replicate 14 0) 1 9 unranked calls.rogue refl .verdict) (inr refl);
+  recovered-records = λ h. (let z : _≡_ {A = ℕ} 9 10 = ap (λ (t : Table). at t 1 .state .anchor) (h begun 0 (frame 1 10) (replicate 14 0) 1 10 unranked (handedUp 14) refl .records) in omega arith);
+  link-number = λ h. (let z : _≡_ {A = ℕ} 2 1 = h linked 0 (linkFrame 1 1) (replicate 14 0) 1 2 unranked (handedUp 14) refl .number in omega arith);
+  link-rank = λ h. (let z : _≡_ {A = ℕ} 1 0 = ap (λ (x : Rank). x .priority) (h linked 0 (linkFrame 1 1) (replicate 14 0) 1 1 (record { priority = 1; vlantag = 0 }) (handedUp 14) refl .rank) in omega arith);
+  link-verdict = λ h. rogue-not duplicate (h linked 0 (linkFrame 1 255) (replicate 14 0) 1 255 unranked calls.rogue refl .verdict) (inr refl);
+  link-records = λ h. (let z : _≡_ {A = ℕ} 255 1 = ap (λ (t : Table). at t 1 .state .anchor) (h linked 0 (linkFrame 1 1) (replicate 14 0) 1 1 unranked (handedUp 14) refl .records) in omega arith);
   decides = λ h. up-not-again (h begun 1 (silence 3) (two 7 7) (7 ∷ 7 ∷ []) (record { vector = refl; silent = record { lawful = refl; long = lit≤ tt; calm = refl }; lasts = refl; numbered = refl; near = refl }));
   fresh-decides = λ h. up-not-again (h idle 1 (two 7 7) (7 ∷ 7 ∷ []) refl refl refl (record { lasts = refl; numbered = refl; near = refl }));
   opened-decides = λ h. up-not-again (h room (address 2) 0 4 3 1 (from 0 2 7 ∷ from 1 2 7 ∷ []) (7 ∷ 7 ∷ []) refl (record { lasts = refl; numbered = refl; near = refl }));
@@ -135,7 +138,7 @@ by-one = record {
   counts-once = λ h.
       (let z : _≡_ {A = ℤ} (pos 22) (pos 15) = h begun 1 (silence 3) (sent (7 ∷ 8 ∷ 7 ∷ [])) (7 ∷ 8 ∷ 7 ∷ []) (λ x. pos x) (record { vector = refl; silent = record { lawful = refl; long = lit≤ tt; calm = refl }; lasts = refl; numbered = refl; near = refl }) in
       let y : _≡_ {A = ℕ} 22 15 = cc in omega arith);
-  restart = λ h. rogue-not up (h begun 1 (ticking ∷ from 0 1 9 ∷ silence 2) (from 0 1 5000) 5000 calls.rogue (record { lawful = refl; long = lit≤ tt; calm = refl }) refl) (inl refl);
+  restart = λ h. rogue-not up (h begun 1 (ticking ∷ from 0 1 9 ∷ silence 2) (from 0 1 5000) 5000 unranked calls.rogue (record { lawful = refl; long = lit≤ tt; calm = refl }) refl) (inl refl);
   fresh-lost = λ h. (let z : _≡_ {A = ℕ} (2 ^ 64 - 1) 0 = h idle 1 dead 7 (8 ∷ 9 ∷ 11 ∷ 12 ∷ 15 ∷ []) refl refl refl (record { lasts = refl; numbered = refl; near = refl }) in omega arith);
   opened-lost = λ h. (let z : _≡_ {A = ℕ} 0 1 = h room (address 2) 0 4 3 1 (from 0 2 7 ∷ from 0 2 9 ∷ from 0 2 10 ∷ from 0 2 11 ∷ from 0 2 12 ∷ []) 7 (9 ∷ 10 ∷ 11 ∷ 12 ∷ []) refl (record { lasts = refl; numbered = refl; near = refl }) in omega arith);
   resets-seen = λ h. false≢true (h (blank ∷ alone 4 3 1) 1 1 0 refl);

@@ -9,7 +9,7 @@ use lib.Dec.{ltb, lit≤, lit<}
 use lib.ListN.{replicate}
 use borrow.Author.Tests.{ltb-true, ne-eqb}
 use Rattle.frame.specs.Bytes.{Bytes, overlay}
-use Rattle.frame.specs.Frame.{tagAt, putAt, placeOf, writeOf}
+use Rattle.frame.specs.Frame.{unranked, tagAt, putAt, placeOf, writeOf}
 use Rattle.frame.specs.TagCalls.{takeFrom, takeTag, writeInto, writeTag}
 use Rattle.frame.proofs.PutThenTake.{write-then-take}
 use Rattle.frame.proofs.TakeThenPut.{take-then-put, former-tag, former-vlan, former-vlan-tag, former-vlan-short}
@@ -107,7 +107,7 @@ call-edges = record {
   halves-fit = halves-fit three 1 bareOf2 65535 (frame 2 65535) (replicate 15 9) 1 (lit≤ tt) (lit≤ tt) (lit≤ tt) refl refl refl refl refl (lit≤ tt);
   take-room = take-refuses-alike three 1 (frame 2 7) (replicate 13 9) 8 (lit≤ tt) (lit≤ tt) refl refl refl .0 refl;
   take-untagged = take-refuses-frame (replicate 64 blank) 1 bareOf2 [] 5 (lit≤ tt) (lit≤ tt) refl .0 refl;
-  take-writes = take-writes-alike three 1 (frame 2 7) (replicate 15 9) 1 7 bareOf2 refl;
+  take-writes = take-writes-alike three 1 (frame 2 7) (replicate 15 9) 1 7 unranked bareOf2 refl;
   group-reaches-none = group-reaches-none (replicate 65 blank) 2 grouped [] refl;
   group-refused = group-refused three 1 grouped [] _ (lit≤ tt) (lit≤ tt) refl refl;
   anchor-stays = anchor-stays (rowBefore 1 holed) 65000 1 545 refl refl refl;

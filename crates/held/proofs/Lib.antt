@@ -1,5 +1,6 @@
 pub mod Cases
 pub mod LinkCases
+pub mod PriorityCases
 pub mod Edges
 pub mod Written
 pub mod WrittenIndex

@@ -44,12 +44,12 @@ module _ {receive : Receiver} (m : MeetsContract receive) where
     refuses = λ t c n h. let e = one t c .number n .1 h in result (receive t c) _ _ _ e (one t c .records n e) (one t c .bytes n e);
     refuses-only = λ t c n e. one t c .number n .0 e;
     gives = λ t c. result (receive t c) _ _ _ (d .demand-2 t c .said) (d .demand-2 t c .table) (d .demand-2 t c .output);
-    recovered = λ t w f o i n v e. let r = d .arrivals-recovered t w f o i n v e in (r .number, r .verdict, r .records);
-    links = λ t w f o i n v e. let r = d .links-recovered t w f o i n v e in (r .rule, r .number, r .verdict, r .records);
+    recovered = λ t w f o i n x v e. let r = d .arrivals-recovered t w f o i n x v e in (r .number, r .rank, r .verdict, r .records);
+    links = λ t w f o i n x v e. let r = d .links-recovered t w f o i n x v e in (r .rule, r .number, r .rank, r .verdict, r .records);
     decides = λ t i gap later xs a. d .demand-3 t i gap later xs (demands.theorems .premises-are receive t i gap later xs .0 a);
     never-twice = λ t i gap later xs a. d .never-twice t i gap later xs (demands.theorems .premises-are receive t i gap later xs .0 a);
     counts-once = λ t i gap later xs f a. d .counts-once t i gap later xs f (demands.theorems .premises-are receive t i gap later xs .0 a);
-    restart = λ t i gap c n v p q r e. d .restart-gets-through t i gap c n v (record { lawful = p; long = q; calm = r }) e;
+    restart = λ t i gap c n x v p q r e. d .restart-gets-through t i gap c n x v (record { lawful = p; long = q; calm = r }) e;
     fresh = λ t i later xs a. d .fresh-decides t i later xs (a .1 .0) (a .1 .1 .0) (a .0) (record { lasts = a .1 .1 .1 .0; numbered = a .1 .1 .1 .1 .0; near = a .1 .1 .1 .1 .1 .0 });
     opened = λ t dest vlan w r i later xs e a. d .opened-decides t dest vlan w r i later xs e (record { lasts = a .0; numbered = a .1 .0; near = a .1 .1 .0 });
     opened-lost = λ t dest vlan w r i later x xs e a. d .opened-lost t dest vlan w r i later x xs e (record { lasts = a .0; numbered = a .1 .0; near = a .1 .1 .0 });

@@ -76,13 +76,24 @@ storesNoReset t c = record { said = theReceiver t c .said; table = butReset c t 
 -- an arrival tells the number behind its own;
 abbrev pub nextTold : Said Answer → Said Answer
 nextTold (refused n) = refused n
-nextTold (answers (arrived i number v)) = answers (arrived i (suc number) v)
+nextTold (answers (arrived i number x v)) = answers (arrived i (suc number) x v)
 nextTold (answers (placed i)) = answers (placed i)
 nextTold (answers done) = answers done
 nextTold (answers (swept streams records)) = answers (swept streams records)
 
 unfoldable pub tellsNext : Receiver
 tellsNext t c = record { said = nextTold (theReceiver t c .said); table = theReceiver t c .table; output = theReceiver t c .output }
+
+-- it tells the next higher priority (order 11);
+abbrev pub higherTold : Said Answer → Said Answer
+higherTold (refused n) = refused n
+higherTold (answers (arrived i number x v)) = answers (arrived i number (record { priority = suc (x .priority); vlantag = x .vlantag }) v)
+higherTold (answers (placed i)) = answers (placed i)
+higherTold (answers done) = answers done
+higherTold (answers (swept streams records)) = answers (swept streams records)
+
+unfoldable pub tellsHigher : Receiver
+tellsHigher t c = record { said = higherTold (theReceiver t c .said); table = theReceiver t c .table; output = theReceiver t c .output }
 
 -- every call lets each record take any number, and leaves the rest of its state.
 abbrev pub loosened : Stream → Stream
@@ -150,9 +161,11 @@ pub record ByOne : Type 0 where
   -- demand 2;
   pub output : Demand2 writesNothing → ⊥
   pub recovered-number : ArrivalsRecovered tellsNext → ⊥
+  pub recovered-rank : ArrivalsRecovered tellsHigher → ⊥
   pub recovered-verdict : ArrivalsRecovered duplicateIsRogue → ⊥
   pub recovered-records : ArrivalsRecovered storesNothing → ⊥
   pub link-number : LinksRecovered tellsNext → ⊥
+  pub link-rank : LinksRecovered tellsHigher → ⊥
   pub link-verdict : LinksRecovered duplicateIsRogue → ⊥
   pub link-records : LinksRecovered storesNothing → ⊥
   -- demand 3, and what is said of it, of lost and of where a run begins;

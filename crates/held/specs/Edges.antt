@@ -10,7 +10,7 @@ use lib.ListN.{length, getD, take, replicate}
 use Rattle.refusal.specs.Checks.Said.{refused, answers}
 use Rattle.record.specs.Sizes.{vectorRule}
 use Rattle.frame.specs.Bytes.{overlay}
-use Rattle.frame.specs.Frame.{untagged, tagAt, writeOf}
+use Rattle.frame.specs.Frame.{untagged, unranked, tagAt, writeOf}
 use Rattle.frame.specs.TagCalls.{takeTag, writeTag}
 use Rattle.stream.specs.Record.{fresh, damaged}
 use Rattle.stream.specs.Decisions.{decided}
@@ -78,7 +78,7 @@ grouped = 2 ∷ 0 ∷ 0 ∷ 0 ∷ 0 ∷ 2 ∷ 3 ∷ 0 ∷ 0 ∷ 0 ∷ 0 ∷ 9 �
 pub record CallEdges : Type 0 where
   pub others-stay : (j : ℕ) → (j ≡ 0) ⊎ (2 ≤ j) → at (after three (act three (from 0 2 7))) j ≡ at three j
   pub none-damaged : (j : ℕ) → damaged (at (after three (act three (from 0 2 7))) j) ≡ false
-  pub halves-fit : (answer three (act three (arriving 1 (frame 2 65535) (replicate 15 9))) ≡ answers (arrived 1 65535 (handedUp 14)))
+  pub halves-fit : (answer three (act three (arriving 1 (frame 2 65535) (replicate 15 9))) ≡ answers (arrived 1 65535 unranked (handedUp 14)))
       × (output three (replicate 15 9) (act three (arriving 1 (frame 2 65535) (replicate 15 9))) ≡ overlay bareOf2 (replicate 15 9))
   -- as an arrival gives them: 8, and 5 in a table of 64 slots; and as an arrival on network 1 in slot 1 writes
   pub take-room : takeTag (frame 2 7) (replicate 13 9) .said ≡ refused 8

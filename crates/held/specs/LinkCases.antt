@@ -5,6 +5,7 @@ use mathlib.Core.Bool.{true, false}
 use mathlib.Core.List.{List, [], _∷_, _++_}
 use lib.ListN.{replicate}
 use Rattle.refusal.specs.Checks.Said.{refused, answers}
+use Rattle.frame.specs.Frame.{unranked}
 use Rattle.stream.specs.Record.{State, Counts, Stream}
 use Rattle.stream.specs.Decisions.{decided, reset, ticked}
 use Rattle.calls.specs.Table.{Table, blank}
@@ -58,20 +59,20 @@ noRule = stream 1 4 4 3 (since 9 0 3)
 
 pub record LinkCallCases : Type 0 where
   -- handed up without its last byte; a duplicate writes nothing
-  pub up : (theReceiver (link ∷ []) (linking 0 (linkFrame 1 1) (replicate 15 7)) .said ≡ answers (arrived 0 1 (handedUp 14)))
+  pub up : (theReceiver (link ∷ []) (linking 0 (linkFrame 1 1) (replicate 15 7)) .said ≡ answers (arrived 0 1 unranked (handedUp 14)))
       × (theReceiver (link ∷ []) (linking 0 (linkFrame 1 1) (replicate 15 7)) .output ≡ address 1 ++ 2 ∷ 0 ∷ 0 ∷ 0 ∷ 0 ∷ 9 ∷ 8 ∷ 0 ∷ 7 ∷ [])
-  pub again : (theReceiver (link ∷ []) (linking 1 (linkFrame 1 255) (replicate 14 7)) .said ≡ answers (arrived 0 255 duplicate))
+  pub again : (theReceiver (link ∷ []) (linking 1 (linkFrame 1 255) (replicate 14 7)) .said ≡ answers (arrived 0 255 unranked duplicate))
       × (theReceiver (link ∷ []) (linking 1 (linkFrame 1 255) (replicate 14 7)) .output ≡ replicate 14 7)
-  -- 8100 hex means nothing to it
-  pub vlan : saidOf (link ∷ []) (linking 0 (vlanLike 1) (replicate 16 7)) ≡ answers (arrived 0 1 (handedUp 16))
+  -- 8100 hex means nothing to it, and no priority is read behind it
+  pub vlan : saidOf (link ∷ []) (linking 0 (vlanLike 1) (replicate 16 7)) ≡ answers (arrived 0 1 unranked (handedUp 16))
   -- 1, 2, 3, 4, 14, 6, 7, 8: each where one or more behind it hold too
   pub order : (saidOf (replicate 65 blank) (linking 2 [] []) ≡ refused 1) × (saidOf [] (linking 2 (replicate 2001 3) []) ≡ refused 2) × (saidOf [] (linking 1 (replicate 2001 3) []) ≡ refused 3)
       × (saidOf [] (linking 0 (fromGroup 7) []) ≡ refused 4) × (saidOf [] (linking 0 (fromGroup 8) []) ≡ refused 14) × (saidOf (damagedLink ∷ []) (linking 0 (linkFrame 2 1) []) ≡ refused 6)
       × (saidOf (damagedLink ∷ []) (linking 0 (linkFrame 1 1) []) ≡ refused 7) × (saidOf (link ∷ []) (linking 0 (linkFrame 1 1) (replicate 13 7)) ≡ refused 8)
   pub room : saidOf (link ∷ []) (linking 0 (linkFrame 1 255) (replicate 13 7)) ≡ refused 8
   -- side by side: each call looks at its own
-  pub families : (saidOf (plain ∷ link ∷ []) (linking 0 (linkFrame 1 1) (replicate 14 7)) ≡ answers (arrived 1 1 (handedUp 14)))
-      × (saidOf (link ∷ plain ∷ []) (arriving 0 (frame 1 10) (replicate 14 7)) ≡ answers (arrived 1 10 (handedUp 14)))
+  pub families : (saidOf (plain ∷ link ∷ []) (linking 0 (linkFrame 1 1) (replicate 14 7)) ≡ answers (arrived 1 1 unranked (handedUp 14)))
+      × (saidOf (link ∷ plain ∷ []) (arriving 0 (frame 1 10) (replicate 14 7)) ≡ answers (arrived 1 10 unranked (handedUp 14)))
       × (saidOf (plain ∷ []) (linking 0 (linkFrame 1 1) []) ≡ refused 6) × (saidOf (link ∷ []) (arriving 0 (frame 1 10) []) ≡ refused 6)
   -- a rule that is none belongs to the rest
   pub rest : (saidOf (noRule ∷ []) (arriving 0 (frame 1 10) []) ≡ refused 7) × (saidOf (noRule ∷ []) (linking 0 (linkFrame 1 1) []) ≡ refused 6)

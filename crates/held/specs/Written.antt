@@ -12,8 +12,9 @@ use Rattle.refusal.specs.Checks.{First}
 use Rattle.refusal.specs.Checks.Said.{refused, answers}
 use Rattle.record.specs.Sizes.{vectorRule}
 use Rattle.frame.specs.Bytes.{overlay}
-use Rattle.frame.specs.Frame.{numberIn}
+use Rattle.frame.specs.Frame.{numberIn, rankOf}
 use Rattle.frame.specs.Link.{lastByte}
+use Rattle.frame.specs.declared.Rank.{Rank}
 use Rattle.frame.specs.TagCalls.{takeTag, writeTag}
 use Rattle.frame.specs.Refusals.{takeChecks, writeChecks}
 use Rattle.stream.specs.Record.{lawful}
@@ -71,13 +72,13 @@ pub record WrittenCalls (receive : Receiver) : Type 0 where
   pub refuses-only : (t : Table) (c : Call) (n : ℕ) → receive t c .said ≡ refused n → First n (checksOf t c)
   -- demand 2;
   pub gives : (t : Table) (c : Call) → receive t c ≡ resultOf t c
-  pub recovered : (t : Table) (network : ℕ) (frame out : List ℕ) (i n : ℕ) (v : calls.Verdict)
-      → receive t (arriving network frame out) .said ≡ answers (arrived i n v)
-      → (n ≡ numberIn frame) × (told v ≡ verdict (at t i) n) × (receive t (arriving network frame out) .table ≡ set t i (decided (at t i) n network))
+  pub recovered : (t : Table) (network : ℕ) (frame out : List ℕ) (i n : ℕ) (x : Rank) (v : calls.Verdict)
+      → receive t (arriving network frame out) .said ≡ answers (arrived i n x v)
+      → (n ≡ numberIn frame) × (x ≡ rankOf frame) × (told v ≡ verdict (at t i) n) × (receive t (arriving network frame out) .table ≡ set t i (decided (at t i) n network))
   -- of virtual links, order 10;
-  pub links : (t : Table) (network : ℕ) (frame out : List ℕ) (i n : ℕ) (v : calls.Verdict)
-      → receive t (linking network frame out) .said ≡ answers (arrived i n v)
-      → (at t i .rule ≡ 3) × (n ≡ lastByte frame) × (told v ≡ linkVerdict (at t i) n) × (receive t (linking network frame out) .table ≡ set t i (linkRecord (at t i) n network))
+  pub links : (t : Table) (network : ℕ) (frame out : List ℕ) (i n : ℕ) (x : Rank) (v : calls.Verdict)
+      → receive t (linking network frame out) .said ≡ answers (arrived i n x v)
+      → (at t i .rule ≡ 3) × (n ≡ lastByte frame) × (x ≡ record { priority = 0; vlantag = 0 }) × (told v ≡ linkVerdict (at t i) n) × (receive t (linking network frame out) .table ≡ set t i (linkRecord (at t i) n network))
   -- demand 3, and what follows from it;
   pub decides : (t : Table) (i : ℕ) (gap later : List Call) (indices : List ℕ) → All (premisesOf receive t i gap later indices)
       → verdicts (log receive i (run receive t gap) later) ≡ unlimited (at t i .window) [] indices
@@ -85,9 +86,9 @@ pub record WrittenCalls (receive : Receiver) : Type 0 where
       → distinct (handed receive t i gap later indices) ≡ true
   pub counts-once : (t : Table) (i : ℕ) (gap later : List Call) (indices : List ℕ) (f : ℕ → ℤ) → All (premisesOf receive t i gap later indices)
       → sumOf f (handed receive t i gap later indices) ≡ sumOnce f (suc (highest (handed receive t i gap later indices))) (handed receive t i gap later indices)
-  pub restart : (t : Table) (i : ℕ) (gap : List Call) (c : Call) (number : ℕ) (v : calls.Verdict)
+  pub restart : (t : Table) (i : ℕ) (gap : List Call) (c : Call) (number : ℕ) (x : Rank) (v : calls.Verdict)
       → lawful (at t i) ≡ true → at t i .time ≤ ticks (log receive i t gap) → every calm (log receive i t gap) ≡ true
-      → receive (run receive t gap) c .said ≡ answers (arrived i number v) → told v ≡ up
+      → receive (run receive t gap) c .said ≡ answers (arrived i number x v) → told v ≡ up
   pub fresh : (t : Table) (i : ℕ) (later : List Call) (indices : List ℕ) → All (lost.premisesOf receive t i later indices)
       → verdicts (log receive i t later) ≡ unlimited (at t i .window) [] indices
   pub opened : (t : Table) (dest : List ℕ) (vlan window time i : ℕ) (later : List Call) (indices : List ℕ)

@@ -120,7 +120,7 @@ ticked-key s = go (expires s) refl (lawful s) refl
 pub both : (ix : Index) (t : Table) (a : Act) → length t ≤ slotsMost → indexed ix t ≡ true → indexed (indexAfter ix t a) (after t a) ≡ true
 unfolding indexAfter after reset ofLinks
 both ix t (refuse n) l h = h
-both ix t (arrive i number network bare) l h =
+both ix t (arrive i number network rank bare) l h =
     stays-alike ix t _ (alike-set t i (decided (at t i) number network) (decided-used (at t i) number network) (decided-key (at t i) number network)) h
 both ix t (opens i s) l h = rebuilt-good (set t i s) (let e = length-set t i s in omega arith)
 both ix t (closes i) l h = rebuilt-good (after t (closes i)) (let e = length-set t i (closed (at t i)) in omega arith)
@@ -130,7 +130,7 @@ both ix t ticks l h = stays-alike ix t _ (alike-map ticked t ticked-used ticked-
 kept : (ix : Index) (t : Table) (a : Act) (n : ℕ) → answer t a ≡ refused n → (after t a ≡ t) × (indexAfter ix t a ≡ ix)
 unfolding answer after indexAfter
 kept ix t (refuse m) n e = (refl, refl)
-kept ix t (arrive i number network bare) n e = absurd (let z : _≡_ {A = ℕ} 0 1 = cc in omega arith)
+kept ix t (arrive i number network rank bare) n e = absurd (let z : _≡_ {A = ℕ} 0 1 = cc in omega arith)
 kept ix t (opens i s) n e = absurd (let z : _≡_ {A = ℕ} 0 1 = cc in omega arith)
 kept ix t (closes i) n e = absurd (let z : _≡_ {A = ℕ} 0 1 = cc in omega arith)
 kept ix t (resets i) n e = absurd (let z : _≡_ {A = ℕ} 0 1 = cc in omega arith)

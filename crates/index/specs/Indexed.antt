@@ -21,7 +21,7 @@ guarded ix t c = if ltb slotsMost (length t) then refuse TABLE else if not (inde
 -- The index after it: the rebuilt one where an open filled a slot or a close freed one, and otherwise as it was.
 unfoldable pub indexAfter : Index → Table → Act → Index
 indexAfter ix t (refuse n) = ix
-indexAfter ix t (arrive i number network bare) = ix
+indexAfter ix t (arrive i number network rank bare) = ix
 indexAfter ix t (opens i s) = rebuilt (after t (opens i s))
 indexAfter ix t (closes i) = rebuilt (after t (closes i))
 indexAfter ix t (resets i) = ix

@@ -112,9 +112,9 @@ pub record RuleGives : Type 0 where
   pub silent : Run (A 1 up ∷ A 2 up ∷ A 3 up ∷ B 1 duplicate ∷ B 2 duplicate ∷ B 3 duplicate ∷ B 4 up ∷ B 5 up ∷ []) [] []
   -- The step from 255 to 1, with 126 lost in a row, and with B behind.
   pub ring : Run (A 254 up ∷ A 255 up ∷ B 254 duplicate ∷ A 1 up ∷ B 255 duplicate ∷ A 128 up ∷ B 1 duplicate ∷ []) [] []
-  -- These frames meet the premises of `Lockstep` and `AloneAllUp`, and those of `RestartsApart`.
+  -- These frames meet the premises of `Lockstep` and `AloneAllUp`, and those of `RestartsApart`, 127 ahead and 127 behind among them.
   pub following : allFollow none (99 ∷ 100 ∷ 0 ∷ 1 ∷ 128 ∷ []) ≡ true
-  pub kept-apart : allApart none (99 ∷ 100 ∷ 99 ∷ 100 ∷ 0 ∷ 0 ∷ 1 ∷ 2 ∷ 1 ∷ 2 ∷ []) ≡ true
+  pub kept-apart : allApart none (99 ∷ 100 ∷ 99 ∷ 100 ∷ 0 ∷ 0 ∷ 1 ∷ 2 ∷ 1 ∷ 2 ∷ 129 ∷ 2 ∷ []) ≡ true
   -- Indices around the step from 255 to 1 meet those of `LinkRises`, 127 ahead and 127 behind among them.
   pub within : allWithin none (254 ∷ 256 ∷ 255 ∷ 383 ∷ 256 ∷ 510 ∷ 384 ∷ 511 ∷ []) ≡ true
   pub rising : rises none (254 ∷ 256 ∷ 255 ∷ 383 ∷ 256 ∷ 510 ∷ 384 ∷ 511 ∷ []) ≡ true ∷ true ∷ false ∷ true ∷ false ∷ true ∷ false ∷ true ∷ []

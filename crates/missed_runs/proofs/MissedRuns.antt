@@ -161,8 +161,8 @@ module _ (d : Stream → (number network : ℕ) → Stream) where
   quiet-act : (i : ℕ) (t : Table) (c : Call) (a : Act) → Quiet (seen i t c (byAct (λ s n. duplicate) d t (outOf c) a))
   unfolding byAct seenOf answer
   quiet-act i t c (refuse n) = tt
-  quiet-act i t c (arrive j n w bare) =
-      quiet-answer i t c (byAct (λ s n. duplicate) d t (outOf c) (arrive j n w bare)) _ (quiet-if (eqb j i) (arrived n duplicate) nothing refl tt)
+  quiet-act i t c (arrive j n w x bare) =
+      quiet-answer i t c (byAct (λ s n. duplicate) d t (outOf c) (arrive j n w x bare)) _ (quiet-if (eqb j i) (arrived n duplicate) nothing refl tt)
   quiet-act i t c (opens j s) = quiet-answer i t c (byAct (λ s n. duplicate) d t (outOf c) (opens j s)) _ tt
   quiet-act i t c (closes j) = quiet-answer i t c (byAct (λ s n. duplicate) d t (outOf c) (closes j)) _ tt
   quiet-act i t c (resets j) = quiet-answer i t c (byAct (λ s n. duplicate) d t (outOf c) (resets j)) _ tt

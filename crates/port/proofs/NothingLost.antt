@@ -12,10 +12,11 @@ use Rattle.refusal.specs.Checks.Said.{refused, answers}
 use Rattle.refusal.specs.Numbers.{TABLE, NETWORK, UNKNOWN, DAMAGED, ROOM, SETTING, TAKEN, FULL, SLOT, INDEX}
 use Rattle.refusal.proofs.Checks.{Positive, first-positive}
 use Rattle.record.specs.Sizes.{slotsMost}
-use Rattle.frame.specs.Frame.{Tag, destOf, untagged}
+use Rattle.frame.specs.Frame.{Tag, destOf, untagged, unranked}
 use Rattle.frame.specs.Link.{Link, butLast}
 use Rattle.stream.specs.Record.{settled, lawful}
 use Rattle.stream.specs.Record as record′
+use Rattle.frame.specs.declared.Rank.{Rank}
 use Rattle.calls.specs.Table.{Table, at, search, someSlot, hasKey, isFree}
 use Rattle.calls.specs.Calls.{Call, arriving, linking, opening, closing, resetting, ticking, Act, refuse, arrive, opens, closes, resets, ticks, Answer, Verdict, arrived, placed, done, handedUp, duplicate, rogue, arrivalAt, arrival, linkArrival, inUse, open-call, checked, act, answer}
 use Rattle.calls.specs.Refusals.{checksOf}
@@ -71,7 +72,7 @@ abbrev readVerdict : (verdict length : ℕ) → Verdict
 readVerdict v l = cond (eqb v 1) (handedUp l) (cond (eqb v 2) duplicate rogue)
 
 abbrev readArrival : ArrivalAnswer → Said Answer
-readArrival a = unless (a .refusal) (arrived (a .slot) (a .number) (readVerdict (a .verdict) (a .length)))
+readArrival a = unless (a .refusal) (arrived (a .slot) (a .number) (record { priority = a .priority; vlantag = a .vlantag }) (readVerdict (a .verdict) (a .length)))
 
 abbrev readOpened : SlotAnswer → Said Answer
 readOpened a = unless (a .refusal) (placed (a .slot))
@@ -82,7 +83,7 @@ readDone n = unless n done
 -- what each call may come to, beside a refusal
 abbrev Arrives : Act → Type 0
 Arrives (refuse n) = Unit
-Arrives (arrive i number network bare) = Unit
+Arrives (arrive i number network x bare) = Unit
 Arrives (opens i s) = ⊥
 Arrives (closes i) = ⊥
 Arrives (resets i) = ⊥
@@ -90,7 +91,7 @@ Arrives ticks = ⊥
 
 abbrev Opens : Act → Type 0
 Opens (refuse n) = Unit
-Opens (arrive i number network bare) = ⊥
+Opens (arrive i number network x bare) = ⊥
 Opens (opens i s) = Unit
 Opens (closes i) = ⊥
 Opens (resets i) = ⊥
@@ -98,7 +99,7 @@ Opens ticks = ⊥
 
 abbrev Slots : Act → Type 0
 Slots (refuse n) = Unit
-Slots (arrive i number network bare) = ⊥
+Slots (arrive i number network x bare) = ⊥
 Slots (opens i s) = ⊥
 Slots (closes i) = Unit
 Slots (resets i) = Unit
@@ -115,21 +116,21 @@ unfolding guarded
 behind P r ix t c p = either P (ltb slotsMost (length t)) TABLE _ (r TABLE) (either P (not (indexed ix t)) INDEX _ (r INDEX) p)
 
 -- an arrival whose slot was searched for
-at-slot : (t : Table) (i number network need : ℕ) (bare out : List ℕ) → Arrives (arrivalAt t i number network need bare out)
+at-slot : (t : Table) (i number network : ℕ) (rank : Rank) (need : ℕ) (bare out : List ℕ) → Arrives (arrivalAt t i number network rank need bare out)
 unfolding arrivalAt
-at-slot t i number network need bare out =
+at-slot t i number network rank need bare out =
     either Arrives (leb (length t) i) UNKNOWN _ tt (either Arrives (not (lawful (at t i))) DAMAGED _ tt (either Arrives (ltb (length out) need) ROOM _ tt tt))
 
 -- one after 1 to 5 and 14
 read : (t : Table) (network : ℕ) (f out : List ℕ) (x : Said Tag) → Arrives (arrival t network f out x)
 unfolding arrival
 read t network f out (refused n) = tt
-read t network f out (answers g) = at-slot t _ (g .number) network (length f - 6) (untagged f) out
+read t network f out (answers g) = at-slot t _ (g .number) network (g .header .rank) (length f - 6) (untagged f) out
 
 read-link : (t : Table) (network : ℕ) (f out : List ℕ) (x : Said Link) → Arrives (linkArrival t network f out x)
 unfolding linkArrival
 read-link t network f out (refused n) = tt
-read-link t network f out (answers g) = at-slot t _ (g .number) network (length f - 1) (butLast f) out
+read-link t network f out (answers g) = at-slot t _ (g .number) network unranked (length f - 1) (butLast f) out
 
 arrives : (t : Table) (network : ℕ) (f out : List ℕ) → Arrives (act t (arriving network f out))
 unfolding act checked
@@ -172,15 +173,15 @@ pub read-refused : (n : ℕ) (a : Answer) → (_≡_ {A = Said Answer} (refused 
 read-refused zero a p = absurd (p refl)
 read-refused (suc n) a p = refl
 
-read-verdict : (slot number : ℕ) (v : Verdict) → readArrival (tellArrival (answers (arrived slot number v))) ≡ answers (arrived slot number v)
-read-verdict slot number (handedUp l) = refl
-read-verdict slot number duplicate = refl
-read-verdict slot number rogue = refl
+read-verdict : (slot number : ℕ) (x : Rank) (v : Verdict) → readArrival (tellArrival (answers (arrived slot number x v))) ≡ answers (arrived slot number x v)
+read-verdict slot number x (handedUp l) = refl
+read-verdict slot number x duplicate = refl
+read-verdict slot number x rogue = refl
 
 read-arrival : (t : Table) (a : Act) → Arrives a → (answer t a ≡ refused 0 → ⊥) → readArrival (tellArrival (answer t a)) ≡ answer t a
 unfolding answer
 read-arrival t (refuse n) k p = read-refused n _ p
-read-arrival t (arrive i number network bare) k p = read-verdict i number _
+read-arrival t (arrive i number network x bare) k p = read-verdict i number x _
 read-arrival t (opens i s) k p = absurd k
 read-arrival t (closes i) k p = absurd k
 read-arrival t (resets i) k p = absurd k
@@ -189,7 +190,7 @@ read-arrival t ticks k p = absurd k
 read-opened : (t : Table) (a : Act) → Opens a → (answer t a ≡ refused 0 → ⊥) → readOpened (tellOpened (answer t a)) ≡ answer t a
 unfolding answer
 read-opened t (refuse n) k p = read-refused n _ p
-read-opened t (arrive i number network bare) k p = absurd k
+read-opened t (arrive i number network x bare) k p = absurd k
 read-opened t (opens i s) k p = refl
 read-opened t (closes i) k p = absurd k
 read-opened t (resets i) k p = absurd k
@@ -198,7 +199,7 @@ read-opened t ticks k p = absurd k
 read-done : (t : Table) (a : Act) → Slots a → (answer t a ≡ refused 0 → ⊥) → readDone (tellDone (answer t a)) ≡ answer t a
 unfolding answer
 read-done t (refuse n) k p = read-refused n _ p
-read-done t (arrive i number network bare) k p = absurd k
+read-done t (arrive i number network x bare) k p = absurd k
 read-done t (opens i s) k p = absurd k
 read-done t (closes i) k p = refl
 read-done t (resets i) k p = refl

@@ -17,7 +17,7 @@ use Rattle.port.specs.declared.SlotAnswer.{SlotAnswer}
 abbrev pub tellOpened : Said Answer → SlotAnswer
 tellOpened (refused n) = record { slot = 0; refusal = n }
 tellOpened (answers (placed slot)) = record { slot = slot; refusal = 0 }
-tellOpened (answers (arrived slot number v)) = record { slot = 0; refusal = 0 }
+tellOpened (answers (arrived slot number x v)) = record { slot = 0; refusal = 0 }
 tellOpened (answers done) = record { slot = 0; refusal = 0 }
 tellOpened (answers (swept streams records)) = record { slot = 0; refusal = 0 }
 

@@ -18,7 +18,7 @@ readSwept a = unless (a .refusal) (swept (a .resets) (a .damaged))
 -- what a tick may come to, beside a refusal
 abbrev Ticks : Act → Type 0
 Ticks (refuse n) = Unit
-Ticks (arrive i number network bare) = ⊥
+Ticks (arrive i number network x bare) = ⊥
 Ticks (opens i s) = ⊥
 Ticks (closes i) = ⊥
 Ticks (resets i) = ⊥
@@ -31,7 +31,7 @@ ticked t = either Ticks (ltb slotsMost (length t)) TABLE ticks tt tt
 read-swept : (t : Table) (a : Act) → Ticks a → (answer t a ≡ refused 0 → ⊥) → readSwept (tellSwept (answer t a)) ≡ answer t a
 unfolding answer
 read-swept t (refuse n) k p = read-refused n _ p
-read-swept t (arrive i number network bare) k p = absurd k
+read-swept t (arrive i number network x bare) k p = absurd k
 read-swept t (opens i s) k p = absurd k
 read-swept t (closes i) k p = absurd k
 read-swept t (resets i) k p = absurd k

@@ -11,7 +11,7 @@ use Rattle.port_tick.specs.declared.TickAnswer.{TickAnswer}
 abbrev pub tellSwept : Said Answer → TickAnswer
 tellSwept (refused n) = record { resets = 0; damaged = 0; refusal = n }
 tellSwept (answers (swept streams records)) = record { resets = streams; damaged = records; refusal = 0 }
-tellSwept (answers (arrived slot number v)) = record { resets = 0; damaged = 0; refusal = 0 }
+tellSwept (answers (arrived slot number x v)) = record { resets = 0; damaged = 0; refusal = 0 }
 tellSwept (answers (placed slot)) = record { resets = 0; damaged = 0; refusal = 0 }
 tellSwept (answers done) = record { resets = 0; damaged = 0; refusal = 0 }
 

@@ -14,7 +14,7 @@ use Rattle.refusal.specs.Numbers.{LONG, SHORT, TAGGED, TRAILER}
 use Rattle.refusal.proofs.Checks.{passed, same-value}
 use Rattle.record.specs.Sizes.{frameMost}
 use Rattle.frame.specs.Bytes.{word, overlay, Bytes}
-use Rattle.frame.specs.Frame.{destOf, hasVlan, vlanOf, typeAt, isTagged, formerOf, readOf, untagged, tagged, tagBytes}
+use Rattle.frame.specs.Frame.{destOf, hasVlan, vlanOf, typeAt, isTagged, formerOf, readOf, untagged, tagged, tagBytes, rankOf, unranked}
 use Rattle.frame.proofs.Bytes.{overlay-front}
 use Rattle.frame.proofs.Heads.{type-least, head-whole, tag-of}
 use Rattle.frame.proofs.Words.{word-take, word-drop, Place, plain, vlan, place}
@@ -118,7 +118,7 @@ module _ (k : Trailer) (f : List ℕ) (t : Turn) (b : Bytes f) (read : fromOf k 
   network-small = let h = is .has in omega (arith, h .most)
 
   read-of : readOf (tagged body number)
-      ≡ answers (record { header = record { dest = destOf body; vlan = vlanOf body; at = typeAt body; tagged = true }; number = number })
+      ≡ answers (record { header = record { dest = destOf body; vlan = vlanOf body; at = typeAt body; tagged = true; rank = rankOf body }; number = number })
   unfolding body number
   read-of =
       let i = is in
@@ -146,6 +146,17 @@ module _ (k : Trailer) (f : List ℕ) (t : Turn) (b : Bytes f) (read : fromOf k 
       go (plain h t v) r = rw (ne-eqb _ _ h) refl
       go (vlan h t v) r = ap (λ (w : ℕ). cond (eqb (word f 12) 0x8100) (w % 4096) 0) (word-take (endAt k f) f 14 (omega arith))
 
+  same-rank : rankOf body ≡ rankOf f
+  unfolding body bodyOf rankOf hasVlan
+  same-rank =
+      let i = is in
+      let t = type-least f in
+      rw (word-take (endAt k f) f 12 (omega (arith, i .room, t))) (go (place f) (i .room))
+    where
+      go : Place f → typeAt f + 2 + widthOf k ≤ length f → cond (eqb (word f 12) 0x8100) (record { priority = word (take (endAt k f) f) 14 / 8192; vlantag = 1 }) unranked ≡ cond (eqb (word f 12) 0x8100) (record { priority = word f 14 / 8192; vlantag = 1 }) unranked
+      go (plain h t v) r = rw (ne-eqb _ _ h) refl
+      go (vlan h t v) r = ap (λ (w : ℕ). cond (eqb (word f 12) 0x8100) (record { priority = w / 8192; vlantag = 1 }) unranked) (word-take (endAt k f) f 14 (omega arith))
+
   same-type : formerOf (tagged body number) ≡ word f (typeAt f)
   unfolding body bodyOf
   same-type =
@@ -167,7 +178,7 @@ from-is-read k f t b read =
     rw (i .same) (record {
       network = (network-small k f t b read, omega (arith, i .has .least));
       number = refl;
-      read = read-of k f t b read ∙ rw (key .0, key .1, key .2) refl;
+      read = read-of k f t b read ∙ rw (key .0, key .1, key .2, same-rank k f t b read) refl;
       type = same-type k f t b read;
       bare = bare-of k f t b read;
     })

@@ -12,7 +12,7 @@ use Rattle.refusal.specs.Numbers.{TAGGED, TRAILER}
 use Rattle.record.specs.Words.{if_then_else_}
 use Rattle.record.specs.Sizes.{frameMost}
 use Rattle.frame.specs.Bytes.{word, overlay, Bytes}
-use Rattle.frame.specs.Frame.{destOf, hasVlan, vlanOf, typeAt, isTagged, reservedOf, formerOf, readOf, untagged, tagged}
+use Rattle.frame.specs.Frame.{destOf, hasVlan, vlanOf, typeAt, isTagged, reservedOf, formerOf, readOf, untagged, tagged, rankOf}
 use Rattle.prp.specs.declared.Kind.{Kind}
 use Rattle.prp.specs.Prp.{Trailer, first, of2012, trailerOf, widthOf, endAt, numberAt, lanAt, lanOf, afterType, Turn, Told, bodyOf, fromOf, toOf, fromPrp, toPrp}
 
@@ -37,7 +37,7 @@ FromThenToCalls =
 pub record ReadAs (k : Trailer) (f : List ℕ) (t : Turn) : Type 0 where
   pub network : (t .network ≤ 1) × (lanAt f (endAt k f) ≡ lanOf (t .network))
   pub number : t .number ≡ numberAt f (endAt k f)
-  pub read : readOf (t .frame) ≡ answers (record { header = record { dest = destOf f; vlan = vlanOf f; at = typeAt f; tagged = true }; number = t .number })
+  pub read : readOf (t .frame) ≡ answers (record { header = record { dest = destOf f; vlan = vlanOf f; at = typeAt f; tagged = true; rank = rankOf f }; number = t .number })
   pub type : formerOf (t .frame) ≡ word f (typeAt f)
   pub bare : untagged (t .frame) ≡ bodyOf k f
 

@@ -131,9 +131,6 @@ header-dest h g = Struct-laws.owed Header-type.the-type Header-laws.the-laws h _
 pub header-vlan : (h : Header) → header-ok h → h .vlan < 2 ^ 16
 header-vlan h g = Struct-laws.owed Header-type.the-type Header-laws.the-laws h _ g .1 .0 .1
 
-pub header-at : (h : Header) → header-ok h → h .at < 2 ^ 64
-header-at h g = Struct-laws.owed Header-type.the-type Header-laws.the-laws h _ g .1 .1 .0 .1
-
 -- what a place of the index names, and the key of a slot
 pub slot-fits : (i : ℕ) → named-ok (Named.Slot i) → i < 2 ^ 64
 slot-fits i g = Enum-laws.owed Named-type.the-type Named-laws.the-laws (Named.Slot i) _ g .0 .1

@@ -309,7 +309,7 @@ pub fn arrival(t: &mut [Stream], network: u8, frame: &[u8], out: &mut [u8]) -> A
     };
     let room = calls::fits(frame, out);
     let j = decide_at(t, i, network, number, room);
-    calls::finish(j, i, h.at, number, frame, out)
+    calls::finish(j, i, h, number, frame, out)
 }
 
 // Arrival of a virtual link (document 02, order 10): 1 to 4, 14, 6 to 8, in the same way.

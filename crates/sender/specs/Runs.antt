@@ -8,7 +8,7 @@ use mathlib.Core.List.{List, [], _∷_, _++_}
 use lib.ListN.{length, take}
 use Rattle.refusal.specs.Checks.{Said}
 use Rattle.refusal.specs.Checks.Said.{refused, answers}
-use Rattle.frame.specs.Frame.{destOf, vlanOf, typeAt, readOf, untagged, tagged}
+use Rattle.frame.specs.Frame.{destOf, vlanOf, typeAt, readOf, untagged, tagged, rankOf}
 use Rattle.sender.specs.declared.Sender.{Sender}
 use Rattle.sender.specs.Sender.{Numbered, Sends, atFirst, resetOf, sendOf}
 
@@ -128,7 +128,7 @@ pub record Carries (p : Pair) (n : ℕ) : Type 0 where
   pub copy0 : p .copy0 ≡ tagged (p .given) n
   pub copy1 : p .copy1 ≡ tagged (p .given) n
   pub read : readOf (tagged (p .given) n)
-      ≡ answers (record { header = record { dest = destOf (p .given); vlan = vlanOf (p .given); at = typeAt (p .given); tagged = true }; number = n })
+      ≡ answers (record { header = record { dest = destOf (p .given); vlan = vlanOf (p .given); at = typeAt (p .given); tagged = true; rank = rankOf (p .given) }; number = n })
   pub bare : untagged (tagged (p .given) n) ≡ p .given
 
 -- "Frames sent without a reset", from a sender on: its next number has 16 bits, as each value of the code's type has.

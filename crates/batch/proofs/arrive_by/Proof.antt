@@ -57,12 +57,12 @@ use Rattle.calls.proofs.Arrivals.{arrival-refused, arrival-unknown, arrival-dec
 use Rattle.receiver.proofs.Opening.{placed-found}
 use Rattle.receiver.proofs.Calling.{calls-value, calls-with}
 use Rattle.receiver.proofs.Enums.{found-ty, found-val, found-tells, found-ok, found-typed, asked-ty, asked-val, asked-tells, asked-ok, asked-typed, asked-has, judged-ty, judged-val, judged-tells, judged-typed, judged-has, answer-ty, answer-val, answer-tells, answer-ok, answer-typed, answer-has}
-use Rattle.receiver.proofs.Fields.{at-fits, asked-header, asked-number, header-dest, header-vlan, header-at}
+use Rattle.receiver.proofs.Fields.{at-fits, asked-header, asked-number, header-dest, header-vlan}
 use Rattle.receiver.proofs.Handing.{calls-shr-with, calls-mut-with, owns-slice, two-facts}
 use Rattle.receiver.proofs.Lending.{shr-own, mut-own, calls-mut}
 use Rattle.receiver.proofs.Pieces.{arm-of}
 use Rattle.receiver.proofs.Rows.{R, mutTy}
-use Rattle.receiver.proofs.Values.{header-ty, header-val, header-ok, header-typed}
+use Rattle.receiver.proofs.Values.{header-ty, header-val, header-ok, header-typed, header-has}
 use Rattle.calls.proofs.ask as fn-ask
 use Rattle.calls.proofs.ask.Symbol as fn-ask-def
 use Rattle.calls.proofs.ask.Symbol.{name as #calls·ask}
@@ -193,7 +193,7 @@ module _ {M : Type 1} (𝓤 : URA M) (H : Heap 𝓤) (A : Atoms 𝓤) (W : Given
             land ! (from ! (stop !)) (init ! 28 refl (judged-typed 𝓤 H A W j g-j)) $
             assigns ! (addr ! (from ! (fld ! refl (hop ! (look-in ! 42 (sub ! 0 refl (whole !))) (stop !))))) (from ! (stop !)) (init ! 12 refl (tt, tt)) $
             assigns ! (agg ! (and-then ! (load ! (from ! (stop !)) (look-cell ! 12 refl)) (and-then ! (load ! (from ! (fld ! refl (stop !))) (look-in ! 42 (sub ! 1 refl (whole !)))) (no-more !)))) (from ! (stop !)) (init ! 10 refl (tt, (tt, (record { fits = g-us .0 }, tt)))) $
-            move ! (5 ∷ []) $ use1 W (‵ (ShrSlice (named 2) κ₂ u8 .own (record { ptr = (b₂, o₂); name = γ₂; now = fr }) (sliceVal (b₂, o₂) (length fr) ∷ [])) ⊛ ‵ (ShrSlice (named 2) κ₂ u8 .own (record { ptr = (b₂, o₂); name = γ₂; now = fr }) (sliceVal (b₂, o₂) (length fr) ∷ []))) (shr-slice-copy 𝓤 H A W (named 2) κ₂ u8 .twice (record { ptr = (b₂, o₂); name = γ₂; now = fr }) (sliceVal (b₂, o₂) (length fr) ∷ [])) $ split ! $ move ! (0 ∷ 7 ∷ []) $ join ! $ move ! (7 ∷ 8 ∷ 9 ∷ 0 ∷ 2 ∷ 3 ∷ 4 ∷ 5 ∷ 6 ∷ 1 ∷ []) $ calls-mut-with {𝓤 = 𝓤} {H = H} {A = A} ! fm u8 us b₃ o₃ g-us fn-finish.ended (fn-finish.clauses 𝓤 H A mem run) (known .finish′) (λ ν δ. (((κ₂, (ν ∷ [], tt)), (q₂, (fullShare, tt)), tt, (j, (i, ((h .at), (number, (record { ptr = (b₂, o₂); name = γ₂; now = fr }, (record { ptr = (b₃, o₃); name = δ; now = us }, tt)))))), (judged-val j ∷ [], (vint w64 i ∷ [], (vint w64 (h .at) ∷ [], (vint w16 number ∷ [], (sliceVal (b₂, o₂) (length fr) ∷ [], (sliceVal (b₃, o₃) (length us) ∷ [], tt))))))), tt)) (λ ν δ. qed W (‵ (flft (ν ∷ []) fullShare) ∷ ‵ (mut-own u8 b₃ o₃ ν δ us) ∷ (‵ (ShrSlice (named 2) κ₂ u8 .own (record { ptr = (b₂, o₂); name = γ₂; now = fr }) (sliceVal (b₂, o₂) (length fr) ∷ [])) ⊛ ‵ (flft κ₂ q₂)) ∷ []) ∵ move ! (2 ∷ []) $ split ! $ nothing ! $ move ! (4 ∷ 0 ∷ []) $ fjoin ! $ move ! (1 ∷ 0 ∷ []) $ fjoin ! $ owned ! u16 (Is u16) (uint-makes 𝓤 H A W w16) number _ (refl, g-number) $ fjoin ! $ owned ! usize (Is usize) (uint-makes 𝓤 H A W w64) (h .at) _ (refl, (header-at h g-h)) $ fjoin ! $ owned ! usize (Is usize) (uint-makes 𝓤 H A W w64) i _ (refl, (at-fits i g-f)) $ fjoin ! $ judged-has ! j g-j $ fjoin ! $ nothing ! $ move ! (3 ∷ 0 ∷ []) $ join ! $ move ! (2 ∷ 0 ∷ []) $ join ! $ join ! $ frame ! $ done !) (‵ (flft κ₂ q₂)) (λ ν δ. qed W ((‵ (flft (κ₂) q₂) ⊛ (‵ (flft (ν ∷ []) fullShare) ⊛ ‵ ftrue)) ∷ []) ∵ split ! $ move ! (1 ∷ []) $ split ! $ frame ! $ lose ! $ done !) (λ ν δ. answer-val) (λ ν δ r vs p. answer-tells r vs p) (λ ν δ ws. ws .1 .1 .1 .1 .1 .0) (λ ν δ ws. qed W (‵ (fsep ftrue (fsep ftrue (fsep ftrue (fsep ftrue (fsep ftrue (fsep (fsep (finally u8 δ (ws .1 .1 .1 .1 .1 .0)) (feq ℕ (length (ws .1 .1 .1 .1 .1 .0)) (length us))) (ftrue))))))) ∷ []) ∵ fsplit ! $ lose ! $ fsplit ! $ lose ! $ fsplit ! $ lose ! $ fsplit ! $ lose ! $ fsplit ! $ lose ! $ fsplit ! $ move ! (1 ∷ []) $ lose ! $ done !) (λ ν δ (r : Answer) (us′ : List ℕ). (saidArrival r ≡ finished j i number (length fr - 6)) × (us′ ≡ bytesOf j (writtenWithout fr (h .at) us) us)) (λ ν δ r ws. two-facts 𝓤 H A _ _) (λ ν δ. (and-then ! (load ! (from ! (stop !)) (look-cell ! 26 refl)) (and-then ! (load ! (from ! (stop !)) (look-cell ! 30 refl)) (and-then ! (load ! (from ! (fld ! refl (stop !))) (look-in ! 36 (sub ! 2 refl (whole !)))) (and-then ! (load ! (from ! (stop !)) (look-cell ! 34 refl)) (and-then ! (load ! (from ! (stop !)) (look-cell ! 42 refl)) (and-then ! (load ! (from ! (stop !)) (look-cell ! 8 refl)) (no-more !)))))))) (λ ν δ r us′ g-r len-us′ said. move ! (4 ∷ 5 ∷ 6 ∷ 7 ∷ 8 ∷ 9 ∷ 3 ∷ 0 ∷ 1 ∷ 2 ∷ []) $
+            move ! (5 ∷ []) $ use1 W (‵ (ShrSlice (named 2) κ₂ u8 .own (record { ptr = (b₂, o₂); name = γ₂; now = fr }) (sliceVal (b₂, o₂) (length fr) ∷ [])) ⊛ ‵ (ShrSlice (named 2) κ₂ u8 .own (record { ptr = (b₂, o₂); name = γ₂; now = fr }) (sliceVal (b₂, o₂) (length fr) ∷ []))) (shr-slice-copy 𝓤 H A W (named 2) κ₂ u8 .twice (record { ptr = (b₂, o₂); name = γ₂; now = fr }) (sliceVal (b₂, o₂) (length fr) ∷ [])) $ split ! $ move ! (0 ∷ 7 ∷ []) $ join ! $ move ! (7 ∷ 8 ∷ 9 ∷ 0 ∷ 2 ∷ 3 ∷ 4 ∷ 5 ∷ 6 ∷ 1 ∷ []) $ calls-mut-with {𝓤 = 𝓤} {H = H} {A = A} ! fm u8 us b₃ o₃ g-us fn-finish.ended (fn-finish.clauses 𝓤 H A mem run) (known .finish′) (λ ν δ. (((κ₂, (ν ∷ [], tt)), (q₂, (fullShare, tt)), tt, (j, (i, (h, (number, (record { ptr = (b₂, o₂); name = γ₂; now = fr }, (record { ptr = (b₃, o₃); name = δ; now = us }, tt)))))), (judged-val j ∷ [], (vint w64 i ∷ [], (header-val h ∷ [], (vint w16 number ∷ [], (sliceVal (b₂, o₂) (length fr) ∷ [], (sliceVal (b₃, o₃) (length us) ∷ [], tt))))))), tt)) (λ ν δ. qed W (‵ (flft (ν ∷ []) fullShare) ∷ ‵ (mut-own u8 b₃ o₃ ν δ us) ∷ (‵ (ShrSlice (named 2) κ₂ u8 .own (record { ptr = (b₂, o₂); name = γ₂; now = fr }) (sliceVal (b₂, o₂) (length fr) ∷ [])) ⊛ ‵ (flft κ₂ q₂)) ∷ []) ∵ move ! (2 ∷ []) $ split ! $ nothing ! $ move ! (4 ∷ 0 ∷ []) $ fjoin ! $ move ! (1 ∷ 0 ∷ []) $ fjoin ! $ owned ! u16 (Is u16) (uint-makes 𝓤 H A W w16) number _ (refl, g-number) $ fjoin ! $ header-has ! h g-h $ fjoin ! $ owned ! usize (Is usize) (uint-makes 𝓤 H A W w64) i _ (refl, (at-fits i g-f)) $ fjoin ! $ judged-has ! j g-j $ fjoin ! $ nothing ! $ move ! (3 ∷ 0 ∷ []) $ join ! $ move ! (2 ∷ 0 ∷ []) $ join ! $ join ! $ frame ! $ done !) (‵ (flft κ₂ q₂)) (λ ν δ. qed W ((‵ (flft (κ₂) q₂) ⊛ (‵ (flft (ν ∷ []) fullShare) ⊛ ‵ ftrue)) ∷ []) ∵ split ! $ move ! (1 ∷ []) $ split ! $ frame ! $ lose ! $ done !) (λ ν δ. answer-val) (λ ν δ r vs p. answer-tells r vs p) (λ ν δ ws. ws .1 .1 .1 .1 .1 .0) (λ ν δ ws. qed W (‵ (fsep ftrue (fsep ftrue (fsep ftrue (fsep ftrue (fsep ftrue (fsep (fsep (finally u8 δ (ws .1 .1 .1 .1 .1 .0)) (feq ℕ (length (ws .1 .1 .1 .1 .1 .0)) (length us))) (ftrue))))))) ∷ []) ∵ fsplit ! $ lose ! $ fsplit ! $ lose ! $ fsplit ! $ lose ! $ fsplit ! $ lose ! $ fsplit ! $ lose ! $ fsplit ! $ move ! (1 ∷ []) $ lose ! $ done !) (λ ν δ (r : Answer) (us′ : List ℕ). (saidArrival r ≡ finished j i number (h .rank) (length fr - 6)) × (us′ ≡ bytesOf j (writtenWithout fr (h .at) us) us)) (λ ν δ r ws. two-facts 𝓤 H A _ _) (λ ν δ. (and-then ! (load ! (from ! (stop !)) (look-cell ! 26 refl)) (and-then ! (load ! (from ! (stop !)) (look-cell ! 30 refl)) (and-then ! (load ! (from ! (stop !)) (look-cell ! 36 refl)) (and-then ! (load ! (from ! (stop !)) (look-cell ! 34 refl)) (and-then ! (load ! (from ! (stop !)) (look-cell ! 42 refl)) (and-then ! (load ! (from ! (stop !)) (look-cell ! 8 refl)) (no-more !)))))))) (λ ν δ r us′ g-r len-us′ said. move ! (4 ∷ 5 ∷ 6 ∷ 7 ∷ 8 ∷ 9 ∷ 3 ∷ 0 ∷ 1 ∷ 2 ∷ []) $
             land ! (from ! (stop !)) (init ! 52 refl (answer-typed 𝓤 H A W r g-r)) $
             returns ! (look-cell ! 52 refl) $ forget ! 52 refl $ forget ! 50 refl $ forget ! 48 refl $ forget ! 46 refl $ forget ! 44 refl $ forget ! 42 refl $ forget ! 40 refl $ forget ! 38 refl $ forget ! 36 refl $ forget ! 34 refl $ forget ! 32 refl $ forget ! 30 refl $ forget ! 28 refl $ forget ! 20 refl $ forget ! 18 refl $ forget ! 16 refl $ forget ! 14 refl $ forget ! 12 refl $ forget ! 10 refl $
             move ! (52 ∷ 53 ∷ []) $ free1 ! $ move ! (50 ∷ 51 ∷ []) $ free1 ! $ move ! (48 ∷ 49 ∷ []) $ free1 ! $ move ! (46 ∷ 47 ∷ []) $ free1 ! $ move ! (44 ∷ 45 ∷ []) $ free1 ! $ move ! (42 ∷ 43 ∷ []) $ free1 ! $ move ! (40 ∷ 41 ∷ []) $ free1 ! $ move ! (38 ∷ 39 ∷ []) $ free1 ! $ move ! (36 ∷ 37 ∷ []) $ free1 ! $ move ! (34 ∷ 35 ∷ []) $ free1 ! $ move ! (32 ∷ 33 ∷ []) $ free1 ! $ move ! (30 ∷ 31 ∷ []) $ free1 ! $ move ! (28 ∷ 29 ∷ []) $ free1 ! $ move ! (26 ∷ 27 ∷ []) $ free1 ! $ move ! (24 ∷ 25 ∷ []) $ free1 ! $ move ! (22 ∷ 23 ∷ []) $ free1 ! $ move ! (20 ∷ 21 ∷ []) $ free1 ! $ move ! (18 ∷ 19 ∷ []) $ free1 ! $ move ! (16 ∷ 17 ∷ []) $ free1 ! $ move ! (14 ∷ 15 ∷ []) $ free1 ! $ move ! (12 ∷ 13 ∷ []) $ free1 ! $ move ! (10 ∷ 11 ∷ []) $ free1 ! $ free0 ! $ keep ! (0 ∷ 1 ∷ 2 ∷ 4 ∷ 6 ∷ 7 ∷ 8 ∷ 9 ∷ []) $ by ! (exits g-ys zs len g-us us′ len-us′ r g-r (arrival-decided ys network fr us p refl (sym e) r roomy (decided .0) (decided .1) (said .0) (said .1))))))

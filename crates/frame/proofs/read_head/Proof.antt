@@ -23,6 +23,9 @@ returns-3 c = head-vlan-cut _ (c .if3 .taken) (c .before .before .word-at .ensur
 word-at-requires-2 : tie.Need-word-at-requires-2
 word-at-requires-2 c κs = search needs
 
+cast-t14 : tie.Need-cast-t14
+cast-t14 c = search needs
+
 word-at-requires-3 : tie.Need-word-at-requires-3
 word-at-requires-3 c κs = search needs
 
@@ -41,5 +44,6 @@ read-head-spec =
     returns-2
     returns-3
     word-at-requires-2
+    cast-t14
     word-at-requires-3
     returns-4)

@@ -42,6 +42,7 @@ use denote.Exit.{yes}
 use Rattle.record.specs.declared.Stream.{Stream}
 use Rattle.refusal.specs.Checks.Said.{refused}
 use Rattle.refusal.specs.Numbers.{UNKNOWN}
+use Rattle.frame.specs.Frame.{unranked}
 use Rattle.frame.specs.Link.{saidLink, writtenShorter}
 use Rattle.frame.specs.declared.LinkRead.{LinkRead}
 use Rattle.calls.specs.Calls.{linking, Meets as CallMeets}
@@ -190,7 +191,7 @@ module _ {M : Type 1} (𝓤 : URA M) (H : Heap 𝓤) (A : Atoms 𝓤) (W : Given
             land ! (from ! (stop !)) (init ! 26 refl (judged-typed 𝓤 H A W j g-j)) $
             assigns ! (addr ! (from ! (fld ! refl (hop ! (look-in ! 40 (sub ! 0 refl (whole !))) (stop !))))) (from ! (stop !)) (init ! 10 refl (tt, tt)) $
             assigns ! (agg ! (and-then ! (load ! (from ! (stop !)) (look-cell ! 10 refl)) (and-then ! (load ! (from ! (fld ! refl (stop !))) (look-in ! 40 (sub ! 1 refl (whole !)))) (no-more !)))) (from ! (stop !)) (init ! 8 refl (tt, (tt, (record { fits = g-us .0 }, tt)))) $
-            move ! (3 ∷ []) $ use1 W (‵ (ShrSlice (named 1) κ₁ u8 .own (record { ptr = (b₁, o₁); name = γ₁; now = fr }) (sliceVal (b₁, o₁) (length fr) ∷ [])) ⊛ ‵ (ShrSlice (named 1) κ₁ u8 .own (record { ptr = (b₁, o₁); name = γ₁; now = fr }) (sliceVal (b₁, o₁) (length fr) ∷ []))) (shr-slice-copy 𝓤 H A W (named 1) κ₁ u8 .twice (record { ptr = (b₁, o₁); name = γ₁; now = fr }) (sliceVal (b₁, o₁) (length fr) ∷ [])) $ split ! $ move ! (0 ∷ 5 ∷ []) $ join ! $ move ! (5 ∷ 6 ∷ 7 ∷ 0 ∷ 2 ∷ 3 ∷ 4 ∷ 1 ∷ []) $ calls-mut-with {𝓤 = 𝓤} {H = H} {A = A} ! fm u8 us b₂ o₂ g-us fn-finish-link.ended (fn-finish-link.clauses 𝓤 H A mem run) (known .finish-link′) (λ ν δ. (((κ₁, (ν ∷ [], tt)), (q₁, (fullShare, tt)), tt, (j, (i, (number, (record { ptr = (b₁, o₁); name = γ₁; now = fr }, (record { ptr = (b₂, o₂); name = δ; now = us }, tt))))), (judged-val j ∷ [], (vint w64 i ∷ [], (vint w16 number ∷ [], (sliceVal (b₁, o₁) (length fr) ∷ [], (sliceVal (b₂, o₂) (length us) ∷ [], tt)))))), tt)) (λ ν δ. qed W (‵ (flft (ν ∷ []) fullShare) ∷ ‵ (mut-own u8 b₂ o₂ ν δ us) ∷ (‵ (ShrSlice (named 1) κ₁ u8 .own (record { ptr = (b₁, o₁); name = γ₁; now = fr }) (sliceVal (b₁, o₁) (length fr) ∷ [])) ⊛ ‵ (flft κ₁ q₁)) ∷ []) ∵ move ! (2 ∷ []) $ split ! $ nothing ! $ move ! (4 ∷ 0 ∷ []) $ fjoin ! $ move ! (1 ∷ 0 ∷ []) $ fjoin ! $ owned ! u16 (Is u16) (uint-makes 𝓤 H A W w16) number _ (refl, g-number) $ fjoin ! $ owned ! usize (Is usize) (uint-makes 𝓤 H A W w64) i _ (refl, (at-fits i g-f)) $ fjoin ! $ judged-has ! j g-j $ fjoin ! $ nothing ! $ move ! (3 ∷ 0 ∷ []) $ join ! $ move ! (2 ∷ 0 ∷ []) $ join ! $ join ! $ frame ! $ done !) (‵ (flft κ₁ q₁)) (λ ν δ. qed W ((‵ (flft (κ₁) q₁) ⊛ (‵ (flft (ν ∷ []) fullShare) ⊛ ‵ ftrue)) ∷ []) ∵ split ! $ move ! (1 ∷ []) $ split ! $ frame ! $ lose ! $ done !) (λ ν δ. answer-val) (λ ν δ r vs p. answer-tells r vs p) (λ ν δ ws. ws .1 .1 .1 .1 .0) (λ ν δ ws. qed W (‵ (fsep ftrue (fsep ftrue (fsep ftrue (fsep ftrue (fsep (fsep (finally u8 δ (ws .1 .1 .1 .1 .0)) (feq ℕ (length (ws .1 .1 .1 .1 .0)) (length us))) (ftrue)))))) ∷ []) ∵ fsplit ! $ lose ! $ fsplit ! $ lose ! $ fsplit ! $ lose ! $ fsplit ! $ lose ! $ fsplit ! $ move ! (1 ∷ []) $ lose ! $ done !) (λ ν δ (r : Answer) (us′ : List ℕ). (saidArrival r ≡ finished j i number (length fr - 1)) × (us′ ≡ bytesOf j (writtenShorter fr us) us)) (λ ν δ r ws. two-facts 𝓤 H A _ _) (λ ν δ. (and-then ! (load ! (from ! (stop !)) (look-cell ! 24 refl)) (and-then ! (load ! (from ! (stop !)) (look-cell ! 28 refl)) (and-then ! (load ! (from ! (stop !)) (look-cell ! 32 refl)) (and-then ! (load ! (from ! (stop !)) (look-cell ! 40 refl)) (and-then ! (load ! (from ! (stop !)) (look-cell ! 6 refl)) (no-more !))))))) (λ ν δ r us′ g-r len-us′ said. move ! (4 ∷ 5 ∷ 6 ∷ 7 ∷ 3 ∷ 0 ∷ 1 ∷ 2 ∷ []) $
+            move ! (3 ∷ []) $ use1 W (‵ (ShrSlice (named 1) κ₁ u8 .own (record { ptr = (b₁, o₁); name = γ₁; now = fr }) (sliceVal (b₁, o₁) (length fr) ∷ [])) ⊛ ‵ (ShrSlice (named 1) κ₁ u8 .own (record { ptr = (b₁, o₁); name = γ₁; now = fr }) (sliceVal (b₁, o₁) (length fr) ∷ []))) (shr-slice-copy 𝓤 H A W (named 1) κ₁ u8 .twice (record { ptr = (b₁, o₁); name = γ₁; now = fr }) (sliceVal (b₁, o₁) (length fr) ∷ [])) $ split ! $ move ! (0 ∷ 5 ∷ []) $ join ! $ move ! (5 ∷ 6 ∷ 7 ∷ 0 ∷ 2 ∷ 3 ∷ 4 ∷ 1 ∷ []) $ calls-mut-with {𝓤 = 𝓤} {H = H} {A = A} ! fm u8 us b₂ o₂ g-us fn-finish-link.ended (fn-finish-link.clauses 𝓤 H A mem run) (known .finish-link′) (λ ν δ. (((κ₁, (ν ∷ [], tt)), (q₁, (fullShare, tt)), tt, (j, (i, (number, (record { ptr = (b₁, o₁); name = γ₁; now = fr }, (record { ptr = (b₂, o₂); name = δ; now = us }, tt))))), (judged-val j ∷ [], (vint w64 i ∷ [], (vint w16 number ∷ [], (sliceVal (b₁, o₁) (length fr) ∷ [], (sliceVal (b₂, o₂) (length us) ∷ [], tt)))))), tt)) (λ ν δ. qed W (‵ (flft (ν ∷ []) fullShare) ∷ ‵ (mut-own u8 b₂ o₂ ν δ us) ∷ (‵ (ShrSlice (named 1) κ₁ u8 .own (record { ptr = (b₁, o₁); name = γ₁; now = fr }) (sliceVal (b₁, o₁) (length fr) ∷ [])) ⊛ ‵ (flft κ₁ q₁)) ∷ []) ∵ move ! (2 ∷ []) $ split ! $ nothing ! $ move ! (4 ∷ 0 ∷ []) $ fjoin ! $ move ! (1 ∷ 0 ∷ []) $ fjoin ! $ owned ! u16 (Is u16) (uint-makes 𝓤 H A W w16) number _ (refl, g-number) $ fjoin ! $ owned ! usize (Is usize) (uint-makes 𝓤 H A W w64) i _ (refl, (at-fits i g-f)) $ fjoin ! $ judged-has ! j g-j $ fjoin ! $ nothing ! $ move ! (3 ∷ 0 ∷ []) $ join ! $ move ! (2 ∷ 0 ∷ []) $ join ! $ join ! $ frame ! $ done !) (‵ (flft κ₁ q₁)) (λ ν δ. qed W ((‵ (flft (κ₁) q₁) ⊛ (‵ (flft (ν ∷ []) fullShare) ⊛ ‵ ftrue)) ∷ []) ∵ split ! $ move ! (1 ∷ []) $ split ! $ frame ! $ lose ! $ done !) (λ ν δ. answer-val) (λ ν δ r vs p. answer-tells r vs p) (λ ν δ ws. ws .1 .1 .1 .1 .0) (λ ν δ ws. qed W (‵ (fsep ftrue (fsep ftrue (fsep ftrue (fsep ftrue (fsep (fsep (finally u8 δ (ws .1 .1 .1 .1 .0)) (feq ℕ (length (ws .1 .1 .1 .1 .0)) (length us))) (ftrue)))))) ∷ []) ∵ fsplit ! $ lose ! $ fsplit ! $ lose ! $ fsplit ! $ lose ! $ fsplit ! $ lose ! $ fsplit ! $ move ! (1 ∷ []) $ lose ! $ done !) (λ ν δ (r : Answer) (us′ : List ℕ). (saidArrival r ≡ finished j i number unranked (length fr - 1)) × (us′ ≡ bytesOf j (writtenShorter fr us) us)) (λ ν δ r ws. two-facts 𝓤 H A _ _) (λ ν δ. (and-then ! (load ! (from ! (stop !)) (look-cell ! 24 refl)) (and-then ! (load ! (from ! (stop !)) (look-cell ! 28 refl)) (and-then ! (load ! (from ! (stop !)) (look-cell ! 32 refl)) (and-then ! (load ! (from ! (stop !)) (look-cell ! 40 refl)) (and-then ! (load ! (from ! (stop !)) (look-cell ! 6 refl)) (no-more !))))))) (λ ν δ r us′ g-r len-us′ said. move ! (4 ∷ 5 ∷ 6 ∷ 7 ∷ 3 ∷ 0 ∷ 1 ∷ 2 ∷ []) $
             land ! (from ! (stop !)) (init ! 48 refl (answer-typed 𝓤 H A W r g-r)) $
             returns ! (look-cell ! 48 refl) $ forget ! 48 refl $ forget ! 46 refl $ forget ! 44 refl $ forget ! 42 refl $ forget ! 40 refl $ forget ! 38 refl $ forget ! 36 refl $ forget ! 34 refl $ forget ! 32 refl $ forget ! 30 refl $ forget ! 28 refl $ forget ! 26 refl $ forget ! 18 refl $ forget ! 16 refl $ forget ! 14 refl $ forget ! 12 refl $ forget ! 10 refl $ forget ! 8 refl $
             move ! (48 ∷ 49 ∷ []) $ free1 ! $ move ! (46 ∷ 47 ∷ []) $ free1 ! $ move ! (44 ∷ 45 ∷ []) $ free1 ! $ move ! (42 ∷ 43 ∷ []) $ free1 ! $ move ! (40 ∷ 41 ∷ []) $ free1 ! $ move ! (38 ∷ 39 ∷ []) $ free1 ! $ move ! (36 ∷ 37 ∷ []) $ free1 ! $ move ! (34 ∷ 35 ∷ []) $ free1 ! $ move ! (32 ∷ 33 ∷ []) $ free1 ! $ move ! (30 ∷ 31 ∷ []) $ free1 ! $ move ! (28 ∷ 29 ∷ []) $ free1 ! $ move ! (26 ∷ 27 ∷ []) $ free1 ! $ move ! (24 ∷ 25 ∷ []) $ free1 ! $ move ! (22 ∷ 23 ∷ []) $ free1 ! $ move ! (20 ∷ 21 ∷ []) $ free1 ! $ move ! (18 ∷ 19 ∷ []) $ free1 ! $ move ! (16 ∷ 17 ∷ []) $ free1 ! $ move ! (14 ∷ 15 ∷ []) $ free1 ! $ move ! (12 ∷ 13 ∷ []) $ free1 ! $ move ! (10 ∷ 11 ∷ []) $ free1 ! $ move ! (8 ∷ 9 ∷ []) $ free1 ! $ free0 ! $ keep ! (0 ∷ 1 ∷ 2 ∷ 4 ∷ 5 ∷ 6 ∷ 7 ∷ []) $ by ! (exits g-ys zs len g-us us′ len-us′ r g-r (link-decided ys network fr us p refl (sym e) r roomy (decided .0) (decided .1) (said .0) (said .1))))))

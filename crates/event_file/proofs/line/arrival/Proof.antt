@@ -29,6 +29,9 @@ cast-pair c = search needs
 pair-requires : tie.Need-pair-requires
 pair-requires c κs = search needs
 
+priority-requires : tie.Need-priority-requires
+priority-requires c κs = search needs
+
 same-length : tie.Need-same-length
 same-length c = search needs
 
@@ -41,7 +44,7 @@ same-length-2 c = search needs
 
 returns-2 : tie.Need-returns-2
 unfolding answerOf
-returns-2 c = (renamed (ap (λ x. answerOf (saidArrival x)) (c .before .before .before .before .before .before .before .before .before .before .before .before .before .a2 .given .1)) (joined (joined (c .before .before .before .before .before .before .before .before .before .before .verdict-word .ensures .0) (c .before .before .before .before .before .before .byte .ensures)) (c .before .before .pair .ensures .0)), omega (arith, c .before .before .before .before .before .before .before .before .before .before .verdict-word .ensures .1, c .before .before .before .before .before .before .byte .ensures .place, c .before .before .pair .ensures .1))
+returns-2 c = (renamed (ap (λ x. answerOf (saidArrival x)) (c .before .before .before .before .before .before .before .before .before .before .before .before .before .before .before .before .before .a2 .given .1)) (joined (joined (joined (c .before .before .before .before .before .before .before .before .before .before .before .before .before .before .verdict-word .ensures .0) (c .before .before .before .before .before .before .before .before .before .before .byte .ensures)) (c .before .before .before .before .before .before .pair .ensures .0)) (c .before .before .priority .ensures .0)), omega (arith, c .before .before .before .before .before .before .before .before .before .before .before .before .before .before .verdict-word .ensures .1, c .before .before .before .before .before .before .before .before .before .before .byte .ensures .place, c .before .before .before .before .before .before .pair .ensures .1, c .before .before .priority .ensures .1))
 
 pub arrival-spec : {M : Type 1} → statement M
 arrival-spec =
@@ -54,6 +57,7 @@ arrival-spec =
     byte-requires
     cast-pair
     pair-requires
+    priority-requires
     same-length
     returns
     same-length-2
