@@ -2,8 +2,8 @@
  * tag in and out, a sender, and the frames of PRP lines turned into tagged ones and back.
  *
  * The calls are the exported functions of the crates `port` and `port_*`, proved to do what document 01 says, with orders 1, 3,
- * 4, 5, 6, 7, 9 and 10 of document 02 (order 2 changes no answer). This header is written by hand: bindings/c/test.c holds it to
- * the compiled code, and bindings/check to the sources. C11 or C++11, x86-64; link with libport.a, which is called
+ * 4, 5, 6, 7, 9, 10 and 11 of document 02 (order 2 changes no answer). This header is written by hand: bindings/c/test.c holds it
+ * to the compiled code, and bindings/check to the sources. C11 or C++11, x86-64; link with libport.a, which is called
  * libnippitsun.a once it is installed (docs/LINKING.md).
  *
  * What the caller owes. The proof takes it for granted, and no call can test it:
@@ -29,9 +29,9 @@
 #include <stddef.h>
 #include <stdint.h>
 
-#define NIPPITSUN_VERSION "0.13.0"
+#define NIPPITSUN_VERSION "0.14.0"
 #define NIPPITSUN_VERSION_MAJOR 0
-#define NIPPITSUN_VERSION_MINOR 13
+#define NIPPITSUN_VERSION_MINOR 14
 #define NIPPITSUN_VERSION_PATCH 0
 
 #ifdef __cplusplus
@@ -180,13 +180,26 @@ typedef struct nippitsun_stream {
  *
  * `refusal` is a number of enum nippitsun_refusal. Where it is not 0, every other field is 0. */
 
-/* Of an arrival. */
+/* Of an arrival.
+ *
+ * `priority` and `vlantag` are of the frame as it came, whatever the verdict (document 02, order 11). Where 8100 stands at 12 a
+ * VLAN tag is there, and the upper three bits of the two bytes at 14 are its priority; a tag that says 0 is not the same as none.
+ * Where F1C1 stands at 12 there is none, though what is handed up may then begin with one. A tag with VLAN id 0 has the key of no
+ * tag, and its priority all the same. The two copies of a command may differ in both fields: an answer tells its own.
+ *
+ * To sort commands: eight queues in an array, with `priority` as the place in it, and each queue keeps the order. So a frame with
+ * no VLAN tag comes to those of priority 0, as is the default of IEEE 802.1Q; for another choice look at `vlantag`. The standard
+ * recommends 7 as the highest, and 1 below 0.
+ *
+ * Up to 0.13.0 the two bytes were padding, which a library of that time does not set; the linker takes it all the same. */
 typedef struct nippitsun_arrival_answer {
-    size_t slot;     /* the slot of the stream */
-    size_t length;   /* bytes written to the output: 0 but for a frame handed up */
-    uint16_t number; /* the number in the tag; of a virtual link: the frame's last byte */
-    uint8_t verdict; /* enum nippitsun_verdict */
+    size_t slot;      /* the slot of the stream */
+    size_t length;    /* bytes written to the output: 0 but for a frame handed up */
+    uint16_t number;  /* the number in the tag; of a virtual link: the frame's last byte */
+    uint8_t verdict;  /* enum nippitsun_verdict */
     uint8_t refusal;
+    uint8_t priority; /* the VLAN tag's, 0 to 7; 0 where there is none, and of a virtual link */
+    uint8_t vlantag;  /* 1: a VLAN tag was there; 0: none, or a virtual link, whose arrival reads none */
 } nippitsun_arrival_answer;
 
 /* Of a batch. */
@@ -256,9 +269,9 @@ nippitsun_arrival_answer nippitsun_link_arrival(nippitsun_stream *NIPPITSUN_APAR
  * then and changes nothing, and 0 stands in `frames` and in all answers. A count of 0 is a good call, and does nothing. The index
  * is looked at once, before the first frame, and each frame's slot is found by it.
  *
- * Each frame is a nippitsun_arrival in its turn, with the same verdict, record, counters and refusal as if it had come alone,
- * and its answer stands in answers[] at its place. What is handed up is packed into the output from its start, in the order in
- * which it came and in the form of the input: two length bytes, then the frame without its tag, `length` bytes. Duplicates,
+ * Each frame is a nippitsun_arrival in its turn, with the same verdict, priority, record, counters and refusal as if it had come
+ * alone, and its answer stands in answers[] at its place. What is handed up is packed into the output from its start, in the order
+ * in which it came and in the form of the input: two length bytes, then the frame without its tag, `length` bytes. Duplicates,
  * rogues and refused frames take no byte of the output, not even for a length. The bytes after the last frame keep their values.
  *
  * The room of a frame is what is left of the output behind its two length bytes, and none if fewer than two are left. A frame
@@ -415,6 +428,8 @@ NIPPITSUN_FIELD(nippitsun_arrival_answer, length, 8, 8);
 NIPPITSUN_FIELD(nippitsun_arrival_answer, number, 16, 2);
 NIPPITSUN_FIELD(nippitsun_arrival_answer, verdict, 18, 1);
 NIPPITSUN_FIELD(nippitsun_arrival_answer, refusal, 19, 1);
+NIPPITSUN_FIELD(nippitsun_arrival_answer, priority, 20, 1);
+NIPPITSUN_FIELD(nippitsun_arrival_answer, vlantag, 21, 1);
 
 NIPPITSUN_TYPE(nippitsun_batch_answer, 784, 8);
 NIPPITSUN_FIELD(nippitsun_batch_answer, answers, 0, 768);

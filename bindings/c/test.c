@@ -2,7 +2,8 @@
  * directions. A refused call must leave every byte of table, index, sender and outputs as it was, and answer 0 but for the number.
  * A batch must do what single arrivals in turn do, a send what the tag writer does, and a turn from PRP or to PRP what the tag
  * writer or reader does with the trailer off or on. An open, a close and a batch must do with an index what a look at every record
- * gives, and an arrival of a virtual link what order 10 says step by step.
+ * gives, and an arrival of a virtual link what order 10 says step by step. Every arrival must tell the VLAN tag's priority and
+ * whether one was there as order 11 says.
  *
  * All areas are blocks of the heap of their exact size, so that bindings/c/memcheck sees an access behind their end. */
 #include "nippitsun.h"
@@ -182,6 +183,12 @@ static void end(uint8_t refusal) {
     if (refusal) CHECK(table_same() && index_same() && sender->next == sender_before.next && out_same_from(0) && twin_same_from(0));
 }
 
+/* Order 11 in its own words, of the frame as it was given. A refused one tells nothing. */
+static int tells_priority(nippitsun_arrival_answer a, const uint8_t *frame) {
+    int in_vlan = !a.refusal && frame[12] == 0x81 && frame[13] == 0x00;
+    return a.vlantag == in_vlan && a.priority == (in_vlan ? (frame[14] << 8 | frame[15]) >> 13 : 0);
+}
+
 typedef nippitsun_arrival_answer arrival_call(nippitsun_stream *restrict, size_t, uint8_t, const uint8_t *restrict, size_t,
                                               uint8_t *restrict, size_t);
 
@@ -197,6 +204,8 @@ static nippitsun_arrival_answer arrive_by(arrival_call *call, uint8_t network, c
     if (a.refusal) CHECK(a.slot == 0 && a.length == 0 && a.number == 0);
     else CHECK(others_same(a.slot));
     if (a.verdict != NIPPITSUN_VERDICT_HANDED_UP) CHECK(a.length == 0);
+    if (call == nippitsun_link_arrival) CHECK(a.priority == 0 && a.vlantag == 0);
+    else CHECK(tells_priority(a, frame));
     CHECK(out_same_from(a.length));
     free(f);
     return a;
@@ -522,7 +531,8 @@ static void pack(const uint8_t *frame, size_t n) {
 }
 
 static int same_answer(nippitsun_arrival_answer a, nippitsun_arrival_answer b) {
-    return a.slot == b.slot && a.length == b.length && a.number == b.number && a.verdict == b.verdict && a.refusal == b.refusal;
+    return a.slot == b.slot && a.length == b.length && a.number == b.number && a.verdict == b.verdict && a.refusal == b.refusal
+        && a.priority == b.priority && a.vlantag == b.vlantag;
 }
 
 /* Order 3 with single arrivals, on the table and the output as they were before the call: each has the room then left after
@@ -536,6 +546,7 @@ static nippitsun_batch_answer in_turn(uint8_t network, size_t count, const uint8
         nippitsun_arrival_answer a = nippitsun_arrival(table_before, slots, network, frames + at + 2, n,
                                                        lengths_fit ? out_before + used + 2 : NULL, lengths_fit ? room - used - 2 : 0);
         b.answers[i] = a;
+        CHECK(tells_priority(a, frames + at + 2));
         if (a.refusal == NIPPITSUN_REFUSED_ROOM) {
             b.frames = i;
             break;
@@ -656,7 +667,7 @@ static void arrivals(void) {
     copy(f + 1, tagged(60, 0xABC, 6), 60);
     begin();
     a = nippitsun_arrival(table, slots, 1, f + 1, 60, out + 1, room - 1);
-    CHECK(a.verdict == NIPPITSUN_VERDICT_HANDED_UP && a.length == 54 && a.number == 6);
+    CHECK(a.verdict == NIPPITSUN_VERDICT_HANDED_UP && a.length == 54 && a.number == 6 && tells_priority(a, f + 1));
     CHECK(equal(out + 1, f + 1, 16) && equal(out + 17, f + 23, 38) && out[0] == out_before[0] && out_same_from(55));
     free(f);
 }
@@ -1265,6 +1276,7 @@ static void batches_in_turn(void) {
             size_t length = lengths[below(8)];
             uint16_t vlan = below(2) ? 5 : 0;
             tagged(length, vlan, (uint16_t)(90 + below(below(8) ? 40 : 600)));
+            if (vlan && below(2)) typed(14, below(16) << 12 | 5 * below(2), frame_bytes);
             if (below(12) == 0) frame_bytes[13] = 0;
             if (below(12) == 0) frame_bytes[6] |= 1;
             if (below(12) == 0) frame_bytes[5] ^= 1;
@@ -1992,6 +2004,173 @@ static void families_in_turn(void) {
     CHECK(up > 1000 && again > 1000 && unknown > 1000);
 }
 
+/* ---- priorities (document 02, order 11) */
+
+/* A number with each verdict of running(), and the record behind its arrival on network 0. */
+static const uint16_t number_for[] = {[NIPPITSUN_VERDICT_HANDED_UP] = 101, [NIPPITSUN_VERDICT_DUPLICATE] = 100,
+                                      [NIPPITSUN_VERDICT_ROGUE] = 110};
+
+static nippitsun_stream decided(uint8_t verdict, nippitsun_stream s) {
+    s.counts.arrivals0++;
+    if (verdict == NIPPITSUN_VERDICT_DUPLICATE) s.counts.discarded++;
+    if (verdict == NIPPITSUN_VERDICT_ROGUE) s.counts.rogue++;
+    if (verdict != NIPPITSUN_VERDICT_HANDED_UP) return s;
+    s.counts.passed++;
+    s.counts.lost++;
+    s.state = (nippitsun_state){.history = {11}, .anchor = 101, .remaining = 9, .early = 0, .any = 0};
+    return s;
+}
+
+static int tells(nippitsun_arrival_answer a, unsigned priority, unsigned vlantag) {
+    return a.priority == priority && a.vlantag == vlantag;
+}
+
+/* A frame of n bytes with a VLAN tag of these two bytes: priority, one bit more, VLAN id. */
+static const uint8_t *in_vlan(size_t n, unsigned control, uint16_t number) { return typed(14, control, tagged(n, 1, number)); }
+
+/* Every value of a VLAN tag with every verdict. Output and record are what they would be with any other priority. */
+static void priorities(void) {
+    for (unsigned control = 0; control <= 65535; control++) {
+        nippitsun_arrival_answer a;
+        for (uint8_t verdict = NIPPITSUN_VERDICT_HANDED_UP; verdict <= NIPPITSUN_VERDICT_ROGUE; verdict++) {
+            one_running(60);
+            table[0].vlan = control % 4096;
+            nippitsun_stream want = decided(verdict, table[0]);
+            a = arrive(0, in_vlan(60, control, number_for[verdict]), 60);
+            if (want.vlan > NIPPITSUN_VLAN_MOST) {
+                CHECK(a.refusal == NIPPITSUN_REFUSED_DAMAGED && tells(a, 0, 0));
+                continue;
+            }
+            CHECK(a.refusal == 0 && a.slot == 0 && a.number == number_for[verdict] && a.verdict == verdict);
+            CHECK(tells(a, control / 8192, 1) && same(table[0], want));
+            if (verdict == NIPPITSUN_VERDICT_HANDED_UP) CHECK(a.length == 54 && without(60, 16));
+        }
+
+        /* Where F1C1 stands at 12 there is none, though what is handed up begins with one. */
+        one_running(60);
+        a = arrive(0, typed(20, control, typed(18, 0x8100, tagged(60, 0, 101))), 60);
+        CHECK(a.verdict == NIPPITSUN_VERDICT_HANDED_UP && tells(a, 0, 0) && without(60, 12) && out[12] == 0x81 && out[13] == 0x00);
+        CHECK(same(table[0], decided(a.verdict, running())));
+        /* Of two the first counts. */
+        unsigned first = control * 5 & 0xF000;
+        one_running(60);
+        a = arrive(0, typed(24, control, typed(22, 0x8100, in_vlan(60, first, 101))), 60);
+        CHECK(a.verdict == NIPPITSUN_VERDICT_HANDED_UP && tells(a, first / 8192, 1) && without(60, 16));
+    }
+
+    /* Frames of every length. */
+    for (size_t n = 0; n <= NIPPITSUN_FRAME_MOST + 1; n++) {
+        unsigned control = (unsigned)n % 16 << 12;
+        one_running(NIPPITSUN_UNTAGGED_MOST);
+        nippitsun_arrival_answer a = arrive(0, in_vlan(n, control, 101), n);
+        if (n < 24 || n > NIPPITSUN_FRAME_MOST) CHECK(a.refusal != 0 && tells(a, 0, 0));
+        else CHECK(a.verdict == NIPPITSUN_VERDICT_HANDED_UP && tells(a, control / 8192, 1) && without(n, 16));
+    }
+
+    /* A tag that says 0 is one, and with VLAN id 0 it has the key of none: two copies may differ. The bit below is no priority. */
+    static const struct { unsigned control, priority; } with_id_0[] = {{0x0000, 0}, {0x1000, 0}, {0xA000, 5}, {0xB000, 5}, {0xF000, 7}};
+    for (size_t i = 0; i < sizeof with_id_0 / sizeof *with_id_0; i++)
+        for (uint16_t number = 101; number < 111; number++) {
+            if (number == 101) one_running(60);
+            nippitsun_arrival_answer a[2];
+            for (unsigned n = 0; n < 2; n++) {
+                unsigned bare = (n + number) % 2;
+                const uint8_t *frame = bare ? tagged(60, 0, number) : in_vlan(60, with_id_0[i].control, number);
+                a[n] = arrive((uint8_t)bare, frame, 60);
+                CHECK(bare ? tells(a[n], 0, 0) : tells(a[n], with_id_0[i].priority, 1));
+            }
+            CHECK(a[0].verdict == NIPPITSUN_VERDICT_HANDED_UP && a[1].verdict == NIPPITSUN_VERDICT_DUPLICATE);
+        }
+}
+
+/* Each refusal of a frame whose tag says 7, behind one that was taken. */
+static void refused_priorities(void) {
+    static const uint8_t why[] = {1, 2, 3, 4, 5, 14, 6, 7, 8, 8};
+    for (unsigned i = 0; i < sizeof why; i++) {
+        one_running(100);
+        table[0].vlan = 5;
+        CHECK(tells(arrive(0, in_vlan(60, 0xE005, 101), 60), 7, 1));
+        in_vlan(2001, i == 6 ? 0xE006 : 0xE005, i == 9 ? 101 : 102);
+        if (i == 0) make_table(NIPPITSUN_SLOTS_MOST + 1);
+        if (i == 4) typed(16, 0x0800, frame_bytes);
+        if (i == 5) from(1, frame_bytes);
+        if (i == 7) table[0].window = 1;
+        if (i >= 8) make_out(53);
+        nippitsun_arrival_answer a = arrive(i == 1 ? 2 : 0, frame_bytes, i == 2 ? 2001 : i == 3 ? 23 : 60);
+        CHECK(a.refusal == why[i] && tells(a, 0, 0));
+    }
+    /* What stands at 12 is 8100 or no VLAN tag, and one behind another is no type field. */
+    static const unsigned types[] = {0x88A8, 0x9100, 0x8101, 0x8000, 0x0081, 0x0100, 0};
+    one_running(100);
+    for (size_t i = 0; i < sizeof types / sizeof *types; i++)
+        CHECK(arrive(0, typed(12, types[i], in_vlan(60, 0xE000, 101)), 60).refusal == NIPPITSUN_REFUSED_UNTAGGED);
+    CHECK(arrive(0, typed(16, 0x8100, in_vlan(60, 0xE000, 101)), 60).refusal == NIPPITSUN_REFUSED_UNTAGGED);
+}
+
+/* Every priority in its place of a batch, frames without a VLAN tag and refused ones between, and all verdicts. */
+static void batched_priorities(void) {
+    static const struct { int control; uint16_t number; uint8_t verdict, refusal; } cases[] = {
+        {-1, 101, 1, 0},     {0x0000, 102, 1, 0}, {0xF000, 102, 2, 0}, {0x3000, 103, 1, 0}, {-1, 103, 2, 0},     {0x4000, 104, 1, 0},
+        {0xE006, 105, 0, 6}, {0x7000, 105, 1, 0}, {0x8000, 106, 1, 0}, {-1, 107, 1, 0},     {0xA000, 500, 3, 0}, {-1, 500, 3, 0},
+        {0xBFFF, 108, 0, 6}, {0xB000, 108, 1, 0}, {0xC000, 108, 2, 0}, {0xD000, 109, 1, 0}, {0xE000, 110, 1, 0}, {0x0000, 110, 2, 0},
+        {0xF000, 111, 1, 0}, {-1, 112, 1, 0},     {0x2000, 113, 1, 0},
+    };
+    enum { count = sizeof cases / sizeof *cases };
+    size_t last = count, ends = 0;
+    for (size_t bytes = 1000; bytes-- > 0;) {
+        /* 32 of priority 7 before each, so that nothing of them may stay. */
+        one_running(NIPPITSUN_FRAMES_MOST * 60);
+        pack_none();
+        for (uint16_t i = 0; i < NIPPITSUN_FRAMES_MOST; i++) pack(in_vlan(60, 0xE000, (uint16_t)(101 + i)), 60);
+        nippitsun_batch_answer b = batched(0);
+        for (size_t i = 0; i < NIPPITSUN_FRAMES_MOST; i++) CHECK(b.answers[i].verdict == 1 && tells(b.answers[i], 7, 1));
+
+        one_running(bytes);
+        pack_none();
+        for (size_t i = 0; i < count; i++) {
+            int control = cases[i].control;
+            pack(control < 0 ? tagged(60, 0, cases[i].number) : in_vlan(60, (unsigned)control, cases[i].number), 60);
+        }
+        b = batched(0);
+        CHECK(b.refusal == 0 && unreached_from(&b, b.frames + 1));
+        for (size_t i = 0; i < b.frames; i++) {
+            CHECK(b.answers[i].verdict == cases[i].verdict && b.answers[i].refusal == cases[i].refusal);
+            if (cases[i].refusal || cases[i].control < 0) CHECK(tells(b.answers[i], 0, 0));
+            else CHECK(tells(b.answers[i], (unsigned)cases[i].control / 8192, 1));
+        }
+        /* 8 ends it before each frame that is decided: nothing is told of that one. */
+        if (b.frames < count) CHECK(b.answers[b.frames].refusal == NIPPITSUN_REFUSED_ROOM && tells(b.answers[b.frames], 0, 0));
+        ends += b.frames < last;
+        last = b.frames;
+
+        /* A call that is refused tells nothing of any. */
+        if (bytes % 100) continue;
+        b = batched(2);
+        CHECK(b.refusal == NIPPITSUN_REFUSED_NETWORK && unreached_from(&b, 0));
+        b = batched_from(0, count, packed, packed_bytes - 1);
+        CHECK(b.refusal == NIPPITSUN_REFUSED_BATCH && unreached_from(&b, 0));
+        all_places(0);
+        b = batched_so(0, count, packed, packed_bytes);
+        CHECK(b.refusal == NIPPITSUN_REFUSED_INDEX && unreached_from(&b, 0));
+    }
+    CHECK(last == 0 && ends > 12);
+}
+
+/* A virtual link's arrival reads no VLAN tag, whatever stands there. */
+static void link_priorities(void) {
+    for (unsigned control = 0; control <= 65535; control += 17) {
+        one_running(60);
+        CHECK(arrive(0, in_vlan(60, 0xE000, 101), 60).priority == 7);
+        table[0] = link_running(7);
+        for (uint8_t verdict = NIPPITSUN_VERDICT_HANDED_UP; verdict <= NIPPITSUN_VERDICT_DUPLICATE; verdict++) {
+            nippitsun_arrival_answer a = link_arrives(0, typed(14, control, typed(12, 0x8100, linked(60, 8))), 60);
+            CHECK(a.verdict == verdict && tells(a, 0, 0));
+        }
+        make_out(58);
+        CHECK(link_arrives(0, frame_bytes, 60).refusal == NIPPITSUN_REFUSED_ROOM);
+    }
+}
+
 /* ---- the sending side (document 02, order 6) */
 
 /* Is the output the frame with a tag of this number at this place, and does the twin begin as it does? */
@@ -2501,6 +2680,31 @@ static void lines_received(void) {
     }
 }
 
+/* What is sent with a priority is received with it, on both networks and over PRP lines. */
+static void sent_priorities(void) {
+    enum { n = 60, with_tag = n + NIPPITSUN_TAG_LENGTH };
+    uint8_t on_network[2][with_tag], turned[with_tag];
+    for (unsigned control = 0; control <= 0xF000; control += 0x1000) {
+        make_table(1);
+        make_sender();
+        make_outs(100, 100);
+        CHECK(opened(untagged(n), 0, NIPPITSUN_RULE_VECTOR, 4, 3).refusal == 0);
+        CHECK(sent(typed(14, control, typed(12, 0x8100, untagged(n))), n).length == with_tag);
+        copy(on_network[0], out, with_tag);
+        copy(on_network[1], twin, with_tag);
+        for (uint8_t network = 0; network < 2; network++) {
+            CHECK(tells(arrive(network, on_network[network], with_tag), control / 8192, 1));
+            for (unsigned i = 0; i < 2; i++) {
+                nippitsun_prp_answer a = to_line(on_network[network], with_tag, network, kinds[i]);
+                copy(frame_bytes, out, a.length);
+                CHECK(from_line(frame_bytes, a.length, kinds[i]).length == with_tag);
+                copy(turned, out, with_tag);
+                CHECK(tells(arrive(network, turned, with_tag), control / 8192, 1));
+            }
+        }
+    }
+}
+
 /* 1 comes before anything else: a table of more than 64 slots is refused and not read, nor is its index; and if the index is not
  * of 128 places, neither is. A batch's network and count are refused before the frames are read. And where one of a send's outputs is
  * too small the other is not touched, nor is the output of a turn that is refused. No contract can say that, so here the table and
@@ -2640,6 +2844,10 @@ int main(void) {
     two_families();
     families_indexed();
     families_in_turn();
+    priorities();
+    refused_priorities();
+    batched_priorities();
+    link_priorities();
     sends();
     refused_sends();
     sends_in_turn();
@@ -2652,6 +2860,7 @@ int main(void) {
     former_types();
     turns_in_turn();
     lines_received();
+    sent_priorities();
     unread();
     nothing();
     make_table(0);
@@ -2661,7 +2870,7 @@ int main(void) {
     for (int n = 1; n < 256; n++) CHECK((refused[n] > 0) == (n <= NIPPITSUN_REFUSED_TRAILER || n == NIPPITSUN_REFUSED_INDEX));
     for (int v = 1; v <= 3; v++) CHECK(verdicts[v] > 0);
     printf("%u checks of the C calls, %u failed: every verdict, refusals 1 to %d and %d, every field of a record, every number sent, "
-           "every trailer of PRP, every number of a virtual link\n",
+           "every trailer of PRP, every number of a virtual link, every VLAN tag\n",
            checks, failures, NIPPITSUN_REFUSED_TRAILER, NIPPITSUN_REFUSED_INDEX);
     return failures != 0;
 }

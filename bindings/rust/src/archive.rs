@@ -27,6 +27,10 @@ pub struct ArrivalAnswer {
     pub verdict: u8,
     /// 0, or why the call was refused.
     pub refusal: u8,
+    /// The priority in the VLAN tag of the frame as it came, 0 to 7; 0 where there is none, and of a virtual link.
+    pub priority: u8,
+    /// 1: a VLAN tag was there; 0: none, or a virtual link, whose arrival reads none.
+    pub vlantag: u8,
 }
 
 /// What a batch answers. Where it is refused, `refusal` is the number and the rest is 0.

@@ -1,6 +1,7 @@
 //! Up to 32 frames in one call: how they are packed, and what the call answers.
 
 use crate::archive::{ArrivalAnswer, BatchAnswer, FRAMES_MOST, HANDED_UP};
+use crate::priority::Priority;
 use crate::receiver::Arrival;
 use crate::record::Stream;
 use crate::refusal::Refusal;
@@ -49,6 +50,7 @@ pub const ROOM_ENOUGH: usize = FRAMES_MOST * (LENGTH + Stream::UNTAGGED_MOST);
 /// assert_eq!((up[0].place, up[0].slot, up[0].number), (0, slot, 7));
 /// assert_eq!((up[1].place, up[1].slot, up[1].number), (3, slot, 8));
 /// assert_eq!(up[1].frame[12..], [0x08, 0x00, 0xAB]);
+/// assert_eq!(up[1].priority, None); // no VLAN tag
 /// # Ok::<(), Refusal>(())
 /// ```
 #[derive(Clone, Debug)]
@@ -66,6 +68,8 @@ pub struct HandedUp<'o> {
     pub slot: usize,
     /// The number in its tag.
     pub number: u16,
+    /// The priority in its VLAN tag as it came; `None` if it had none.
+    pub priority: Option<Priority>,
     /// The frame without its tag, as it stands in the output.
     pub frame: &'o [u8],
 }
@@ -102,6 +106,7 @@ impl<'o> Batch<'o> {
                     place,
                     slot: a.slot,
                     number: a.number,
+                    priority: Priority::told(a),
                     frame: &self.out[start..packed],
                 }
             })

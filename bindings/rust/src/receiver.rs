@@ -2,6 +2,7 @@
 
 use crate::archive::{self, PLACES};
 use crate::batch::Batch;
+use crate::priority::Priority;
 use crate::record::{Counts, Stream};
 use crate::refusal::Refusal;
 
@@ -27,6 +28,9 @@ pub struct Arrival {
     pub slot: usize,
     /// The number in the tag; of a virtual link: the frame's last byte.
     pub number: u16,
+    /// The priority in the VLAN tag of the frame as it came, whatever the verdict. `None`: it had no VLAN tag, or it is a virtual
+    /// link's, whose arrival reads none.
+    pub priority: Option<Priority>,
     /// What became of the frame.
     pub verdict: Verdict,
 }
@@ -45,6 +49,7 @@ impl Arrival {
         Ok(Arrival {
             slot: a.slot,
             number: a.number,
+            priority: Priority::told(a),
             verdict,
         })
     }
@@ -203,7 +208,7 @@ impl Receiver {
     /// those have [`Receiver::link_arrival`].
     ///
     /// The output must hold the frame without its tag for every verdict: [`Stream::FRAME_MOST`] bytes are always enough.
-    /// Its bytes after a frame handed up keep their values.
+    /// Its bytes after a frame handed up keep their values. [`Priority`] shows how commands are sorted by what the answer tells.
     pub fn arrival(
         &mut self,
         network: u8,
@@ -217,8 +222,8 @@ impl Receiver {
     /// order. Only streams of [`Stream::LINK_RULE`] are looked at.
     ///
     /// The frame's last byte is its number, 0 to 255, and the key is its destination with VLAN id 0: no type and no VLAN tag is
-    /// read. So it ends in the number as it is given here, without its frame check sequence and without padding that a card has put
-    /// behind it.
+    /// read, and no priority told. So it ends in the number as it is given here, without its frame check sequence and without
+    /// padding that a card has put behind it.
     ///
     /// A sender numbers its first frame 0, then 1 to 255, and 1 again. After one of 1 to 255 the numbers one to 127 steps forward
     /// in that ring are handed up, and 0, with which a sender starts anew; after 0 the numbers 1 to 127; by a fresh stream any. All

@@ -8,14 +8,17 @@ mod index;
 mod lines;
 #[path = "calls/links.rs"]
 mod links;
+#[path = "calls/priority.rs"]
+mod priority;
 #[path = "calls/sender.rs"]
 mod sender;
 #[path = "calls/words.rs"]
 mod words;
 
+use nippitsun::archive::{self, ArrivalAnswer};
 use nippitsun::prp::{self, Kind};
 use nippitsun::{
-    archive, dest_of, tag, Arrival, Counts, Receiver, Refusal, Settings, State, Stream, Ticked,
+    dest_of, tag, Arrival, Counts, Priority, Receiver, Refusal, Settings, State, Stream, Ticked,
     Verdict,
 };
 
@@ -129,6 +132,21 @@ fn in_vlan(length: usize) -> Vec<u8> {
     typed(12, 0x8100, untagged(length))
 }
 
+/// The frame with a VLAN tag put in, whose two bytes are these: priority, one bit more, VLAN id.
+fn with_vlan_tag(control: u16, mut frame: Vec<u8>) -> Vec<u8> {
+    let [high, low] = control.to_be_bytes();
+    frame.splice(12..12, [0x81, 0x00, high, low]);
+    frame
+}
+
+/// Order 11's own words, of a frame that is not refused.
+fn priority_of(frame: &[u8]) -> Option<Priority> {
+    match frame[12..14] {
+        [0x81, 0x00] => Priority::new(frame[14] / 32),
+        _ => None,
+    }
+}
+
 /// The frame with this first byte of its source.
 fn from(first: u8, mut frame: Vec<u8>) -> Vec<u8> {
     frame[6] = first;
@@ -145,13 +163,22 @@ impl Dice {
     }
 }
 
-/// An arrival that is refused changes nothing.
+/// An arrival that is refused changes nothing, and its answer is 0 but for the number.
 fn refused(r: &mut Receiver, network: u8, frame: &[u8], room: usize) -> Option<Refusal> {
     let before = r.clone();
     let mut out = vec![0xA5; room];
     let why = r.arrival(network, frame, &mut out).err();
+    let told = archive::arrival(r.records_mut(), network, frame, &mut out);
     assert!(*r == before && out == vec![0xA5; room]);
+    assert_eq!(told, only(why));
     why
+}
+
+fn only(why: Option<Refusal>) -> ArrivalAnswer {
+    ArrivalAnswer {
+        refusal: why.map_or(0, Refusal::number),
+        ..ArrivalAnswer::default()
+    }
 }
 
 #[test]
@@ -162,6 +189,7 @@ fn arrivals_change_the_fields_that_they_should() {
     let at = |number, verdict| Arrival {
         slot: 1,
         number,
+        priority: None,
         verdict,
     };
 

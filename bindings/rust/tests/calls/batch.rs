@@ -1,6 +1,6 @@
 //! A batch is its frames as single arrivals in turn: order 3's own words as a reference, and each case that is easily missed.
 
-use super::{from, running, settings, tagged, Dice};
+use super::{from, priority_of, running, settings, tagged, with_vlan_tag, Dice};
 use nippitsun::archive::{self, ArrivalAnswer, BatchAnswer, FRAMES_MOST, PLACES};
 use nippitsun::batch::{behind, Frames, ROOM_ENOUGH};
 use nippitsun::{Arrival, Receiver, Refusal, State, Stream, Verdict};
@@ -33,6 +33,9 @@ fn in_turn(
             &mut out[start..]
         };
         let answer = r.arrival(network, frame, room);
+        if let Ok(a) = answer {
+            assert_eq!(a.priority, priority_of(frame));
+        }
         answers.push(answer);
         match answer.map(|a| a.verdict) {
             Ok(Verdict::HandedUp { length }) => {
@@ -61,7 +64,8 @@ fn batch(
     let answer = r.batch(network, frames.len(), &buffer, &mut out).unwrap();
     let got = (answer.frames(), answer.answers().collect::<Vec<_>>());
     assert_eq!(got, want);
-    // The frames handed up are those whose answers say so, and stand in the output without their tags (six bytes at 12 here).
+    // The frames handed up are those whose answers say so, and stand in the output without their tags: six bytes at 12, or behind
+    // a VLAN tag.
     let up: Vec<_> = answer.handed_up().collect();
     let places = (0..got.1.len())
         .filter(|&i| matches!(got.1[i], Ok(a) if matches!(a.verdict, Verdict::HandedUp { .. })));
@@ -73,7 +77,9 @@ fn batch(
         let frame = &frames[u.place];
         let a = got.1[u.place].unwrap();
         assert_eq!((u.slot, u.number), (a.slot, a.number));
-        assert_eq!(u.frame, [&frame[..12], &frame[18..]].concat());
+        assert_eq!(u.priority, a.priority);
+        let at = if u.priority.is_some() { 16 } else { 12 };
+        assert_eq!(u.frame, [&frame[..at], &frame[at + 6..]].concat());
     }
     assert_eq!(out, want_out);
     assert_eq!(*r, single);
@@ -114,6 +120,7 @@ fn said(number: u16, verdict: Verdict) -> Answer {
     Ok(Arrival {
         slot: 0,
         number,
+        priority: None,
         verdict,
     })
 }
@@ -197,8 +204,6 @@ fn other_refusals_go_on_even_with_no_room() {
     let mut records = vec![running(); 2];
     records[0].vlan = 5;
     records[1].rule = 4;
-    let mut vlan = tagged(60, 101);
-    vlan.splice(12..12, [0x81, 0x00, 0x00, 0x06]);
     let frames = [
         vec![1; 2001],
         vec![1; 65535],
@@ -206,7 +211,7 @@ fn other_refusals_go_on_even_with_no_room() {
         tagged(19, 1),
         vec![6; 60],
         from(1, tagged(60, 101)),
-        vlan,
+        with_vlan_tag(6, tagged(60, 101)),
         tagged(60, 101),
     ];
     for room in [0, 1, 2, 100] {
@@ -299,7 +304,14 @@ fn batches_are_single_arrivals_in_turn() {
                     2 if length > 13 => frame[5] ^= 1,
                     _ => {}
                 }
-                frame
+                // Any priority, and the id of the one stream, of the other, or of neither.
+                match dice.below(3) {
+                    0 if length > 13 => {
+                        let id = [0, 0, 7, 5][dice.below(4) as usize];
+                        with_vlan_tag((dice.below(16) << 12 | id) as u16, frame)
+                    }
+                    _ => frame,
+                }
             })
             .collect();
         let most = [20, 100, 4000][dice.below(3) as usize];

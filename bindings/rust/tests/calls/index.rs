@@ -1,7 +1,7 @@
 //! An open, a close and a batch with an index do what a look at every record gives: order 9's own words as a reference, and each
 //! case that is easily missed. And a receiver's own index agrees with its records, whatever was written to them.
 
-use super::{running, settings, tagged, Dice};
+use super::{running, settings, tagged, with_vlan_tag, Dice};
 use nippitsun::archive::{self, BatchAnswer, SlotAnswer, PLACES};
 use nippitsun::{dest_of, Receiver, Refusal, Settings, Stream};
 
@@ -32,11 +32,10 @@ fn running_to(dest: u64) -> Stream {
 fn frame_to(dest: u64, vlan: u16, number: u16) -> Vec<u8> {
     let mut frame = tagged(60, number);
     frame[..6].copy_from_slice(&six(dest));
-    if vlan != 0 {
-        let [high, low] = vlan.to_be_bytes();
-        frame.splice(12..12, [0x81, 0x00, high, low]);
+    match vlan {
+        0 => frame,
+        _ => with_vlan_tag(vlan, frame),
     }
-    frame
 }
 
 /// The streams that a call looks at.

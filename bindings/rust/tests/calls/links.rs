@@ -1,7 +1,7 @@
 //! Virtual links (document 02, order 10): every verdict, refusal and number, and streams of both families in one table.
 
-use super::{from, running, settings, tagged, typed, DISTINCT, FRESH};
-use nippitsun::{Arrival, Receiver, Refusal, Settings, State, Stream, Verdict};
+use super::{from, only, running, settings, tagged, typed, with_vlan_tag, DISTINCT, FRESH};
+use nippitsun::{archive, Arrival, Receiver, Refusal, Settings, State, Stream, Verdict};
 
 const UP: Verdict = Verdict::HandedUp { length: 59 };
 
@@ -63,12 +63,14 @@ fn behind(mut s: Stream, network: u8, number: u8) -> (Stream, Verdict) {
     (s, UP)
 }
 
-/// An arrival that is refused changes nothing.
+/// An arrival that is refused changes nothing, and its answer is 0 but for the number.
 fn refused(r: &mut Receiver, network: u8, frame: &[u8], room: usize) -> Option<Refusal> {
     let before = r.clone();
     let mut out = vec![0xA5; room];
     let why = r.link_arrival(network, frame, &mut out).err();
+    let told = archive::link_arrival(r.records_mut(), network, frame, &mut out);
     assert!(*r == before && out == vec![0xA5; room]);
+    assert_eq!(told, only(why));
     why
 }
 
@@ -90,6 +92,7 @@ fn every_number_after_every_last_one() {
                 Ok(Arrival {
                     slot,
                     number,
+                    priority: None,
                     verdict
                 })
             );
@@ -277,8 +280,7 @@ fn a_link_has_no_vlan_id() {
         ..link(100)
     };
     let mut r = Receiver::from_records(vec![lent, Stream::default()]);
-    let mut in_vlan = tagged(60, 101);
-    in_vlan.splice(12..12, [0x81, 0x00, 0x00, 0x05]);
+    let in_vlan = with_vlan_tag(5, tagged(60, 101));
     let mut out = [0; 64];
     assert_eq!(r.arrival(0, &in_vlan, &mut out), Err(Refusal::Unknown));
     for given in [in_vlan, frame(60, 101)] {
