@@ -1,11 +1,11 @@
 //! Runs an event file through the library. Document 01: "Event file and the
-//! program `events`". Kind 6 is of order 5 of document 02. The index of order 9
-//! shows in no line.
+//! program `events`". Kind 6 is of order 5 of document 02, the priority on `up`
+//! lines of order 11. The index of order 9 shows in no line.
 
 use std::io::{self, ErrorKind, Read, Write};
 
 use crate::wrong::{self, rule};
-use crate::{arrival, close, open, reset, tick, Refusal, Settings, Stream, Verdict};
+use crate::{arrival, close, open, reset, tick, Arrival, Refusal, Settings, Stream, Verdict};
 
 /// The version byte of an event file.
 pub const VERSION: u8 = 1;
@@ -101,14 +101,7 @@ impl Receiver {
             },
             [kind::ARRIVAL, network, ref frame @ ..] => {
                 match arrival(&mut self.table, network, frame, &mut self.output) {
-                    Ok(a) => {
-                        let word = match a.verdict {
-                            Verdict::HandedUp { .. } => "up",
-                            Verdict::Duplicate => "dup",
-                            Verdict::Rogue => "rogue",
-                        };
-                        writeln!(lines, "{number} A {word} {} {}", a.slot, a.number)
-                    }
+                    Ok(answer) => arrived(lines, number, answer),
                     Err(refusal) => refused(lines, number, 'A', refusal),
                 }
             }
@@ -133,6 +126,37 @@ impl Receiver {
 impl Default for Receiver {
     fn default() -> Receiver {
         Receiver::new()
+    }
+}
+
+/// The line of an arrival that was not refused. What was handed up has its
+/// priority last; whether a VLAN tag was there is in no line.
+fn arrived<W: Write>(lines: &mut W, number: u64, answer: Arrival) -> io::Result<()> {
+    let priority = usize::from(answer.priority);
+    let (word, last) = match answer.verdict {
+        Verdict::HandedUp { .. } => (
+            "up",
+            rule!(
+                Some(priority),
+                UpPrintsNone: None,
+                UntaggedPrintsNone: answer.vlan_tag.then_some(priority),
+                PrintsVlanTag: Some(answer.vlan_tag.into())
+            ),
+        ),
+        Verdict::Duplicate => ("dup", rule!(None, DupPrintsPriority: Some(priority))),
+        Verdict::Rogue => ("rogue", rule!(None, RoguePrintsPriority: Some(priority))),
+    };
+    let (slot, of_frame) = (answer.slot, usize::from(answer.number));
+    match last {
+        Some(last) => {
+            let [first, second, third] = rule!(
+                [slot, of_frame, last],
+                PriorityBeforeNumber: [slot, last, of_frame],
+                PriorityBeforeSlot: [last, slot, of_frame]
+            );
+            writeln!(lines, "{number} A {word} {first} {second} {third}")
+        }
+        None => writeln!(lines, "{number} A {word} {slot} {of_frame}"),
     }
 }
 

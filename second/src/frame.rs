@@ -1,6 +1,7 @@
 //! Reading a frame's header, and putting the redundancy tag in and taking it
 //! out. Document 01: "The frame" and the last two calls of "Calls and the order
-//! of checks". Document 02: order 1; order 10 for the frames of virtual links.
+//! of checks". Document 02: order 1; order 10 for the frames of virtual links;
+//! order 11 for the priority.
 
 use crate::wrong::{self, rule};
 use crate::{Refusal, Stream};
@@ -26,16 +27,22 @@ const SHORTEST_LINK: usize = 15;
 pub(crate) struct Header {
     destination: [u8; 6],
     vlan: u16,
+    /// The VLAN tag's three priority bits, 0 with no such tag.
+    priority: u8,
+    /// Does a VLAN tag stand at 12? One of priority 0 is another thing than none.
+    vlan_tag: bool,
     /// Where the type field is. At least two bytes stand there.
     pub type_place: usize,
 }
 
-/// What an arrival reads in a frame: the key, the number, and where the bytes
-/// stand that are not handed up, and how many.
+/// What an arrival reads in a frame: the key, what it tells of the VLAN tag, the
+/// number, and where the bytes stand that are not handed up, and how many.
 #[derive(Clone, Copy)]
 pub(crate) struct Numbered {
     pub destination: [u8; 6],
     pub vlan: u16,
+    pub priority: u8,
+    pub vlan_tag: bool,
     pub number: u16,
     pub place: usize,
     pub width: usize,
@@ -57,7 +64,25 @@ fn destination(frame: &[u8]) -> [u8; 6] {
     destination
 }
 
-/// The 14 and 18 byte rules, and what can be read once they hold.
+/// The three highest of the 16 bits behind 8100. The bit below them is no part of
+/// the priority, nor of the id.
+fn priority(tci: u16) -> u8 {
+    let bits = rule!(
+        tci >> 13,
+        PriorityOneLow: tci >> 12 & 7,
+        PriorityFourBits: tci >> 12,
+        PriorityOfId: tci & 7,
+        PriorityOfByte15: tci >> 5 & 7,
+        PriorityTwoBits: tci >> 13 & 3,
+        PriorityFrom7: 7 - (tci >> 13),
+        PriorityTurned: (tci & 0xE000).reverse_bits()
+    );
+    bits as u8
+}
+
+/// The 14 and 18 byte rules, and what can be read once they hold. A VLAN tag is
+/// looked for at 12 of the frame as it came: 8100 behind the redundancy tag is
+/// none, though it stands at 12 of what is handed up.
 pub(crate) fn header(frame: &[u8]) -> Result<Header, Refusal> {
     if frame.len() < AFTER_ADDRESSES + 2 {
         return Err(Refusal::FrameShort);
@@ -66,7 +91,20 @@ pub(crate) fn header(frame: &[u8]) -> Result<Header, Refusal> {
     if frame[AFTER_ADDRESSES..AFTER_ADDRESSES + 2] != VLAN_MARK {
         return Ok(Header {
             destination,
-            vlan: rule!(0, VlanBehindTag: wrong::vlan_behind_tag(frame)),
+            vlan: rule!(
+                0,
+                VlanBehindTag: wrong::tci_behind_tag(frame).map_or(0, |tci| tci & 0x0FFF)
+            ),
+            priority: rule!(
+                0,
+                PriorityAsWritten: wrong::tci_behind_tag(frame).map_or(0, priority)
+            ),
+            vlan_tag: rule!(
+                false,
+                PriorityAsWritten: wrong::tci_behind_tag(frame).is_some(),
+                TagAsWritten: wrong::tci_behind_tag(frame).is_some(),
+                UntaggedSaysTag: true
+            ),
             type_place: AFTER_ADDRESSES,
         });
     }
@@ -76,11 +114,24 @@ pub(crate) fn header(frame: &[u8]) -> Result<Header, Refusal> {
             ShortAt17: if frame.len() == 17 { Refusal::NoTag } else { Refusal::FrameShort }
         ));
     }
+    let tci = u16::from_be_bytes([frame[14], frame[15]]);
     // The four high bits are no part of the id.
-    let vlan = u16::from_be_bytes([frame[14], frame[15]]) & rule!(0x0FFF, VlanUnmasked: 0xFFFF);
+    let vlan = tci & rule!(0x0FFF, VlanUnmasked: 0xFFFF);
     Ok(Header {
         destination,
         vlan: rule!(vlan, VlanZeroApart: if vlan == 0 { 4095 } else { vlan }),
+        // Id 0 gives the key of no tag, and the tag is there all the same.
+        priority: rule!(
+            priority(tci),
+            VlanZeroUntagged: if vlan == 0 { 0 } else { priority(tci) }
+        ),
+        vlan_tag: rule!(
+            true,
+            TagUntold: false,
+            PriorityZeroSaysNone: priority(tci) != 0,
+            VlanZeroSaysNone: vlan != 0,
+            VlanZeroUntagged: vlan != 0
+        ),
         type_place: AFTER_VLAN,
     })
 }
@@ -123,6 +174,8 @@ pub(crate) fn read_tagged(frame: &[u8]) -> Result<Numbered, Refusal> {
     Ok(Numbered {
         destination: header.destination,
         vlan: header.vlan,
+        priority: header.priority,
+        vlan_tag: header.vlan_tag,
         number: rule!(u16::from_be_bytes(number), NumberLowFirst: u16::from_le_bytes(number)),
         place,
         width: TAG_LENGTH,
@@ -130,7 +183,8 @@ pub(crate) fn read_tagged(frame: &[u8]) -> Result<Numbered, Refusal> {
 }
 
 /// Reads a frame of a virtual link: refusals 3, 4. Its last byte is the number,
-/// and its key has VLAN id 0. Neither 8100 nor F1C1 means anything here.
+/// and its key has VLAN id 0. Neither 8100 nor F1C1 means anything here, so it
+/// has no VLAN tag and no priority.
 pub(crate) fn read_link(frame: &[u8]) -> Result<Numbered, Refusal> {
     let longest = rule!(Stream::MAX_FRAME, LinkLongest1994: 1994, LinkLongest2001: 2001);
     at_most(longest, frame)?;
@@ -148,6 +202,12 @@ pub(crate) fn read_link(frame: &[u8]) -> Result<Numbered, Refusal> {
     Ok(Numbered {
         destination: destination(frame),
         vlan: rule!(0, LinkReadsVlan: header(frame)?.vlan),
+        priority: rule!(0, LinkHasPriority: header(frame).map_or(0, |h| h.priority)),
+        vlan_tag: rule!(
+            false,
+            LinkHasPriority: header(frame).map_or(false, |h| h.vlan_tag),
+            LinkSaysTag: true
+        ),
         number: frame[last].into(),
         place: last,
         width: rule!(1, LinkKeepsLastByte: 0),

@@ -207,12 +207,10 @@ impl Walk {
         let mut body = vec![kind::ARRIVAL, network];
         body.extend(key.0);
         body.extend(source(random));
-        // A tag with VLAN id 0 has the same key as no tag.
-        if key.1 != 0 || random.chance(1, 4) {
+        let tci = any_tci(random, key.1);
+        if let Some(tci) = tci {
             body.extend(VLAN_MARK);
-            // The four high bits are no part of the id.
-            let high = (random.below(16) as u16) << 12;
-            body.extend((high | key.1).to_be_bytes());
+            body.extend(tci.to_be_bytes());
         }
         if random.chance(1, 25) {
             // No tag, or one that is nearly right.
@@ -234,13 +232,12 @@ impl Walk {
             }
         }
         body.extend(number.to_be_bytes());
-        body.extend(random.pick(&[
-            [0x08, 0x00],
-            [0x08, 0x00],
-            [0x86, 0xDD],
-            TAG_MARK,
-            VLAN_MARK,
-        ]));
+        match random.below(5) {
+            0 | 1 => body.extend([0x08, 0x00]),
+            2 => body.extend([0x86, 0xDD]),
+            3 => body.extend(TAG_MARK),
+            _ => body.extend(inner_vlan(random)),
+        }
         self.payload(&mut body);
         body
     }
@@ -302,8 +299,8 @@ struct Traffic {
     senders: Vec<Sender>,
     networks: [Network; 2],
     time: u64,
-    /// Frames under way: when they are due, network, key, number.
-    under_way: Vec<(u64, u8, Key, u16)>,
+    /// Frames under way: when they are due, and their bodies.
+    under_way: Vec<(u64, Vec<u8>)>,
     /// Bodies that were made and not handed out yet.
     ready: VecDeque<Vec<u8>>,
 }
@@ -372,14 +369,21 @@ impl Traffic {
             if self.random.chance(1, 4) {
                 continue;
             }
+            // The copies of a frame are alike, the frames of a sender are not.
+            let tci = any_tci(&mut self.random, sender.key.1);
+            let behind = match self.random.below(16) {
+                0 => inner_vlan(&mut self.random),
+                _ => vec![0x08, 0x00],
+            };
             for (at, network) in self.networks.iter().enumerate() {
                 let random = &mut self.random;
                 let copies = 1 + u64::from(random.chance(network.doubled, 100));
                 for _ in 0..copies {
                     let due = self.time + network.delay + random.below(network.jitter + 1);
                     if !network.silent && !random.chance(network.lost, 100) {
-                        let frame = (due, at as u8, sender.key, sender.next);
-                        self.under_way.push(frame);
+                        let (to, number) = (sender.key.0, sender.next);
+                        let body = tagged_with(at as u8, to, tci, number, &behind);
+                        self.under_way.push((due, body));
                     }
                 }
             }
@@ -388,8 +392,7 @@ impl Traffic {
         // Stable: what was sent first comes first among frames due together.
         self.under_way.sort_by_key(|frame| frame.0);
         let due = self.under_way.partition_point(|frame| frame.0 <= self.time);
-        for (_, network, key, number) in self.under_way.drain(..due) {
-            let body = tagged(network, key, number);
+        for (_, body) in self.under_way.drain(..due) {
             // A faulty tap reflects a frame before the frame itself comes. The
             // body's byte 8 is the first of the source.
             if self.random.chance(1, 50) {
@@ -481,6 +484,27 @@ fn source(random: &mut Random) -> [u8; 6] {
     source
 }
 
+/// The 16 bits behind 8100 of a frame with this VLAN id. The four high ones, the
+/// priority and the bit below it, are no part of the id. A tag with id 0 has the
+/// same key as no tag.
+fn any_tci(random: &mut Random, vlan: u16) -> Option<u16> {
+    let high = (random.below(16) as u16) << 12;
+    (vlan != 0 || random.chance(1, 3)).then_some(high | vlan)
+}
+
+/// A VLAN tag with any bits, and mostly a type, to stand behind the redundancy tag.
+/// There it is none, though it may look like one in what is handed up.
+fn inner_vlan(random: &mut Random) -> Vec<u8> {
+    let mut bytes = VLAN_MARK.to_vec();
+    if random.chance(3, 4) {
+        let id = random.pick(&[0, 1, 5, 256, 4094]);
+        let high = (random.below(16) as u16) << 12;
+        bytes.extend((high | id).to_be_bytes());
+        bytes.extend([0x08, 0x00]);
+    }
+    bytes
+}
+
 /// A rule whose streams hear arrivals.
 fn any_rule(random: &mut Random) -> u8 {
     random.pick(&[Stream::VECTOR, Stream::VECTOR, Stream::MATCH])
@@ -515,19 +539,33 @@ fn open_of(kind: u8, key: Key, rule: u8, window: &[u8], reset_time: u16) -> Vec<
     body
 }
 
-/// The body of an arrival: a tagged frame with nothing behind its type field.
+/// The body of an arrival: a tagged frame with nothing behind its type field. It
+/// has a VLAN tag, of priority 0, if the key's id is not 0.
 pub fn tagged(network: u8, key: Key, number: u16) -> Vec<u8> {
+    let tci = (key.1 != 0).then_some(key.1);
+    tagged_with(network, key.0, tci, number, &[0x08, 0x00])
+}
+
+/// The body of an arrival: a tagged frame with a VLAN tag that has these 16 bits
+/// behind 8100, or with none, and with these bytes behind the redundancy tag.
+pub fn tagged_with(
+    network: u8,
+    destination: [u8; 6],
+    tci: Option<u16>,
+    number: u16,
+    behind: &[u8],
+) -> Vec<u8> {
     let mut body = vec![kind::ARRIVAL, network];
-    body.extend(key.0);
+    body.extend(destination);
     body.extend([2, 0, 0, 0, 0, 2]);
-    if key.1 != 0 {
+    if let Some(tci) = tci {
         body.extend(VLAN_MARK);
-        body.extend(key.1.to_be_bytes());
+        body.extend(tci.to_be_bytes());
     }
     body.extend(TAG_MARK);
     body.extend([0, 0]);
     body.extend(number.to_be_bytes());
-    body.extend([0x08, 0x00]);
+    body.extend(behind);
     body
 }
 

@@ -178,5 +178,13 @@ pub fn batch(
 ) -> Result<Batch, Refusal> {
     check_table(table)?;
     rule!(check_index(table, index), BatchIndexUnchecked: Ok(()))?;
-    crate::batch::batch(table, network, count, frames, output)
+    let done = crate::batch::batch(table, network, count, frames, output)?;
+    Ok(rule!(
+        done,
+        BatchHasNone: wrong::priorities(done, |_, _| wrong::NO_VLAN_TAG),
+        BatchOfFirst: wrong::priorities(done, |own, _| own[0]),
+        BatchOfLast: wrong::priorities(done, |own, _| own[own.len() - 1]),
+        BatchOfBefore: wrong::priorities(done, wrong::of_before),
+        BatchKeepsLastTag: wrong::priorities(done, wrong::of_last_tag)
+    ))
 }

@@ -2,7 +2,7 @@
 //! redundancy tag, a sender, and the turn from PRP lines and to them.
 //!
 //! This is a second implementation. It was written from document 01 ("Exact
-//! rules and what to build") and orders 1 to 10 of document 02 (README.md), so that
+//! rules and what to build") and orders 1 to 11 of document 02 (README.md), so that
 //! its answers can be compared with those of the first one. Section names in the
 //! comments are those of document 01.
 

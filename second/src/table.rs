@@ -1,6 +1,6 @@
 //! The calls on a table of streams. Document 01: "Calls and the order of
-//! checks". Document 02: orders 1, 5 and 10. Open and close stand here as without
-//! the index; the public ones are those of order 9 (`index`).
+//! checks". Document 02: orders 1, 5, 10 and 11. Open and close stand here as
+//! without the index; the public ones are those of order 9 (`index`).
 //!
 //! Each call makes all its checks before it changes anything, so a refusal
 //! leaves every byte as it was.
@@ -19,6 +19,11 @@ pub struct Arrival {
     pub number: u16,
     /// What became of the frame.
     pub verdict: Verdict,
+    /// The VLAN tag's three priority bits, 0 to 7, with each verdict. It is 0 with
+    /// no such tag, and for a virtual link's frame.
+    pub priority: u8,
+    /// Was a VLAN tag there? Never so for a virtual link's frame.
+    pub vlan_tag: bool,
 }
 
 /// The three verdicts.
@@ -207,11 +212,20 @@ fn decided(
         }
         Decision::Rogue => Verdict::Rogue,
     };
-    Ok(Arrival {
+    let answer = Arrival {
         slot,
         number: read.number,
         verdict,
-    })
+        priority: read.priority,
+        vlan_tag: read.vlan_tag,
+    };
+    let bare = wrong::without_priority(answer);
+    Ok(rule!(
+        answer,
+        OnlyUpHasPriority: if decision == Decision::HandedUp { answer } else { bare },
+        DuplicateHasNone: if decision == Decision::Duplicate { bare } else { answer },
+        RogueHasNone: if decision == Decision::Rogue { bare } else { answer }
+    ))
 }
 
 /// Opens a stream in the lowest free slot and answers that slot, as without the

@@ -1,7 +1,7 @@
 //! Wrong variants of this program, each with one slip. A comparison with
 //! another program is only worth something if it finds them, so it is tried
 //! against each. Document 01 names some under "Errors that look right"; the
-//! others are slips that its text, or that of orders 1 to 10 of document 02, makes
+//! others are slips that its text, or that of orders 1 to 11 of document 02, makes
 //! easy.
 //!
 //! No variant is set at first. In the code a slip stands behind the right rule:
@@ -15,7 +15,7 @@ use crate::frame::{carries_tag, check_source, Header, TAG_MARK, VLAN_MARK};
 use crate::history::History;
 use crate::prp::Trailer;
 use crate::stream::steps;
-use crate::{arrival, table, Arrival, Family, Refusal, Settings, Stream, Verdict};
+use crate::{arrival, table, Arrival, Batch, Family, Refusal, Settings, Stream, Verdict};
 
 /// Where the slip can be seen.
 #[derive(Clone, Copy, Debug, PartialEq, Eq)]
@@ -25,7 +25,8 @@ pub enum Seen {
     /// Only where calls are compared: the slip is in a counter, an output byte,
     /// the treatment of a damaged record or of a small output, in the tag
     /// writer, in taking a tag out, in a batch, in a send, in a turn from PRP or
-    /// to PRP, in the index, or in what becomes of a virtual link's frames.
+    /// to PRP, in the index, in what becomes of a virtual link's frames, in whether
+    /// a VLAN tag was there, or in the priority of what is not handed up.
     /// `events` shows none of these. As to its own index: it is always the rebuilt
     /// one, no two slots have one key, and no two keys of `generate` share a place.
     /// As to virtual links: they can be opened, and no frame reaches them.
@@ -316,6 +317,37 @@ variants! {
     AgreementOnce, CallsOnly, "the agreement is asked of each key once, whatever the rules";
     AgreementOfRest, CallsOnly, "the agreement is not asked of slots of rule 3";
     FollowStopsAtFamily, CallsOnly, "following stops where the key is that of a slot of the other family";
+    PriorityOneLow, Files, "the priority is read one bit low: its two lower bits and the bit below them";
+    PriorityFourBits, Files, "the priority is the four highest bits, 0 to 15";
+    PriorityOfId, Files, "the priority is the three lowest bits of the byte at 15";
+    PriorityOfByte15, Files, "the priority is the three highest bits of the byte at 15";
+    PriorityTwoBits, Files, "the priority is its two lower bits alone";
+    PriorityFrom7, Files, "the priority is 7 less what the bits say";
+    PriorityTurned, Files, "the priority's bits are read lowest first, so that 1 is 4";
+    PriorityAsWritten, Files, "the VLAN tag is that of the frame without its tag: 8100 behind F1C1 at 12 is one";
+    VlanZeroUntagged, Files, "a VLAN tag with id 0 gives 0 and no, as no tag does";
+    UpPrintsNone, Files, "no line has the priority";
+    UntaggedPrintsNone, Files, "up lines of frames with no VLAN tag have no priority";
+    PrintsVlanTag, Files, "up lines have 1 or 0 for the VLAN tag in place of the priority";
+    DupPrintsPriority, Files, "dup lines have the priority too";
+    RoguePrintsPriority, Files, "rogue lines have the priority too";
+    PriorityBeforeNumber, Files, "the priority stands before the number";
+    PriorityBeforeSlot, Files, "the priority stands before the slot";
+    TagAsWritten, CallsOnly, "with 8100 behind F1C1 at 12 an answer says that a VLAN tag was there, with 0";
+    UntaggedSaysTag, CallsOnly, "with no VLAN tag an arrival and a batch say that one was there";
+    TagUntold, CallsOnly, "no answer says that a VLAN tag was there";
+    PriorityZeroSaysNone, CallsOnly, "an answer with priority 0 says that no VLAN tag was there";
+    VlanZeroSaysNone, CallsOnly, "with VLAN id 0 an answer says that no VLAN tag was there, and has its priority";
+    OnlyUpHasPriority, CallsOnly, "duplicates and rogues have 0 and no";
+    DuplicateHasNone, CallsOnly, "duplicates have 0 and no";
+    RogueHasNone, CallsOnly, "rogues have 0 and no";
+    BatchHasNone, CallsOnly, "the answers of a batch have 0 and no";
+    BatchOfFirst, CallsOnly, "all answers of a batch have priority and VLAN tag of the first that was not refused";
+    BatchOfLast, CallsOnly, "all answers of a batch have priority and VLAN tag of the last that was not refused";
+    BatchOfBefore, CallsOnly, "each answer of a batch has priority and VLAN tag of the one before";
+    BatchKeepsLastTag, CallsOnly, "in a batch a frame with no VLAN tag has what the last VLAN tag before it gave";
+    LinkHasPriority, CallsOnly, "a link arrival reads a VLAN tag and answers its priority and yes";
+    LinkSaysTag, CallsOnly, "a link arrival says that a VLAN tag was there";
 }
 
 #[cfg(feature = "wrong")]
@@ -352,16 +384,59 @@ macro_rules! rule {
 }
 pub(crate) use rule;
 
-/// The id of a VLAN tag that stands behind a redundancy tag at 12, else 0.
-pub(crate) fn vlan_behind_tag(frame: &[u8]) -> u16 {
+/// The 16 bits behind 8100 that stands behind a redundancy tag at 12.
+pub(crate) fn tci_behind_tag(frame: &[u8]) -> Option<u16> {
     match frame.get(12..22) {
         Some(&[t0, t1, _, _, _, _, v0, v1, high, low])
             if [t0, t1] == TAG_MARK && [v0, v1] == VLAN_MARK =>
         {
-            u16::from_be_bytes([high, low]) & 0x0FFF
+            Some(u16::from_be_bytes([high, low]))
         }
-        _ => 0,
+        _ => None,
     }
+}
+
+/// What an answer tells of a VLAN tag: the priority and whether one was there.
+type OfTag = (u8, bool);
+
+/// What a frame with no VLAN tag gives.
+pub(crate) const NO_VLAN_TAG: OfTag = (0, false);
+
+/// The answer of a frame with no VLAN tag in place of this one.
+pub(crate) fn without_priority(answer: Arrival) -> Arrival {
+    let (priority, vlan_tag) = NO_VLAN_TAG;
+    Arrival {
+        priority,
+        vlan_tag,
+        ..answer
+    }
+}
+
+/// A batch whose answers tell something else of the VLAN tags: the one at each
+/// place what `told` says, from what all of them told. Refused frames tell
+/// nothing and are left out.
+pub(crate) fn priorities(mut done: Batch, told: impl Fn(&[OfTag], usize) -> OfTag) -> Batch {
+    let arrivals = done.answers.iter_mut().flatten().flatten();
+    let own: Vec<OfTag> = arrivals.map(|a| (a.priority, a.vlan_tag)).collect();
+    let arrivals = done.answers.iter_mut().flatten().flatten();
+    for (place, arrival) in arrivals.enumerate() {
+        (arrival.priority, arrival.vlan_tag) = told(&own, place);
+    }
+    done
+}
+
+/// What the answer before this place told.
+pub(crate) fn of_before(own: &[OfTag], place: usize) -> OfTag {
+    match place {
+        0 => NO_VLAN_TAG,
+        _ => own[place - 1],
+    }
+}
+
+/// What the last VLAN tag up to this place gave.
+pub(crate) fn of_last_tag(own: &[OfTag], place: usize) -> OfTag {
+    let tag = own[..=place].iter().rfind(|of| of.1);
+    tag.copied().unwrap_or(NO_VLAN_TAG)
 }
 
 /// What an arrival is refused with, if a group source comes before this refusal.

@@ -18,12 +18,12 @@ const EXAMPLE: &str = "
 ";
 
 const EXAMPLE_LINES: &str = "1 O 0
-2 A up 0 7
+2 A up 0 7 0
 3 A dup 0 7
 4 T 0 0
 5 T 0 0
 6 T 1 0
-7 A up 0 7
+7 A up 0 7 0
 end
 ";
 
@@ -264,8 +264,9 @@ fn a_window_of_512_in_an_event_file() {
     for number in [65500, 475, 65500, 65499, 988, 476, 986, 474, 65036] {
         bodies.push(arrival_body(0, &tagged(number)));
     }
-    let expected = "1 O 0\n2 A up 0 65500\n3 A up 0 475\n4 A dup 0 65500\n5 A rogue 0 65499\n\
-        6 A rogue 0 988\n7 A up 0 476\n8 A up 0 986\n9 A rogue 0 474\n10 A rogue 0 65036\nend\n";
+    let expected = "1 O 0\n2 A up 0 65500 0\n3 A up 0 475 0\n4 A dup 0 65500\n5 A rogue 0 65499\n\
+        6 A rogue 0 988\n7 A up 0 476 0\n8 A up 0 986 0\n9 A rogue 0 474\n10 A rogue 0 65036\n\
+        end\n";
     assert_eq!(lines_of(&file_of(&bodies)), expected);
 }
 
@@ -301,7 +302,8 @@ fn refusals_of_close_reset_and_arrival() {
     ];
     let expected = "1 C no 12\n2 R no 12\n3 O 0\n4 C no 12\n5 R no 12\n6 C no 12\n7 R ok\n\
         8 A no 2\n9 A no 2\n10 A no 3\n11 A no 3\n12 A no 2\n13 A no 4\n14 A no 4\n15 A no 5\n\
-        16 A no 6\n17 A up 0 2\n18 A up 0 3\n19 A up 0 6\n20 A up 0 7\n21 C ok\n22 A no 6\nend\n";
+        16 A no 6\n17 A up 0 2 0\n18 A up 0 3 7\n19 A up 0 6 0\n20 A up 0 7 0\n21 C ok\n\
+        22 A no 6\nend\n";
     assert_eq!(lines_of(&file_of(&bodies)), expected);
 }
 
@@ -323,7 +325,7 @@ fn group_sources_of_arrivals() {
         arrival_body(0, &long),
         arrival_body(2, &group(&tagged(8))),
     ];
-    let expected = "1 O 0\n2 A no 14\n3 A up 0 7\n4 A no 14\n5 A no 14\n6 A no 5\n7 A no 4\n\
+    let expected = "1 O 0\n2 A no 14\n3 A up 0 7 0\n4 A no 14\n5 A no 14\n6 A no 5\n7 A no 4\n\
         8 A no 3\n9 A no 2\nend\n";
     assert_eq!(lines_of(&file_of(&bodies)), expected);
 }
@@ -334,8 +336,8 @@ fn numbers_and_rogues_at_the_wrap() {
     for number in [65534, 65535, 65534, 1, 0, 5, 65533, 65534, 4] {
         bodies.push(arrival_body(0, &tagged(number)));
     }
-    let expected = "1 O 0\n2 A up 0 65534\n3 A up 0 65535\n4 A dup 0 65534\n5 A up 0 1\n\
-        6 A up 0 0\n7 A rogue 0 5\n8 A rogue 0 65533\n9 A dup 0 65534\n10 A up 0 4\nend\n";
+    let expected = "1 O 0\n2 A up 0 65534 0\n3 A up 0 65535 0\n4 A dup 0 65534\n5 A up 0 1 0\n\
+        6 A up 0 0 0\n7 A rogue 0 5\n8 A rogue 0 65533\n9 A dup 0 65534\n10 A up 0 4 0\nend\n";
     assert_eq!(lines_of(&file_of(&bodies)), expected);
 }
 

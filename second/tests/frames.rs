@@ -210,6 +210,8 @@ fn what_is_written_and_what_is_kept() {
             verdict: Verdict::HandedUp {
                 length: plain.len(),
             },
+            priority: (tci.unwrap_or(0) >> 13) as u8,
+            vlan_tag: tci.is_some(),
         };
         assert_eq!(arrival(&mut table, 1, &full, &mut output), Ok(up));
         assert_eq!(output[..plain.len()], plain[..]);

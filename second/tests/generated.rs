@@ -43,10 +43,11 @@ fn every_kind_of_line_is_met() {
         for line in &lines[..lines.len() - 1] {
             let words: Vec<&str> = line.split(' ').collect();
             // The record number and the slot and number of an arrival differ
-            // too much to be listed.
+            // too much to be listed. Only what was handed up has a priority.
             let shape = match words[1..] {
                 [letter, "no", refusal] => format!("{letter} no {refusal}"),
-                ["A", verdict, ..] => format!("A {verdict}"),
+                ["A", "up", _, _, priority] => format!("A up {priority}"),
+                ["A", verdict @ ("dup" | "rogue"), _, _] => format!("A {verdict}"),
                 ["T", reset, damaged] => {
                     assert_eq!(damaged, "0");
                     format!("T {}", reset.parse::<u64>().unwrap().min(2))
@@ -58,10 +59,11 @@ fn every_kind_of_line_is_met() {
         }
     }
     let mut wanted: Vec<String> = (0..8).map(|slot| format!("O {slot}")).collect();
+    wanted.extend((0..8).map(|priority| format!("A up {priority}")));
     for shape in [
-        "O no 9", "O no 10", "O no 11", "C ok", "C no 12", "R ok", "R no 12", "A up", "A dup",
-        "A rogue", "A no 2", "A no 3", "A no 4", "A no 5", "A no 6", "A no 14", "T 0", "T 1",
-        "T 2", "bad", "version", "cut", "end",
+        "O no 9", "O no 10", "O no 11", "C ok", "C no 12", "R ok", "R no 12", "A dup", "A rogue",
+        "A no 2", "A no 3", "A no 4", "A no 5", "A no 6", "A no 14", "T 0", "T 1", "T 2", "bad",
+        "version", "cut", "end",
     ] {
         wanted.push(shape.to_string());
     }
@@ -112,6 +114,56 @@ fn opens_of_both_kinds_are_met_at_every_edge() {
         let bad = met.contains(&(kind, 1000 + length));
         assert!(bad, "kind {kind} with {length} bytes");
     }
+}
+
+/// What stands behind the redundancy tag of a frame that has one.
+fn behind_tag(frame: &[u8], place: usize) -> Option<&[u8]> {
+    match frame.get(place..)? {
+        [0xF1, 0xC1, _, _, _, _, behind @ ..] => Some(behind),
+        _ => None,
+    }
+}
+
+/// The frames that are handed up have VLAN tags with every priority, with and
+/// without the bit below it, with VLAN id 0 and with others; and all of these
+/// bits stand where no VLAN tag is, behind F1C1 at 12.
+#[test]
+fn every_priority_is_met() {
+    let mut met = HashSet::new();
+    for seed in 0..200 {
+        let file = file(seed, 400);
+        let lines = lines_of(&file);
+        if lines == ["version"] {
+            continue;
+        }
+        for (body, line) in bodies_of(&file).into_iter().zip(&lines) {
+            let words: Vec<&str> = line.split(' ').collect();
+            let priority: u8 = match words[1..] {
+                ["A", "up", _, _, priority] => priority.parse().unwrap(),
+                _ => continue,
+            };
+            let frame = &body[2..];
+            let (what, bits) = match (&frame[12..], behind_tag(frame, 12)) {
+                ([0x81, 0x00, high, low, ..], _) if (high & 15, *low) == (0, 0) => {
+                    ("VLAN id 0", high >> 4)
+                }
+                ([0x81, 0x00, high, ..], _) => ("other VLAN ids", high >> 4),
+                (_, Some([0x81, 0x00, high, _, ..])) => ("behind the tag", high >> 4),
+                _ => ("none", 0),
+            };
+            let expected = match what {
+                "none" | "behind the tag" => 0,
+                _ => bits / 2,
+            };
+            assert_eq!(priority, expected, "{seed}, {line}");
+            met.insert((what, bits));
+        }
+    }
+    let mut wanted = HashSet::from([("none", 0)]);
+    for bits in 0..16 {
+        wanted.extend(["VLAN id 0", "other VLAN ids", "behind the tag"].map(|what| (what, bits)));
+    }
+    assert_eq!(met, wanted);
 }
 
 #[test]

@@ -792,7 +792,7 @@ fn an_event_file() {
         push_record(&mut file, body);
     }
     let expected = "1 O 0\n2 A no 6\n3 A no 6\n4 T 0 0\n5 O no 10\n6 O no 10\n7 O no 9\n8 O 1\n\
-        9 O no 9\n10 O no 9\n11 O 2\n12 O no 9\n13 R ok\n14 C ok\n15 O 0\n16 A up 0 7\nend\n";
+        9 O no 9\n10 O no 9\n11 O 2\n12 O no 9\n13 R ok\n14 C ok\n15 O 0\n16 A up 0 7 0\nend\n";
     assert_eq!(lines_of(&file), expected);
 }
 
@@ -801,10 +801,10 @@ fn links_in_an_event_file() {
     an_event_file();
 }
 
-/// The variants of this order, which are the last of the list.
+/// The variants of this order, which stand together in the list.
 fn variants() -> &'static [wrong::Variant] {
-    let first = VARIANTS.iter().position(|v| v.wrong == Wrong::LinkUnknown);
-    &VARIANTS[first.unwrap()..]
+    let place = |wrong| VARIANTS.iter().position(|v| v.wrong == wrong).unwrap();
+    &VARIANTS[place(Wrong::LinkUnknown)..=place(Wrong::FollowStopsAtFamily)]
 }
 
 /// Random files show those that are for files, and none of the others.

@@ -289,6 +289,7 @@ impl Run {
     fn hold(&mut self, own: &Own, answer: Result<Arrival, Refusal>, written: &[u8]) {
         let (index, window, ends) = (own.index, self.window, self.ends);
         let length = own.bare.len();
+        let (priority, vlan_tag) = priority_of(&own.tagged);
         let expected = Arrival {
             slot: self.slot,
             number: number(index),
@@ -296,6 +297,8 @@ impl Run {
                 true => Verdict::HandedUp { length },
                 false => Verdict::Duplicate,
             },
+            priority,
+            vlan_tag,
         };
         assert_eq!(answer, Ok(expected), "L {window}, index {index}, {ends:?}");
         if let Verdict::HandedUp { .. } = answer.unwrap().verdict {

@@ -26,7 +26,10 @@ fn frames(random: &mut Random, tagged: &[u8]) -> (usize, Vec<u8>) {
         let frame = match random.below(8) {
             0 => Vec::new(),
             1 => untagged_to(DESTINATION, None),
-            2 | 3 => tagged_to(DESTINATION, None, random.below(6) as u16),
+            2 | 3 => {
+                let tci = random.pick(&[None, None, Some(0), Some(0x6000)]);
+                tagged_to(DESTINATION, tci, random.below(6) as u16)
+            }
             _ => tagged.to_vec(),
         };
         input.extend((frame.len() as u16).to_be_bytes());
@@ -54,10 +57,14 @@ fn calls(seed: u64) -> Vec<(String, Vec<Stream>, Vec<u8>)> {
         let room = random.pick(&[10, 15, 40, 40]);
         let number = random.pick(&[0, 1, 2, 3, 5, 8, 65533, 65534, 65535]);
         let destination = random.pick(&DESTINATIONS);
-        let tci = random.pick(&[None, Some(5)]);
+        let tci = random.pick(&[None, None, Some(5), Some(0x9005), Some(0), Some(0xC000)]);
         let network = random.below(2) as u8;
         let source = random.pick(&[2, 2, 2, 3]);
-        let tagged = from_source(source, &tagged_to(destination, tci, number));
+        let tagged = match random.below(8) {
+            0 => tagged_before_vlan(destination, 0xA005, number),
+            _ => tagged_to(destination, tci, number),
+        };
+        let tagged = from_source(source, &tagged);
         let answer = match random.below(16) {
             0 => format!("{:?}", open(&mut table, settings(1, 4, 2))),
             1 => format!("{:?}", close(&mut table, slot)),
@@ -104,7 +111,7 @@ fn links(seed: u64) -> Vec<(String, Vec<Stream>, Vec<u8>)> {
     for _ in 0..40 {
         let number = random.pick(&[0, 1, 2, 3, 126, 127, 128, 129, 130, 255]);
         let destination = random.pick(&DESTINATIONS);
-        let tci = random.pick(&[None, None, Some(0), Some(5)]);
+        let tci = random.pick(&[None, None, Some(0), Some(5), Some(0xE000)]);
         let network = random.pick(&[0, 1, 0, 1, 2]);
         let mut frame = match random.below(4) {
             0 => tagged_to(destination, tci, 7),

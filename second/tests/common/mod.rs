@@ -150,6 +150,23 @@ pub fn type_place(frame: &[u8]) -> usize {
     }
 }
 
+/// The priority of a frame and whether a VLAN tag is there, as order 11 has them.
+pub fn priority_of(frame: &[u8]) -> (u8, bool) {
+    match at(frame, 12, [0x81, 0x00]) {
+        true => (frame[14] / 32, true),
+        false => (0, false),
+    }
+}
+
+/// A tagged frame with no VLAN tag in front of the tag, and one behind it, so that
+/// 8100 stands at 12 once the tag is out.
+pub fn tagged_before_vlan(destination: [u8; 6], tci: u16, number: u16) -> Vec<u8> {
+    let bare = untagged_to(destination, Some(tci));
+    let (front, behind) = bare.split_at(12);
+    let [high, low] = number.to_be_bytes();
+    [front, &[0xF1, 0xC1, 0, 0, high, low], behind].concat()
+}
+
 /// The frame with a tag, put together from its parts.
 pub fn with_tag(frame: &[u8], number: u16) -> Vec<u8> {
     let (front, behind) = frame.split_at(type_place(frame));
