@@ -89,8 +89,9 @@ static void decision(u8 kind) {
 static int same_answer(const nippitsun_arrival_answer *a) {
     u64 slot = number(8), length = number(8);
     u16 told = number(2);
-    u8 verdict = number(1), refusal = number(1);
-    return a->slot == slot && a->length == length && a->number == told && a->verdict == verdict && a->refusal == refusal;
+    u8 verdict = number(1), refusal = number(1), priority = number(1), vlantag = number(1);
+    return a->slot == slot && a->length == length && a->number == told && a->verdict == verdict && a->refusal == refusal
+        && a->priority == priority && a->vlantag == vlantag;
 }
 
 static u8 index_lent[1 << 16], frame[1 << 16], out[1 << 16], second_out[1 << 16], wanted[1 << 16];
@@ -117,7 +118,7 @@ static void call(u8 kind) {
 
     u64 slot_told = 0, length = 0, resets = 0, damaged = 0, frames = 0;
     u16 number_told = 0;
-    u8 verdict = 0, network_told = 0, refusal = 0;
+    u8 verdict = 0, network_told = 0, refusal = 0, priority = 0, vlantag = 0;
     nippitsun_batch_answer batch;
     if (kind == 1 || kind == 2) {
         nippitsun_tag_answer a = kind == 1 ? nippitsun_take_tag(frame, n, out, room) : nippitsun_write_tag(frame, n, tag, out, room);
@@ -126,6 +127,7 @@ static void call(u8 kind) {
         nippitsun_arrival_answer a = kind == 5 ? nippitsun_arrival(table, slots, network, frame, n, out, room)
                                                : nippitsun_link_arrival(table, slots, network, frame, n, out, room);
         slot_told = a.slot, length = a.length, number_told = a.number, verdict = a.verdict, refusal = a.refusal;
+        priority = a.priority, vlantag = a.vlantag;
     } else if (kind == 6) {
         nippitsun_slot_answer a = nippitsun_open(table, slots, index_lent, places, dest, vlan, rule, window, time);
         slot_told = a.slot, refusal = a.refusal;
@@ -155,7 +157,8 @@ static void call(u8 kind) {
     }
 
     if (slot_told != number(8) || length != number(8) || resets != number(8) || damaged != number(8) || frames != number(8)
-        || number_told != number(2) || verdict != number(1) || network_told != number(1) || refusal != number(1))
+        || number_told != number(2) || verdict != number(1) || network_told != number(1) || refusal != number(1)
+        || priority != number(1) || vlantag != number(1))
         stop("DIFFERENT: an answer");
     for (u64 i = 0; kind == 10 && i < NIPPITSUN_FRAMES_MOST; i++)
         if (!same_answer(batch.answers + i)) stop("DIFFERENT: the answer to a frame of a batch");

@@ -1,8 +1,8 @@
 //! Calls with what they should answer and leave, written for compare/replay.c, which gives them to the archive itself under an
 //! emulator.
 
-use crate::{Answer, Call};
-use nippitsun::archive::BatchAnswer;
+use crate::{Answer, Call, VlanTag};
+use nippitsun::archive::{self, BatchAnswer};
 use nippitsun::Stream;
 
 /// What a call starts from or leaves: the table, its index, the outputs, and the sender's next number.
@@ -44,6 +44,18 @@ struct Fields {
     verdict: u8,
     network: u8,
     refusal: u8,
+    priority: u8,
+    vlantag: u8,
+}
+
+impl Fields {
+    /// What an arrival has with each verdict.
+    fn arrived(&mut self, verdict: u8, slot: usize, number: u16, vlan: VlanTag) {
+        self.verdict = verdict;
+        self.slot = slot as u64;
+        self.number = number;
+        (self.priority, self.vlantag) = (vlan.priority, vlan.there);
+    }
 }
 
 fn arguments(call: Call) -> Arguments {
@@ -128,22 +140,15 @@ fn fields(answer: &Answer) -> Fields {
             slot,
             number,
             length,
+            vlan,
         } => {
-            f.slot = slot as u64;
-            f.number = number;
+            f.arrived(archive::HANDED_UP, slot, number, vlan);
             f.length = length as u64;
-            f.verdict = nippitsun::archive::HANDED_UP;
         }
-        Answer::Duplicate { slot, number } => {
-            f.slot = slot as u64;
-            f.number = number;
-            f.verdict = nippitsun::archive::DUPLICATE;
+        Answer::Duplicate { slot, number, vlan } => {
+            f.arrived(archive::DUPLICATE, slot, number, vlan)
         }
-        Answer::Rogue { slot, number } => {
-            f.slot = slot as u64;
-            f.number = number;
-            f.verdict = nippitsun::archive::ROGUE;
-        }
+        Answer::Rogue { slot, number, vlan } => f.arrived(archive::ROGUE, slot, number, vlan),
         Answer::Opened(slot) => f.slot = slot as u64,
         Answer::Done => {}
         Answer::Ticked { resets, damaged } => {
@@ -164,6 +169,8 @@ fn fields(answer: &Answer) -> Fields {
             f.network = told.network;
             f.refusal = told.refusal;
         }
+        // The second program has none, so no case has one.
+        Answer::Strange(_) => {}
     }
     f
 }
@@ -179,7 +186,7 @@ fn add_frames(to: &mut Vec<u8>, answer: &Answer) {
             to.extend_from_slice(&(x as u64).to_le_bytes());
         }
         to.extend_from_slice(&a.number.to_le_bytes());
-        to.extend_from_slice(&[a.verdict, a.refusal]);
+        to.extend_from_slice(&[a.verdict, a.refusal, a.priority, a.vlantag]);
     }
 }
 
@@ -216,7 +223,7 @@ pub fn add(to: &mut Vec<u8>, call: Call, before: Areas, answer: &Answer, after: 
         to.extend_from_slice(&x.to_le_bytes());
     }
     to.extend_from_slice(&f.number.to_le_bytes());
-    to.extend_from_slice(&[f.verdict, f.network, f.refusal]);
+    to.extend_from_slice(&[f.verdict, f.network, f.refusal, f.priority, f.vlantag]);
     if let Call::Batch { .. } = call {
         add_frames(to, answer);
     }

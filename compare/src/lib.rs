@@ -69,6 +69,21 @@ impl Call<'_> {
     }
 }
 
+/// What an arrival's answer tells of a VLAN tag, as the archive has it.
+#[derive(Clone, Copy, Debug, PartialEq, Eq)]
+pub struct VlanTag {
+    pub priority: u8,
+    /// 1, or 0 for none.
+    pub there: u8,
+}
+
+impl VlanTag {
+    pub const NONE: VlanTag = VlanTag {
+        priority: 0,
+        there: 0,
+    };
+}
+
 /// What a call answers, in one form for both sides.
 #[derive(Clone, Debug, PartialEq, Eq)]
 pub enum Answer {
@@ -78,14 +93,17 @@ pub enum Answer {
         slot: usize,
         number: u16,
         length: usize,
+        vlan: VlanTag,
     },
     Duplicate {
         slot: usize,
         number: u16,
+        vlan: VlanTag,
     },
     Rogue {
         slot: usize,
         number: u16,
+        vlan: VlanTag,
     },
     Opened(usize),
     Done,
@@ -101,53 +119,60 @@ pub enum Answer {
     Batch(Box<BatchAnswer>),
     /// The same.
     Prp(PrpAnswer),
-}
-
-impl From<nippitsun::Arrival> for Answer {
-    fn from(a: nippitsun::Arrival) -> Answer {
-        let (slot, number) = (a.slot, a.number);
-        match a.verdict {
-            nippitsun::Verdict::HandedUp { length } => Answer::HandedUp {
-                slot,
-                number,
-                length,
-            },
-            nippitsun::Verdict::Duplicate => Answer::Duplicate { slot, number },
-            nippitsun::Verdict::Rogue => Answer::Rogue { slot, number },
-        }
-    }
+    /// What no arrival may answer, in words. The second program has none of these.
+    Strange(String),
 }
 
 impl From<second::Arrival> for Answer {
     fn from(a: second::Arrival) -> Answer {
         let (slot, number) = (a.slot, a.number);
+        let vlan = VlanTag {
+            priority: a.priority,
+            there: a.vlan_tag.into(),
+        };
         match a.verdict {
             Verdict::HandedUp { length } => Answer::HandedUp {
                 slot,
                 number,
                 length,
+                vlan,
             },
-            Verdict::Duplicate => Answer::Duplicate { slot, number },
-            Verdict::Rogue => Answer::Rogue { slot, number },
+            Verdict::Duplicate => Answer::Duplicate { slot, number, vlan },
+            Verdict::Rogue => Answer::Rogue { slot, number, vlan },
         }
     }
 }
 
 impl Answer {
-    /// The answer to one frame of a batch; none, where it was not reached.
-    pub fn of_frame(a: &ArrivalAnswer) -> Option<Answer> {
-        let (slot, number, length) = (a.slot, a.number, a.length);
-        match (a.verdict, a.refusal) {
-            (0, 0) => None,
-            (archive::HANDED_UP, 0) => Some(Answer::HandedUp {
+    /// Of an arrival. A refusal that has more than its number is strange, and so are other verdicts than the three, and a length
+    /// where nothing was handed up.
+    fn of_arrival(told: ArrivalAnswer) -> Answer {
+        let (slot, number, length, refusal) = (told.slot, told.number, told.length, told.refusal);
+        let vlan = VlanTag {
+            priority: told.priority,
+            there: told.vlantag,
+        };
+        let alone = ArrivalAnswer {
+            refusal,
+            ..ArrivalAnswer::default()
+        };
+        match (told.verdict, refusal, length) {
+            (0, 1.., _) if told == alone => Answer::Refused(refusal),
+            (archive::HANDED_UP, 0, _) => Answer::HandedUp {
                 slot,
                 number,
                 length,
-            }),
-            (archive::DUPLICATE, 0) => Some(Answer::Duplicate { slot, number }),
-            (archive::ROGUE, 0) => Some(Answer::Rogue { slot, number }),
-            (_, refusal) => Some(Answer::Refused(refusal)),
+                vlan,
+            },
+            (archive::DUPLICATE, 0, 0) => Answer::Duplicate { slot, number, vlan },
+            (archive::ROGUE, 0, 0) => Answer::Rogue { slot, number, vlan },
+            _ => Answer::Strange(format!("{:?}", told)),
         }
+    }
+
+    /// The answer to one frame of a batch; none, where it was not reached and all is 0.
+    pub fn of_frame(told: &ArrivalAnswer) -> Option<Answer> {
+        (*told != ArrivalAnswer::default()).then(|| Answer::of_arrival(*told))
     }
 
     /// A refused open that has a slot is no refusal here, so that it differs from one.
@@ -226,11 +251,62 @@ pub struct Product {
     sender: Sender,
 }
 
+/// The two forms of an arrival: the archive's own call, and the receiver's.
+type ByArchive = fn(&mut [Stream], u8, &[u8], &mut [u8]) -> ArrivalAnswer;
+type ByReceiver =
+    fn(&mut Receiver, u8, &[u8], &mut [u8]) -> Result<nippitsun::Arrival, nippitsun::Refusal>;
+
 impl Product {
     /// The whole table.
     pub fn records(&self) -> &[Stream] {
         self.receiver.records()
     }
+
+    /// An arrival by the archive's own call, which tells every field. The receiver's must say and do the same: it has a copy.
+    fn arrived(
+        &mut self,
+        (by_archive, by_receiver): (ByArchive, ByReceiver),
+        network: u8,
+        frame: &[u8],
+        out: &mut [u8],
+    ) -> Answer {
+        let (mut copy, mut other_out) = (self.receiver.clone(), out.to_vec());
+        let told = by_archive(self.receiver.records_mut(), network, frame, out);
+        let answer = Answer::of_arrival(told);
+        // The receiver panics at an answer that is none.
+        if let Answer::Strange(_) = answer {
+            return answer;
+        }
+        let said = by_receiver(&mut copy, network, frame, &mut other_out);
+        if by_crate(said) != told || copy != self.receiver || other_out != out {
+            let (records, others) = (self.records(), copy.records());
+            let slot = (0..records.len()).find(|&slot| records[slot] != others[slot]);
+            let what = format!("the archive {:?}, the receiver {:?}", told, said);
+            return Answer::Strange(format!("{}, slot {:?} or the output", what, slot));
+        }
+        answer
+    }
+}
+
+/// What a receiver says of an arrival, as the archive has it.
+fn by_crate(said: Result<nippitsun::Arrival, nippitsun::Refusal>) -> ArrivalAnswer {
+    let mut told = ArrivalAnswer::default();
+    match said {
+        Ok(a) => {
+            told.slot = a.slot;
+            told.number = a.number;
+            (told.verdict, told.length) = match a.verdict {
+                nippitsun::Verdict::HandedUp { length } => (archive::HANDED_UP, length),
+                nippitsun::Verdict::Duplicate => (archive::DUPLICATE, 0),
+                nippitsun::Verdict::Rogue => (archive::ROGUE, 0),
+            };
+            if let Some(priority) = a.priority {
+                (told.priority, told.vlantag) = (priority.get(), 1);
+            }
+        }
+        Err(why) => told.refusal = why.number(),
+    }
+    told
 }
 
 impl Side for Product {
@@ -271,9 +347,13 @@ impl Side for Product {
     fn call(&mut self, call: Call, [out, second_out]: [&mut [u8]; 2]) -> Answer {
         let (r, index) = (&mut self.receiver, &mut self.index);
         let answer = match call {
-            Call::Arrival { network, frame } => r.arrival(network, frame, out).map(Answer::from),
+            Call::Arrival { network, frame } => {
+                let by: (ByArchive, ByReceiver) = (archive::arrival, Receiver::arrival);
+                Ok(self.arrived(by, network, frame, out))
+            }
             Call::LinkArrival { network, frame } => {
-                r.link_arrival(network, frame, out).map(Answer::from)
+                let by: (ByArchive, ByReceiver) = (archive::link_arrival, Receiver::link_arrival);
+                Ok(self.arrived(by, network, frame, out))
             }
             Call::Open(s) => Ok(Answer::of_open(archive::open(
                 r.records_mut(),
@@ -382,6 +462,7 @@ fn plain(answer: Option<Result<second::Arrival, second::Refusal>>) -> ArrivalAns
                 Verdict::Duplicate => (archive::DUPLICATE, 0),
                 Verdict::Rogue => (archive::ROGUE, 0),
             };
+            (told.priority, told.vlantag) = (a.priority, a.vlan_tag.into());
         }
         Some(Err(why)) => told.refusal = why.number(),
         None => {}

@@ -2,11 +2,12 @@
 //! only some.
 
 use second::event_file::{kind, MAX_BODY, SLOTS, VERSION};
-use second::generate::{open_body, open_wide_body, push_record, tagged, Key};
+use second::generate::{open_body, open_wide_body, push_record, tagged, tagged_with, Key};
 use second::Stream;
 
 const KEY: Key = ([2, 0, 0, 0, 0, 1], 0);
 const SOURCE: [u8; 6] = [2, 0, 0, 0, 0, 2];
+const TYPE: [u8; 2] = [0x08, 0x00];
 
 /// Name and bytes of each.
 pub fn files() -> Vec<(&'static str, Vec<u8>)> {
@@ -19,6 +20,8 @@ pub fn files() -> Vec<(&'static str, Vec<u8>)> {
         ("eight reset times up to 65535, run out", long_reset_times()),
         ("every kind, with right and wrong lengths", kinds()),
         ("every VLAN id", vlans()),
+        ("every VLAN tag, all 16 bits of it", vlan_tags()),
+        ("any 16 bits behind 8100 behind F1C1", hidden_tags()),
         (
             "every slot, in a table that is empty, filling and full",
             slots(),
@@ -43,6 +46,7 @@ pub fn small() -> Vec<u8> {
         &[kind::RESET, 0],
         &open_wide_body((KEY.0, 1), Stream::VECTOR, 258, 3),
         &tagged(0, (KEY.0, 5), 1),
+        &tagged_with(1, KEY.0, Some(0xB001), 7, &TYPE),
         &[kind::CLOSE, 0],
     ] {
         push_record(&mut file, body);
@@ -101,9 +105,9 @@ fn lengths() -> Vec<u8> {
         frame(&[0x81, 0, 0, 5, 0xF1, 0xC1, 0, 0], &[8, 0], length);
         frame(&[0x81, 0, 0xF0, 5, 0xF1, 0xC1, 0, 0], &[8, 0], length);
         frame(&[0x81, 0, 0, 0, 0xF1, 0xC1, 0, 0], &[8, 0], length);
-        // F1C1, or 8100 and id 5, behind F1C1.
+        // F1C1, or 8100, a priority and id 5, behind F1C1.
         frame(&[0xF1, 0xC1, 0, 0], &[0xF1, 0xC1, 0, 0, 0, 9], length);
-        frame(&[0xF1, 0xC1, 0, 0], &[0x81, 0, 0, 5], length);
+        frame(&[0xF1, 0xC1, 0, 0], &[0x81, 0, 0xA0, 5], length);
         // The reserved bytes are ignored.
         frame(&[0xF1, 0xC1, 0x81, 0], &[8, 0], length);
         frame(&[0xF1, 0xC1, 0xF1, 0xC1], &[8, 0], length);
@@ -244,6 +248,46 @@ fn vlans() -> Vec<u8> {
         }
         file.number(1, vlan);
         file.body(&[kind::CLOSE, 0]);
+    }
+    file.0
+}
+
+/// Each VLAN id with all 16 values of the bits above it: handed up, the other copy
+/// with other bits there, and rogues. No stream has the last id.
+fn vlan_tags() -> Vec<u8> {
+    let mut file = File::new();
+    for id in 0..4096 {
+        file.open((KEY.0, id), Stream::VECTOR, 64, 9);
+        let mut number = |network, high: u16, number| {
+            let tci = Some(high << 12 | id);
+            file.body(&tagged_with(network, KEY.0, tci, number, &TYPE));
+        };
+        for high in 0..16 {
+            number(0, high, high);
+            number(1, 15 - high, high);
+        }
+        number(0, id % 16, 1000);
+        file.body(&[kind::CLOSE, 0]);
+    }
+    file.0
+}
+
+/// Where F1C1 stands at 12 there is no VLAN tag: on one network 8100 and any 16
+/// bits come behind it, and the other copy has a tag with id 0 and some of them.
+fn hidden_tags() -> Vec<u8> {
+    let mut file = File::new();
+    file.open(KEY, Stream::VECTOR, 4, 9);
+    for tci in 0..=65535_u16 {
+        let [high, low] = tci.to_be_bytes();
+        let behind = [0x81, 0, high, low, 8, 0];
+        let first = tagged_with(0, KEY.0, None, tci, &behind);
+        let second = tagged_with(1, KEY.0, Some(tci & 0xF000), tci, &TYPE);
+        // Each network has every second number first.
+        let copies = match tci % 2 {
+            0 => [first, second],
+            _ => [second, first],
+        };
+        copies.iter().for_each(|copy| file.body(copy));
     }
     file.0
 }

@@ -16,6 +16,9 @@
 //! No event gives a frame to a virtual link. So such a stream is opened, reset,
 //! closed, and in the way of another with its key, and an arrival passes it over.
 //!
+//! A line of a frame that was handed up ends in the priority that the frame's own
+//! bytes say. One with another priority can't occur.
+//!
 //! A line of any other shape is a failure as well.
 
 use std::collections::BTreeMap;
@@ -50,6 +53,9 @@ fn expected() -> Vec<String> {
     // The match rule has no rogue.
     all.extend(["up", "dup"].map(|verdict| format!("A {verdict} match")));
     all.extend(["vector", "match"].map(|rule| format!("A up {rule}, through the wrap")));
+    all.extend((0..16).map(|high| up_with(Some(high))));
+    all.push(up_with(None));
+    all.extend(TAGS.map(String::from));
     all.extend([2, 3, 4, 5, 14, 6].map(|n| format!("A no {n}")));
     all.extend(["T 0 0", "T 1 0", "T 2.. 0", "bad"].map(String::from));
     all.extend(["version", "cut", "end"].map(String::from));
@@ -58,6 +64,25 @@ fn expected() -> Vec<String> {
     all.extend(windows.map(|window| format!("input: L = {window}")));
     all
 }
+
+/// What is handed up, by the four bits above the id of its VLAN tag: the priority,
+/// and the bit below it.
+fn up_with(high: Option<u8>) -> String {
+    match high {
+        Some(high) => format!("A up {}, bits {high:04b} in a VLAN tag", high / 2),
+        None => "A up 0, no VLAN tag".into(),
+    }
+}
+
+/// What is answered to frames with a priority above 0 in a VLAN tag, or in what
+/// looks like one.
+const TAGS: [&str; 5] = [
+    "A up, a priority and VLAN id 0",
+    "A up, a priority behind F1C1",
+    "A dup, a priority",
+    "A rogue, a priority",
+    "A no, a priority",
+];
 
 /// What is answered where a virtual link is there.
 const LINKS: [&str; 5] = [
@@ -130,6 +155,9 @@ impl Tally {
             if let Some(shape) = of_links(&words[1..], body, &links) {
                 self.count(shape, line);
             }
+            if let Some(shape) = of_tags(&words[1..], body) {
+                self.count(shape, line);
+            }
             let shape = match words[1..] {
                 [letter, "no", number] => format!("{letter} no {number}"),
                 ["C", "ok"] => {
@@ -146,17 +174,24 @@ impl Tally {
                     links[at] = (rule == Stream::LINK).then(|| destination(&body[1..]));
                     format!("O {slot}")
                 }
-                ["A", verdict, slot, number] => {
+                ["A", "up", slot, number, priority] => {
                     let (rule, last) = &mut slots[slot.parse::<usize>().unwrap_or(0) % SLOTS];
                     let (rule, number) = (name(*rule), number.parse::<i32>().unwrap_or(0));
-                    if verdict == "up" {
-                        let d = number - std::mem::replace(last, number);
-                        let through_the_wrap = d.abs() > 65536 - 512;
-                        if through_the_wrap {
-                            self.count(&format!("A up {rule}, through the wrap"), line);
-                        }
+                    let d = number - std::mem::replace(last, number);
+                    let through_the_wrap = d.abs() > 65536 - 512;
+                    if through_the_wrap {
+                        self.count(&format!("A up {rule}, through the wrap"), line);
                     }
-                    format!("A {verdict} {rule}")
+                    let high = high_bits(&body[2..]);
+                    let own = high.map_or(0, |high| high / 2).to_string();
+                    let known = own == priority;
+                    let with = if known { up_with(high) } else { line.into() };
+                    self.count(&with, line);
+                    format!("A up {rule}")
+                }
+                ["A", verdict @ ("dup" | "rogue"), slot, _] => {
+                    let (rule, _) = slots[slot.parse::<usize>().unwrap_or(0) % SLOTS];
+                    format!("A {verdict} {}", name(rule))
                 }
                 ["T", "0" | "1", _] => words[1..].join(" "),
                 ["T", _, damaged] => format!("T 2.. {damaged}"),
@@ -267,6 +302,38 @@ fn of_links(words: &[&str], body: &[u8], links: &[Option<[u8; 6]>; SLOTS]) -> Op
         ["A", "no", "6"] if body[14..16] != VLAN_MARK && is_to_link(&body[2..]) => {
             Some("A no 6, a link has the key")
         }
+        _ => None,
+    }
+}
+
+/// Which of [`TAGS`] a line is.
+fn of_tags(words: &[&str], body: &[u8]) -> Option<&'static str> {
+    let frame = match *body {
+        [kind::ARRIVAL, _, ref frame @ ..] => frame,
+        _ => return None,
+    };
+    let has = high_bits(frame).map_or(false, |high| high > 1);
+    match *words {
+        ["A", "up", ..] if has => {
+            let id_0 = frame[14] % 16 == 0 && frame[15] == 0;
+            id_0.then_some("A up, a priority and VLAN id 0")
+        }
+        ["A", "up", ..] => {
+            let behind = frame[12..14] == TAG_MARK && frame[18..20] == VLAN_MARK;
+            let has = frame.get(20).map_or(false, |high| *high >= 32);
+            (behind && has).then_some("A up, a priority behind F1C1")
+        }
+        ["A", "dup", ..] if has => Some("A dup, a priority"),
+        ["A", "rogue", ..] if has => Some("A rogue, a priority"),
+        ["A", "no", _] if has => Some("A no, a priority"),
+        _ => None,
+    }
+}
+
+/// The four bits above the id of a frame's VLAN tag.
+fn high_bits(frame: &[u8]) -> Option<u8> {
+    match frame {
+        [_, _, _, _, _, _, _, _, _, _, _, _, 0x81, 0x00, high, ..] => Some(high / 16),
         _ => None,
     }
 }

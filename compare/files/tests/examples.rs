@@ -6,7 +6,7 @@ use compare_files::cases::examples;
 use compare_files::tally::Tally;
 use compare_files::{first_difference, second_lines};
 use event_text::{decode, encode};
-use second::generate;
+use second::generate::{self, open_body, push_record, tagged_with};
 
 #[test]
 fn the_second_program_gives_the_stored_lines_of_every_example() {
@@ -35,6 +35,30 @@ fn rare_answers_and_strange_lines_are_told() {
     tally.file(&[1, 0, 1, 5], "1 T 0 1\nend\n");
     let last = tally.faults().pop();
     assert_eq!(last, Some("this can't occur: 1 T 0 1".into()));
+}
+
+#[test]
+fn up_lines_end_in_the_priority_of_their_frame_and_others_do_not() {
+    let mut file = vec![1];
+    push_record(&mut file, &open_body(([2; 6], 5), 1, 4, 3));
+    let tci = Some(0xB005);
+    push_record(&mut file, &tagged_with(0, [2; 6], tci, 7, &[8, 0]));
+    for (line, strange) in [
+        ("2 A up 0 7 5", false),
+        ("2 A up 0 7", true),
+        ("2 A up 0 7 4", true),
+        ("2 A up 0 7 05", true),
+        ("2 A up 0 7 1 5", true),
+        ("2 A dup 0 7", false),
+        ("2 A dup 0 7 5", true),
+        ("2 A rogue 0 7", false),
+        ("2 A rogue 0 7 5", true),
+    ] {
+        let mut tally = Tally::default();
+        tally.file(&file, &format!("1 O 0\n{line}\nend\n"));
+        let told = format!("this can't occur: {line}");
+        assert_eq!(tally.faults().contains(&told), strange, "{line}");
+    }
 }
 
 #[test]

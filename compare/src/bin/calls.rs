@@ -3,7 +3,7 @@
 //! have changed nothing.
 //!
 //!     calls                    the comparison, 4,000,000 calls, more sends in a row than there are numbers, every number of a
-//!                              virtual link behind every other, and PRP frames turned into tagged ones and back
+//!                              virtual link behind every other, every VLAN tag, and PRP frames turned into tagged ones and back
 //!     calls SEED COUNT         the same from another seed, or with fewer or more calls
 //!     calls wrong              each wrong variant of the second program that shows in calls alone must be found
 //!     calls cases COUNT        writes so many calls for compare/replay.c, with what they answer and leave
@@ -14,7 +14,7 @@
 #![forbid(unsafe_code)]
 
 use compare::cases::{self, Areas};
-use compare::{Answer, Call, Product, Second, Settings, Side};
+use compare::{Answer, Call, Product, Second, Settings, Side, VlanTag};
 use nippitsun::archive::{self, BatchAnswer, PrpAnswer, FRAMES_MOST};
 use nippitsun::{Counts, State, Stream};
 use second::random::Random;
@@ -620,7 +620,7 @@ fn frame(random: &mut Random, pool: &[u8], table: &[Stream], f: &mut [u8; 2100])
     }
     start(random, pool, f, length, destination);
     let mut at = 12;
-    if vlan != 0 || random.chance(1, 6) {
+    if vlan != 0 || random.chance(1, 4) {
         f[12..14].copy_from_slice(&[0x81, 0x00]);
         f[14..16].copy_from_slice(&(vlan & 0x0FFF | random.word() & 0xF000).to_be_bytes());
         at = 16;
@@ -633,7 +633,8 @@ fn frame(random: &mut Random, pool: &[u8], table: &[Stream], f: &mut [u8; 2100])
     }
     f[at + 4..at + 6].copy_from_slice(&number.to_be_bytes());
     match random.below(12) {
-        0 => f[at + 6..at + 10].copy_from_slice(&[0x81, 0x00, 0x00, 0x05]),
+        // A VLAN tag in what is handed up, where no other stands before it.
+        0 => f[at + 6..at + 10].copy_from_slice(&[0x81, 0x00, random.byte() & 0xF0, 0x05]),
         1 => f[at + 6..at + 8].copy_from_slice(&[0xF1, 0xC1]),
         _ => {}
     }
@@ -679,7 +680,8 @@ fn link_frame(random: &mut Random, pool: &[u8], table: &[Stream], f: &mut [u8; 2
     }
     start(random, pool, f, length, destination);
     // Tags, which mean nothing here.
-    let head = [0x81, 0x00, (vlan >> 8) as u8, vlan as u8, 0xF1, 0xC1];
+    let [high, low] = (vlan & 0x0FFF | random.word() & 0xF000).to_be_bytes();
+    let head = [0x81, 0x00, high, low, 0xF1, 0xC1];
     match random.below(8) {
         0 | 1 => f[12..16].copy_from_slice(&head[..4]),
         2 => f[12..18].copy_from_slice(&head),
@@ -1084,6 +1086,8 @@ const COUNTERS: [&str; 8] = [
     "lost",
     "resets",
 ];
+
+const VERDICTS: [&str; 3] = ["handed up", "duplicate", "rogue"];
 
 /// What must come up with group sources, beside refusal 14.
 const GROUPS: [&str; 5] = [
@@ -1659,7 +1663,7 @@ impl Histories {
             (_, &Answer::HandedUp { slot, number, .. }) => {
                 self.handed_up(number, &before[slot], &after[slot])
             }
-            (_, &Answer::Duplicate { slot, number }) => {
+            (_, &Answer::Duplicate { slot, number, .. }) => {
                 let s = &before[slot];
                 if s.rule == Stream::VECTOR_RULE {
                     let place = s.state.anchor.wrapping_sub(number);
@@ -1915,7 +1919,7 @@ impl Links {
         }
         let verdict = match *answer {
             Answer::HandedUp { slot, number, .. } => Some((slot, number, 0)),
-            Answer::Duplicate { slot, number } => Some((slot, number, 1)),
+            Answer::Duplicate { slot, number, .. } => Some((slot, number, 1)),
             _ => None,
         };
         if verdict.is_some() || matches!(answer, Answer::Refused(3 | 4)) {
@@ -2103,6 +2107,183 @@ impl Links {
             ("a close of a link", self.closed),
         ] {
             add(String::from(what), n);
+        }
+    }
+}
+
+/// The calls whose answers tell of a VLAN tag, with the refusals that their frames can meet.
+const TELLING: [(&str, &[usize]); 2] = [
+    ("an arrival", &[1, 2, 3, 4, 5, 14, 6, 7, 8]),
+    ("a frame of a batch", &[3, 4, 5, 14, 6, 7, 8]),
+];
+/// Those of a link arrival, but for 4: such a frame ends before the priority.
+const LINK_REFUSALS: [usize; 7] = [1, 2, 3, 14, 6, 7, 8];
+/// The four bits above the id of a VLAN tag, and no tag.
+const TAGS: usize = 17;
+
+/// What must come up with VLAN tags in the frames of arrivals. It is counted by the frame's bytes, and with a verdict only where
+/// the answer tells what they say.
+#[derive(Default)]
+struct Priorities {
+    /// By [`TELLING`], then [`VERDICTS`], then [`TAGS`].
+    tags: [[[u64; TAGS]; 3]; 2],
+    /// By [`TELLING`], then [`VERDICTS`]: tags with id 0 whose priority is 0, those with another one, and F1C1 at 12 with 8100 and a
+    /// priority above 0 behind it.
+    id_0_with_0: [[u64; 3]; 2],
+    id_0: [[u64; 3]; 2],
+    behind_f1c1: [[u64; 3]; 2],
+    /// By [`TELLING`], then the refusal, where the priority is above 0.
+    refused: [[u64; 15]; 2],
+    /// Of link arrivals, where 8100 and a priority above 0 stand at 12: handed up and duplicate, and by refusal.
+    links: [u64; 2],
+    links_refused: [u64; 15],
+    /// In a batch: not reached, with a priority above 0, and a frame with a verdict right behind another one.
+    not_reached: u64,
+    tag_behind_none: u64,
+    none_behind_tag: u64,
+    tag_behind_other: u64,
+}
+
+/// The four bits above the id of a frame's VLAN tag: the priority, and the bit below it.
+fn high_bits(frame: &[u8]) -> Option<u8> {
+    match type_place(frame) {
+        16 => frame.get(14).map(|byte| byte >> 4),
+        _ => None,
+    }
+}
+
+fn has_priority(frame: &[u8]) -> bool {
+    high_bits(frame).map_or(false, |bits| bits > 1)
+}
+
+/// What the answer to an arrival has to tell of a VLAN tag with these bits.
+fn tag_with(bits: Option<u8>) -> VlanTag {
+    bits.map_or(VlanTag::NONE, |bits| VlanTag {
+        priority: bits / 2,
+        there: 1,
+    })
+}
+
+impl Priorities {
+    /// A call and its answer.
+    fn note(&mut self, call: &Call, answer: &Answer) {
+        match (call, answer) {
+            (&Call::Arrival { frame, .. }, _) => self.arrival(0, frame, answer),
+            (&Call::LinkArrival { frame, .. }, _) => self.link(frame, answer),
+            (&Call::Batch { count, frames, .. }, Answer::Batch(told)) => {
+                let (frames, _) = frames_of(count, frames);
+                self.batch(&frames, told);
+            }
+            _ => {}
+        }
+    }
+
+    /// The answer to a frame of one of [`TELLING`].
+    fn arrival(&mut self, by: usize, frame: &[u8], answer: &Answer) {
+        let bits = high_bits(frame);
+        let (verdict, vlan) = match *answer {
+            Answer::HandedUp { vlan, .. } => (0, vlan),
+            Answer::Duplicate { vlan, .. } => (1, vlan),
+            Answer::Rogue { vlan, .. } => (2, vlan),
+            Answer::Refused(n) => {
+                self.refused[by][usize::from(n)] += u64::from(has_priority(frame));
+                return;
+            }
+            _ => return,
+        };
+        if vlan != tag_with(bits) {
+            return;
+        }
+        self.tags[by][verdict][bits.map_or(TAGS - 1, usize::from)] += 1;
+        if bits.is_some() && Key::of_tagged(frame).vlan == 0 {
+            let seen = match vlan.priority {
+                0 => &mut self.id_0_with_0,
+                _ => &mut self.id_0,
+            };
+            seen[by][verdict] += 1;
+        }
+        let behind = frame[12..14] == [0xF1, 0xC1] && frame[18..20] == [0x81, 0x00];
+        let has = frame.get(20).map_or(false, |byte| byte >> 5 > 0);
+        self.behind_f1c1[by][verdict] += u64::from(behind && has);
+    }
+
+    fn link(&mut self, frame: &[u8], answer: &Answer) {
+        let has = u64::from(has_priority(frame));
+        match *answer {
+            Answer::HandedUp { vlan, .. } if vlan == VlanTag::NONE => self.links[0] += has,
+            Answer::Duplicate { vlan, .. } if vlan == VlanTag::NONE => self.links[1] += has,
+            Answer::Refused(n) => self.links_refused[usize::from(n)] += has,
+            _ => {}
+        }
+    }
+
+    fn batch(&mut self, frames: &[&[u8]], told: &BatchAnswer) {
+        // Of the frame before, if it has a verdict.
+        let mut before: Option<VlanTag> = None;
+        for (frame, told) in frames.iter().zip(&told.answers) {
+            let answer = match Answer::of_frame(told) {
+                Some(answer) => answer,
+                None => {
+                    self.not_reached += u64::from(has_priority(frame));
+                    continue;
+                }
+            };
+            self.arrival(1, frame, &answer);
+            let own = tag_with(high_bits(frame));
+            let decided = !matches!(answer, Answer::Refused(_));
+            if let (Some(before), true) = (before, decided) {
+                let changed = u64::from(own != before);
+                match (before.there, own.there) {
+                    (0, _) => self.tag_behind_none += changed,
+                    (_, 0) => self.none_behind_tag += changed,
+                    _ => self.tag_behind_other += changed,
+                }
+            }
+            before = decided.then_some(own);
+        }
+    }
+
+    fn list(&self, list: &mut Vec<(String, u64)>) {
+        let mut add = |what: String, n| list.push((what, n));
+        for (by, (call, refusals)) in TELLING.iter().enumerate() {
+            for (v, verdict) in VERDICTS.iter().enumerate() {
+                let what = |tag: &str| format!("{}, {}: {}", call, verdict, tag);
+                for (bits, &n) in self.tags[by][v].iter().enumerate() {
+                    let tag = match bits {
+                        16 => String::from("no VLAN tag"),
+                        _ if bits % 2 == 0 => format!("priority {}", bits / 2),
+                        _ => format!("priority {} and the bit below it", bits / 2),
+                    };
+                    add(what(&tag), n);
+                }
+                add(what("VLAN id 0, priority 0"), self.id_0_with_0[by][v]);
+                add(what("VLAN id 0, another priority"), self.id_0[by][v]);
+                let behind = self.behind_f1c1[by][v];
+                add(what("8100 and a priority behind F1C1"), behind);
+            }
+            for &n in *refusals {
+                let what = format!("{} with a priority refused with {}", call, n);
+                add(what, self.refused[by][n]);
+            }
+        }
+        for (verdict, n) in VERDICTS.iter().zip(self.links) {
+            let what = format!("8100 and a priority in a link's frame, {}", verdict);
+            add(what, n);
+        }
+        for n in LINK_REFUSALS {
+            let what = format!("8100 and a priority in a link's frame refused with {}", n);
+            add(what, self.links_refused[n]);
+        }
+        for (what, n) in [
+            (
+                "a priority in a frame that is not reached",
+                self.not_reached,
+            ),
+            ("a VLAN tag behind a frame with none", self.tag_behind_none),
+            ("no VLAN tag behind a frame with one", self.none_behind_tag),
+            ("another priority behind a frame's", self.tag_behind_other),
+        ] {
+            add(format!("in a batch: {}", what), n);
         }
     }
 }
@@ -2368,6 +2549,7 @@ struct Seen {
     early: Early,
     histories: Histories,
     links: Links,
+    priorities: Priorities,
     indexes: Indexes,
 }
 
@@ -2554,7 +2736,7 @@ impl Early {
             (_, &Answer::HandedUp { slot, number, .. }) => {
                 self.handed_up(number, &before[slot], &after[slot])
             }
-            (_, &Answer::Duplicate { slot, number }) => {
+            (_, &Answer::Duplicate { slot, number, .. }) => {
                 self.duplicate_older += u64::from(is_older(number, &before[slot]));
                 self.verdict(&before[slot]);
             }
@@ -2697,6 +2879,7 @@ impl Seen {
             early: Early::default(),
             histories: Histories::default(),
             links: Links::default(),
+            priorities: Priorities::default(),
             indexes: Indexes::default(),
         }
     }
@@ -2713,6 +2896,7 @@ impl Seen {
         self.early.note(call, answer, before, after);
         self.histories.note(call, answer, before, after);
         self.links.note(call, answer, given, left);
+        self.priorities.note(call, answer);
         self.calls[kind] += 1;
         self.slots[before.len()] += 1;
         if let Call::Batch {
@@ -2743,10 +2927,12 @@ impl Seen {
             Answer::HandedUp { slot, number, .. } => {
                 self.arrived(call, 0, number, &before[slot], before)
             }
-            Answer::Duplicate { slot, number } => {
+            Answer::Duplicate { slot, number, .. } => {
                 self.arrived(call, 1, number, &before[slot], before)
             }
-            Answer::Rogue { slot, number } => self.arrived(call, 2, number, &before[slot], before),
+            Answer::Rogue { slot, number, .. } => {
+                self.arrived(call, 2, number, &before[slot], before)
+            }
             Answer::Ticked { resets, damaged } => {
                 self.ticked_reset += u64::from(resets > 0);
                 self.ticked_damaged += u64::from(damaged > 0);
@@ -2758,7 +2944,11 @@ impl Seen {
                     self.mended += u64::from(s.any != 0 && s.remaining != 0);
                 }
             }
-            Answer::Opened(_) | Answer::Tag { .. } | Answer::Batch(_) | Answer::Prp(_) => {}
+            Answer::Opened(_)
+            | Answer::Tag { .. }
+            | Answer::Batch(_)
+            | Answer::Prp(_)
+            | Answer::Strange(_) => {}
         }
         if from_group(call) {
             self.groups[0] += u64::from((kind, answer) == (0, &Answer::Refused(5)));
@@ -2806,9 +2996,8 @@ impl Seen {
                 ));
             }
         }
-        let verdicts = ["handed up", "duplicate", "rogue"];
         for (rule, name) in ["vector", "match", "link"].iter().enumerate() {
-            for (v, verdict) in verdicts.iter().enumerate() {
+            for (v, verdict) in VERDICTS.iter().enumerate() {
                 // The vector rule alone has a rogue.
                 if rule == 0 || v < 2 {
                     list.push((
@@ -2837,6 +3026,7 @@ impl Seen {
         self.early.list(&mut list);
         self.histories.list(&mut list);
         self.links.list(&mut list);
+        self.priorities.list(&mut list);
         self.indexes.list(&mut list);
         for slots in [0, 1, 63, 64, 65] {
             list.push((format!("calls on {} slots", slots), self.slots[slots]));
@@ -2971,6 +3161,32 @@ fn send_in_a_row() -> Result<(), String> {
     Ok(())
 }
 
+/// Both programs with the same table.
+struct Sides(Product, Second);
+
+impl Sides {
+    fn new(table: &[Stream]) -> Sides {
+        Sides(Product::new(table), Second::new(table))
+    }
+
+    /// Makes a call on both, with an output that is long enough for it. Answers, records and outputs must be equal.
+    fn call(&mut self, call: Call) -> Result<Answer, String> {
+        let Sides(product, second) = self;
+        let (mut a, mut b) = ([vec![0; 100], Vec::new()], [vec![0; 100], Vec::new()]);
+        let told = made(product, call, &mut a);
+        let other = made(second, call, &mut b);
+        let mut slots = 0..product.records().len();
+        let same = slots.all(|slot| product.record(slot) == second.record(slot));
+        if told != other || a != b || !same {
+            return Err(format!(
+                "DIFFERENT: {:x?}: product {:?}, second {:?}, or what they leave",
+                call, told, other
+            ));
+        }
+        Ok(told)
+    }
+}
+
 /// A virtual link that had this number last, or a fresh one.
 fn link_behind(last: Option<u8>) -> Stream {
     Stream {
@@ -3004,30 +3220,33 @@ fn link_numbers() -> Result<(), String> {
         }
         up += ahead.len();
         for number in 0..=255 {
-            let frame = [&DESTINATIONS[0][..], &[2; 8], &[number]].concat();
-            let (network, number) = (number % 2, number.into());
-            let call = Call::LinkArrival {
-                network,
-                frame: &frame,
-            };
-            let wanted = if ahead.contains(&(number as u8)) {
+            let wanted = if ahead.contains(&number) {
                 Answer::HandedUp {
                     slot: 0,
-                    number,
+                    number: number.into(),
                     length: 14,
+                    vlan: VlanTag::NONE,
                 }
             } else {
-                Answer::Duplicate { slot: 0, number }
+                Answer::Duplicate {
+                    slot: 0,
+                    number: number.into(),
+                    vlan: VlanTag::NONE,
+                }
             };
-            let table = [link_behind(last)];
-            let (mut product, mut second) = (Product::new(&table), Second::new(&table));
-            let (mut a, mut b) = ([vec![0; 15], Vec::new()], [vec![0; 15], Vec::new()]);
-            let told = made(&mut product, call, &mut a);
-            let other = made(&mut second, call, &mut b);
-            let same = told == other && a == b && product.record(0) == second.record(0);
-            if !same || told != wanted {
-                let what = format!("DIFFERENT: {} behind {:?} in a link", number, last);
-                return Err(format!("{}: {:?}, {:?}, {:?}", what, told, other, wanted));
+            // Where 8100 stands at 12, the number stands where a priority would.
+            for of_type in [[0x08, 0x00], [0x81, 0x00]] {
+                let frame = [&DESTINATIONS[0][..], &[2; 6], &of_type, &[number]].concat();
+                let call = Call::LinkArrival {
+                    network: number % 2,
+                    frame: &frame,
+                };
+                let mut sides = Sides::new(&[link_behind(last)]);
+                let told = sides.call(call)?;
+                if told != wanted {
+                    let what = format!("DIFFERENT: {} behind {:?} in a link", number, last);
+                    return Err(format!("{}: {:?}, not {:?}", what, told, wanted));
+                }
             }
         }
     }
@@ -3036,6 +3255,103 @@ fn link_numbers() -> Result<(), String> {
         up,
         257 * 256
     );
+    Ok(())
+}
+
+/// Any 16 bits behind 8100 at 12, and behind 8100 behind F1C1 at 12, where they are no VLAN tag: in single arrivals and a batch
+/// with each verdict, and in a virtual link, where they are none either. Each answer is the one that the bits ask for.
+fn vlan_tags() -> Result<(), String> {
+    let (to, mark, of_type) = (&DESTINATIONS[0][..], [0xF1, 0xC1, 0, 0, 0], [0x08, 0x00]);
+    for bits in 0..=u16::MAX {
+        let [high, low] = bits.to_be_bytes();
+        let tag = [0x81, 0x00, high, low];
+        let told_of = VlanTag {
+            priority: high / 32,
+            there: 1,
+        };
+        for (id, before, behind, vlan) in [
+            (bits % 4096, &tag[..], &of_type[..], told_of),
+            (0, &[], &[&tag[..], &of_type].concat(), VlanTag::NONE),
+        ] {
+            // Its last byte is the number of a virtual link.
+            let frame = |number: u8| [to, &[2; 6], before, &mark, &[number], behind].concat();
+            let (slot, length) = (0, frame(0).len() - 6);
+            let mut wanted = [(7, 0), (7, 1), (9, 2)].map(|(n, verdict)| {
+                let number = n.into();
+                let answer = match verdict {
+                    0 => Answer::HandedUp {
+                        slot,
+                        number,
+                        length,
+                        vlan,
+                    },
+                    1 => Answer::Duplicate { slot, number, vlan },
+                    _ => Answer::Rogue { slot, number, vlan },
+                };
+                (frame(n), answer)
+            });
+            // No stream may have this id.
+            if id > Stream::VLAN_MOST {
+                wanted = wanted.map(|(frame, _)| (frame, Answer::Refused(7)));
+            }
+            let table = [
+                Stream {
+                    vlan: id,
+                    rule: Stream::VECTOR_RULE,
+                    ..link_behind(None)
+                },
+                link_behind(None),
+            ];
+            let mut sides = Sides::new(&table);
+            let mut told = Vec::new();
+            for (frame, _) in &wanted {
+                told.push(Some(sides.call(Call::Arrival { network: 0, frame })?));
+            }
+            let mut frames = Vec::new();
+            for (frame, _) in &wanted {
+                frames.extend_from_slice(&(frame.len() as u16).to_be_bytes());
+                frames.extend_from_slice(frame);
+            }
+            let batch = Call::Batch {
+                network: 1,
+                count: wanted.len(),
+                frames: &frames,
+            };
+            if let Answer::Batch(answers) = Sides::new(&table).call(batch)? {
+                told.extend(answers.answers.iter().map(Answer::of_frame));
+            }
+            let wanted = wanted.map(|(_, answer)| Some(answer));
+            let (single, batch) = told.split_at(wanted.len());
+            let (reached, rest) = batch.split_at(batch.len().min(wanted.len()));
+            if single != wanted || reached != wanted || rest.iter().any(Option::is_some) {
+                let what = format!("DIFFERENT: {:04x}: {:?}, not {:?}", bits, told, wanted);
+                return Err(what);
+            }
+            let (number, vlan) = (0, VlanTag::NONE);
+            let in_link = [
+                Answer::HandedUp {
+                    slot: 1,
+                    number,
+                    length: length + 5,
+                    vlan,
+                },
+                Answer::Duplicate {
+                    slot: 1,
+                    number,
+                    vlan,
+                },
+            ];
+            for wanted in in_link {
+                let frame = &frame(7);
+                let told = sides.call(Call::LinkArrival { network: 0, frame })?;
+                if told != wanted {
+                    let what = format!("DIFFERENT: {:04x} in a link", bits);
+                    return Err(format!("{}: {:?}, not {:?}", what, told, wanted));
+                }
+            }
+        }
+    }
+    println!("any 16 bits behind 8100: priority and VLAN tag of single arrivals, batches and links are what they ask for");
     Ok(())
 }
 
@@ -3288,6 +3604,7 @@ fn run(seed: u64, count: u64, mut kept: Option<&mut Vec<u8>>) -> Result<Seen, St
 fn compare(seed: u64, count: u64) -> Result<(), String> {
     send_in_a_row()?;
     link_numbers()?;
+    vlan_tags()?;
     there_and_back(seed)?;
     let seen = run(seed, count, None)?;
     let list = seen.list();

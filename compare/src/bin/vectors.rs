@@ -1,5 +1,5 @@
 //! A fixed list of calls that are run and not proved, with what each answers and changes: document 01, "Run but not proved",
-//! and the places where a slip is likely, orders 1, 3 to 7, 9 and 10 of document 02 among them.
+//! and the places where a slip is likely, orders 1, 3 to 7 and 9 to 11 of document 02 among them.
 //!
 //!     vectors product    the list on the compiled product
 //!     vectors second     the list on the second program
@@ -10,7 +10,7 @@
 #![forbid(unsafe_code)]
 
 use compare::cases::{self, Areas};
-use compare::{Answer, Call, Product, Second, Settings, Side};
+use compare::{Answer, Call, Product, Second, Settings, Side, VlanTag};
 use nippitsun::archive::PLACES;
 use nippitsun::{dest_of, Counts, State, Stream};
 use std::fmt::Write as _;
@@ -45,6 +45,14 @@ fn tagged(number: u16) -> Tags {
     Tags {
         redundancy: Some((0, number)),
         ..PLAIN
+    }
+}
+
+/// The same with a VLAN tag that has these 16 bits.
+fn tagged_in(vlan: u16, number: u16) -> Tags {
+    Tags {
+        vlan: Some(vlan),
+        ..tagged(number)
     }
 }
 
@@ -306,6 +314,15 @@ fn shown_history(history: &[u64; 8]) -> String {
     }
 }
 
+/// What is told of a VLAN tag; nothing, where that is 0 and no.
+fn told_of(vlan: VlanTag) -> String {
+    match (vlan.there, vlan.priority) {
+        (0, 0) => String::new(),
+        (1, priority) => format!(", priority {}", priority),
+        (there, priority) => format!(", priority {}, VLAN tag {}", priority, there),
+    }
+}
+
 fn told(answer: &Answer) -> String {
     match *answer {
         Answer::Refused(n) => format!("no {}", n),
@@ -313,11 +330,18 @@ fn told(answer: &Answer) -> String {
             slot,
             number,
             length,
-        } => format!("up, slot {}, number {}, length {}", slot, number, length),
-        Answer::Duplicate { slot, number } => {
-            format!("duplicate, slot {}, number {}", slot, number)
+            vlan,
+        } => {
+            let told = format!("up, slot {}, number {}, length {}", slot, number, length);
+            told + &told_of(vlan)
         }
-        Answer::Rogue { slot, number } => format!("rogue, slot {}, number {}", slot, number),
+        Answer::Duplicate { slot, number, vlan } => {
+            format!("duplicate, slot {}, number {}", slot, number) + &told_of(vlan)
+        }
+        Answer::Rogue { slot, number, vlan } => {
+            format!("rogue, slot {}, number {}", slot, number) + &told_of(vlan)
+        }
+        Answer::Strange(ref what) => what.clone(),
         Answer::Opened(slot) => format!("slot {}", slot),
         Answer::Done => String::from("ok"),
         Answer::Ticked { resets, damaged } => format!("{} reset, {} damaged", resets, damaged),
@@ -2579,6 +2603,291 @@ impl<S: Side> List<S> {
             }
         }
     }
+
+    /// Each verdict on what comes of frames, where 100 is the last number: 101, 100 and 104.
+    fn each_verdict(&mut self, what: &str, records: &[Stream], frame: impl Fn(u16) -> Vec<u8>) {
+        for number in [101, 100, 104] {
+            self.table(records);
+            self.arrival(&format!("{}, {}", number, what), 0, &frame(number));
+        }
+    }
+
+    fn priorities(&mut self) {
+        let streams = [
+            running(),
+            Stream {
+                vlan: 5,
+                ..running()
+            },
+        ];
+        self.section("Priorities: the four bits above the id, in VLAN tags with id 5 and id 0, with each verdict, on running streams with VLAN 0 (slot 0) and VLAN 5 (slot 1)");
+        for id in [5, 0] {
+            for high in 0..16 {
+                let bits = high << 12 | id;
+                let what = format!("8100 {:04x}", bits);
+                self.each_verdict(&what, &streams, |n| frame(30, tagged_in(bits, n)));
+            }
+        }
+
+        self.section("Priorities: no bit of the id is one");
+        for id in [1, 7, 0x00E0, 0x00FF, 0x0100, 0x0800, 0x0E00, 4094] {
+            let record = Stream {
+                vlan: id,
+                ..running()
+            };
+            for bits in [id, id | 0x1000, id | 0x4000] {
+                let what = format!("8100 {:04x}", bits);
+                self.each_verdict(&what, &[record], |n| frame(30, tagged_in(bits, n)));
+            }
+        }
+
+        self.section("Priorities: F1C1 at 12, and so no VLAN tag, on the streams of the first of these lists");
+        let behind: [(&str, &[u8]); 9] = [
+            ("0800", &[8, 0]),
+            ("8100 a005 0800", &[0x81, 0, 0xA0, 5, 8, 0]),
+            ("8100 e000 0800", &[0x81, 0, 0xE0, 0, 8, 0]),
+            ("8100 f005 0800", &[0x81, 0, 0xF0, 5, 8, 0]),
+            ("8100 0005 0800", &[0x81, 0, 0, 5, 8, 0]),
+            ("8100 and the frame's end", &[0x81, 0]),
+            ("8100 a0 and the frame's end", &[0x81, 0, 0xA0]),
+            ("88a8 a005 0800", &[0x88, 0xA8, 0xA0, 5, 8, 0]),
+            ("8100 a005 8100 e005", &[0x81, 0, 0xA0, 5, 0x81, 0, 0xE0, 5]),
+        ];
+        for (what, behind) in behind {
+            let what = format!("F1C1 at 12, then {}", what);
+            self.each_verdict(&what, &streams, |n| {
+                let [high, low] = n.to_be_bytes();
+                let head = [0xF1, 0xC1, 0, 0, high, low];
+                behind_addresses(&[&head, behind].concat())
+            });
+        }
+        for reserved in [0x8100, 0xE000] {
+            let what = format!("reserved bytes {:04x}", reserved);
+            let redundancy = |n| Some((reserved, n));
+            self.each_verdict(&what, &streams, |n| {
+                let redundancy = redundancy(n);
+                frame(
+                    30,
+                    Tags {
+                        redundancy,
+                        ..PLAIN
+                    },
+                )
+            });
+        }
+
+        self.section("Priorities: what stands behind both tags is not told, on the same streams");
+        let behind: [(&str, &[u8]); 3] = [
+            ("8100 e005", &[0x81, 0, 0xE0, 5, 8, 0]),
+            ("F1C1", &[0xF1, 0xC1, 0xE0, 0, 0xE0, 0, 8, 0]),
+            ("0800", &[8, 0]),
+        ];
+        for (what, behind) in behind {
+            let what = format!("8100 a005 F1C1, then {}", what);
+            self.each_verdict(&what, &streams, |n| {
+                let [high, low] = n.to_be_bytes();
+                let head = [0x81, 0, 0xA0, 5, 0xF1, 0xC1, 0xFF, 0xFF, high, low];
+                behind_addresses(&[&head, behind].concat())
+            });
+        }
+
+        self.section("Priorities: each copy tells its own, where the two differ");
+        let tags = [
+            ("no tag", tagged(101)),
+            ("8100 0000", tagged_in(0, 101)),
+            ("8100 a000", tagged_in(0xA000, 101)),
+            ("8100 f000", tagged_in(0xF000, 101)),
+        ];
+        let matching = Stream {
+            rule: Stream::MATCH_RULE,
+            state: State {
+                history: low(0),
+                ..running().state
+            },
+            ..running()
+        };
+        for (which, record) in [
+            ("vector", running()),
+            ("match", matching),
+            ("fresh", fresh()),
+        ] {
+            for (place, (what, first)) in tags.iter().enumerate() {
+                self.one(record);
+                self.arrival(&format!("{}, {}", which, what), 0, &frame(30, *first));
+                let (what, second) = tags[(place + 1) % tags.len()];
+                self.arrival(&format!("then {}", what), 1, &frame(30, second));
+            }
+        }
+
+        self.section("Priorities: refused frames with a VLAN tag tell none; the last ones have an output one byte too small, and of just the size");
+        let damaged = [Stream {
+            vlan: 5,
+            window: 513,
+            ..running()
+        }];
+        let bits = tagged_in(0xE005, 101);
+        let plain = Tags {
+            redundancy: None,
+            ..bits
+        };
+        let mut long = vec![Stream::default(); 65];
+        long[0] = streams[1];
+        let sources = from_source(3, frame(30, bits));
+        for (what, table, network, f) in [
+            ("65 slots", &long[..], 0, frame(30, bits)),
+            ("network 2", &streams[..], 2, frame(30, bits)),
+            ("2001 bytes", &streams, 0, frame(2001, bits)),
+            ("15 bytes", &streams, 0, frame(15, bits)),
+            ("16 bytes", &streams, 0, frame(16, bits)),
+            ("18 bytes", &streams, 0, frame(18, bits)),
+            ("23 bytes", &streams, 0, frame(23, bits)),
+            ("no F1C1", &streams, 0, frame(30, plain)),
+            ("group source", &streams, 0, sources),
+            ("VLAN 6", &streams, 0, frame(30, tagged_in(0xE006, 101))),
+            ("VLAN 4095", &streams, 0, frame(30, tagged_in(0xEFFF, 101))),
+            ("damaged", &damaged, 0, frame(30, bits)),
+        ] {
+            self.table(table);
+            self.arrival(what, network, &f);
+        }
+        for number in [101, 100, 104] {
+            let f = frame(30, tagged_in(0xA005, number));
+            for room in [23, 24] {
+                self.table(&streams);
+                let what = format!("arrival, {}, 30 bytes, output of {}", number, room);
+                let call = Call::Arrival {
+                    network: 0,
+                    frame: &f,
+                };
+                self.call(&what, call, room);
+            }
+        }
+    }
+
+    fn priorities_in_batches(&mut self) {
+        self.section("Priorities: in batches each frame tells its own, on running streams with VLAN 0 (slot 0), VLAN 5 (slot 1) and a damaged one with VLAN 6");
+        let streams = [
+            running(),
+            Stream {
+                vlan: 5,
+                ..running()
+            },
+            Stream {
+                vlan: 6,
+                window: 513,
+                ..running()
+            },
+        ];
+        let hidden = behind_addresses(&[0xF1, 0xC1, 0, 0, 0, 103, 0x81, 0, 0xE0, 5, 8, 0]);
+        let without = Tags {
+            redundancy: None,
+            ..tagged_in(0xE005, 0)
+        };
+        let group = from_source(3, frame(24, tagged_in(0xE005, 103)));
+        let mixed = [
+            ("5", frame(24, tagged_in(0xA005, 101))),
+            ("none", frame(24, tagged(101))),
+            ("3, and the first number", frame(24, tagged_in(0x6005, 101))),
+            ("0", frame(24, tagged_in(0x0005, 102))),
+            ("7, and no F1C1", frame(24, without)),
+            ("none", frame(24, tagged(102))),
+            ("7, and a group source", group),
+            (
+                "2 and the bit below, VLAN 0",
+                frame(24, tagged_in(0x5000, 102)),
+            ),
+            ("7, and a damaged stream", frame(24, tagged_in(0xE006, 103))),
+            ("1, and a rogue", frame(24, tagged_in(0x2005, 900))),
+            ("none, 8100 behind F1C1", hidden),
+            ("none, and a rogue", frame(24, tagged(900))),
+            ("7, and 23 bytes", frame(23, tagged_in(0xE005, 103))),
+            ("4 and the bit below", frame(24, tagged_in(0x9005, 103))),
+        ];
+        for (what, f) in &mixed {
+            self.table(&streams);
+            self.batch_here(what, 1, 1, &packed(std::slice::from_ref(f)), 60);
+        }
+        let frames = mixed.map(|(_, f)| f);
+        let (count, input) = (frames.len(), packed(&frames));
+        // What is handed up takes 20 bytes each.
+        for room in [120, 119, 60, 59, 20, 19, 0] {
+            self.table(&streams);
+            self.batch_here("all of these in turn", 0, count, &input, room);
+        }
+        let all: Vec<Vec<u8>> = (0..32)
+            .map(|n| frame(24, tagged_in(n << 12 | 5, 101 + n)))
+            .collect();
+        for room in [700, 600, 30] {
+            self.table(&streams);
+            let what = "32 frames, the four bits above the id from 0 on, twice";
+            self.batch_here(what, 0, 32, &packed(&all), room);
+        }
+        self.section("Priorities: batches that are refused tell none");
+        for (what, network, count, input) in [
+            ("network 2", 2, count, &input[..]),
+            ("33 frames", 0, 33, &input),
+            ("one byte cut", 0, count, &input[..input.len() - 1]),
+        ] {
+            self.table(&streams);
+            self.batch_here(what, network, count, input, 200);
+        }
+        self.table_with(&streams, &index_of(0, &[]));
+        self.batch_here("an index of zeros", 0, count, &input, 200);
+        self.table(&vec![streams[1]; 65]);
+        self.batch_here("65 slots", 0, count, &input, 200);
+    }
+
+    fn priorities_in_links(&mut self) {
+        self.section("Priorities: a virtual link's arrival tells none, beside a running stream with VLAN 5 (slot 1)");
+        let other = Stream {
+            vlan: 5,
+            ..running()
+        };
+        for bits in [0x0005, 0x1005, 0xA005, 0xE000, 0xF005] {
+            let vlan = Some(bits);
+            for (kind, redundancy) in [("8100", None), ("8100 F1C1", Some((0, 101)))] {
+                for (verdict, number) in [("new", 9), ("duplicate", 8)] {
+                    let f = ending(number, frame(30, Tags { vlan, redundancy }));
+                    self.table(&[link(8), other]);
+                    let what = format!("{}, {} with {:04x}", verdict, kind, bits);
+                    self.link_arrival(&what, 0, &f, 2000);
+                }
+            }
+            let f = frame(30, tagged_in(bits, 101));
+            self.table(&[link(8), other]);
+            self.arrival(&format!("8100 F1C1 with {:04x}", bits), 0, &f);
+        }
+        // The number stands where a priority would.
+        for number in [0x20, 0x80, 0xA0, 0xE0, 0xFF] {
+            let f = behind_addresses(&[0x81, 0, number]);
+            self.one(link(8));
+            let what = format!("15 bytes, 8100 and the number {}", number);
+            self.link_arrival(&what, 0, &f, 2000);
+        }
+        let tags = Tags {
+            redundancy: None,
+            ..tagged_in(0xE000, 0)
+        };
+        for (what, table, network, f, room) in [
+            ("65 slots", &vec![link(8); 65][..], 0, frame(30, tags), 2000),
+            ("network 2", &[link(8)], 2, frame(30, tags), 2000),
+            ("2001 bytes", &[link(8)], 0, frame(2001, tags), 2000),
+            ("14 bytes", &[link(8)], 0, frame(14, tags), 2000),
+            (
+                "group source",
+                &[link(8)],
+                0,
+                from_source(3, frame(30, tags)),
+                2000,
+            ),
+            ("no such link", &[other], 0, frame(30, tags), 2000),
+            ("damaged", &[link(256)], 0, frame(30, tags), 2000),
+            ("output of 28", &[link(8)], 0, frame(30, tags), 28),
+        ] {
+            self.table(table);
+            self.link_arrival(&format!("8100 e000, {}", what), network, &f, room);
+        }
+    }
 }
 
 fn full_counts() -> Counts {
@@ -2599,7 +2908,7 @@ fn run<S: Side>() -> List<S> {
         side: S::new(&[]),
         slots: 0,
         cases: Vec::new(),
-        lines: String::from("# A call, its answer, and all that it changed; A>B: the field was A and is B. A stream has L = 4 and R = 3 where nothing else is said. A history is shown by the words that it needs, the highest in front. The index is the rebuilt one where nothing else is said, with its places from 0 to 127; 0 is an empty place, and k + 1 names slot k.\n"),
+        lines: String::from("# A call, its answer, and all that it changed; A>B: the field was A and is B. A stream has L = 4 and R = 3 where nothing else is said. A history is shown by the words that it needs, the highest in front. The index is the rebuilt one where nothing else is said, with its places from 0 to 127; 0 is an empty place, and k + 1 names slot k. An arrival whose answer has no priority tells 0, and that no VLAN tag was there; with one, that a tag was.\n"),
     };
     list.frames();
     list.other_frames();
@@ -2629,6 +2938,9 @@ fn run<S: Side>() -> List<S> {
     list.link_frames();
     list.link_records();
     list.families();
+    list.priorities();
+    list.priorities_in_batches();
+    list.priorities_in_links();
     list
 }
 
