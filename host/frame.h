@@ -22,7 +22,8 @@ struct frame {
     uint8_t *at; // in the ring, or in the port's own place; there is room for a VLAN tag before it
 };
 
-// The kernel has taken the VLAN tag out of the frame, and says so in `status`: puts it back. Without it the key would have VLAN id 0.
+// The kernel has taken the VLAN tag out of the frame, and says so in `status`: puts all of it back. Without it the key would have VLAN id
+// 0, and the frame no priority. A tag of zeros is one too: VLAN id 0 with priority 0.
 static inline void frame_put_tag_back(struct frame *f, uint32_t status, uint16_t mark, uint16_t tag)
 {
     if (!(status & TP_STATUS_VLAN_VALID) || f->length < TYPE_AT) return;

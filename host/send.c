@@ -1,7 +1,7 @@
 // send: the frames of a stream on two network interfaces, numbered and tagged by the proved sender, with losses and skew; or of
 // many streams by the clock; with tags, or with the trailers of a PRP line. Or the frames of virtual links, which are numbered here:
-// no proved sender does it. Each frame carries its index, so that a test can tell which came through. A copy that can't be sent is
-// dropped, and the other network's goes out all the same.
+// no proved sender does it. Each frame carries its index, so that a test can tell which came through, and may carry a priority that
+// follows from it. A copy that can't be sent is dropped, and the other network's goes out all the same.
 #include "clock.h"
 #include "host.h"
 #include "nippitsun.h"
@@ -42,7 +42,8 @@ enum { LINK_NUMBER = 1, LINK_LAST = 255 };
 static const char usage[] =
     "usage: send [OPTION].. INTERFACE0 INTERFACE1\n"
     "  --dest DEST    destination address in hex (020000000001)\n"
-    "  --vlan ID      put a VLAN tag in; none without this option\n"
+    "  --vlan ID      put a VLAN tag in; none without this option, but for --priority\n"
+    "  --priority P   the VLAN tag's priority, 0 to 7 (0), or each: that of an index is the index modulo 8. Without --vlan the tag has VLAN id 0\n"
     "  --first N      the first index (0); the sender begins with N modulo 65536 as its number, or with the number of the N-th frame behind a start (--afdx)\n"
     "  --count N      indices to send (1000)\n"
     "  --restart N    after every N indices the sender is reset: the next frame has number 0, and indices go on; and\n"
@@ -60,9 +61,13 @@ static const char usage[] =
     "    --unequal N  network 0 loses every N-th index\n"
     "  --help         print this text\n";
 
+// Priorities in a VLAN tag, and the bit that they begin at; what stands for one that follows from the index, and for none asked for.
+enum { PRIORITIES = 8, PRIORITY_AT = 13, EACH = PRIORITIES, NOT_ASKED = -1 };
+
 struct plan {
     uint8_t dest[ADDRESS];
-    int vlan, lossless, alone; // alone: the only network; -1: both
+    int vlan, priority;        // vlan: -1 is no VLAN tag
+    int lossless, alone;       // alone: the only network; -1: both
     int prp;                   // the kind of trailer (enum nippitsun_prp), or NO_PRP
     int afdx;
     uint64_t first, indices, restart, skew, seed, streams, unequal; // restart: indices from one reset of the sender to the next
@@ -95,18 +100,28 @@ static int is_lost(uint64_t seed, int network, uint64_t index)
     return index % BLOCK == (network == 0 ? on0 : on1);
 }
 
-static size_t make_frame(uint8_t *frame, const uint8_t *dest, int vlan, size_t size)
+// The VLAN tag of a frame without its mark, or -1: none. The bit between priority and VLAN id is 0. Streams differ in the VLAN id, and
+// virtual links in the address.
+static int tag_of(const struct plan *p, uint64_t stream, uint64_t index)
+{
+    if (p->vlan < 0) return -1;
+    int priority = p->priority == EACH ? (int)(index % PRIORITIES) : p->priority;
+    return priority << PRIORITY_AT | (p->afdx ? p->vlan : p->vlan + (int)stream);
+}
+
+// Answers where the index is to stand.
+static size_t make_frame(uint8_t *frame, const uint8_t *dest, int tag, size_t size)
 {
     static const uint8_t source[ADDRESS] = {2, 0, 0, 0, 0, 2};
     size_t at = TYPE_AT;
     memset(frame, 0, size);
     memcpy(frame, dest, ADDRESS);
     memcpy(frame + ADDRESS, source, ADDRESS);
-    if (vlan >= 0) {
+    if (tag >= 0) {
         frame[at] = 0x81;
         frame[at + 1] = 0x00;
-        frame[at + 2] = (uint8_t)(vlan >> 8);
-        frame[at + 3] = (uint8_t)vlan;
+        frame[at + 2] = (uint8_t)(tag >> 8);
+        frame[at + 3] = (uint8_t)tag;
         at += VLAN_TAG;
     }
     frame[at] = 0x88;
@@ -175,12 +190,10 @@ static const uint8_t *copy_for(const struct plan *p, int network, uint64_t place
     if (!is_first) return later;
     uint64_t stream = place % p->streams, index = p->first + place / p->streams;
     uint8_t plain[NIPPITSUN_UNTAGGED_MOST];
-    // Streams differ in the VLAN id, and virtual links in the address.
     uint8_t dest[ADDRESS];
     memcpy(dest, p->dest, ADDRESS);
     if (p->afdx) dest[ADDRESS - 1] = (uint8_t)(dest[ADDRESS - 1] + stream);
-    int vlan = p->vlan < 0 || p->afdx ? p->vlan : p->vlan + (int)stream;
-    size_t index_at = make_frame(plain, dest, vlan, p->size);
+    size_t index_at = make_frame(plain, dest, tag_of(p, stream, index), p->size);
     for (int i = 0; i < INDEX_BYTES; i++) plain[index_at + i] = (uint8_t)(index >> 8 * (INDEX_BYTES - 1 - i));
     uint8_t *out0 = network == 0 ? now : later, *out1 = network == 0 ? later : now;
     if (p->afdx) {
@@ -319,6 +332,13 @@ static uint64_t dropped_of_each(const struct plan *p, int network)
     return (lines[network].sent + lines[network].dropped) / p->streams - sent_of_each(p, network);
 }
 
+static int read_priority(const char *text)
+{
+    if (strcmp(text, "each") == 0) return EACH;
+    if (text[0] < '0' || text[0] >= '0' + PRIORITIES || text[1] != 0) refuse("--priority is 0 to %d, or each", PRIORITIES - 1);
+    return text[0] - '0';
+}
+
 int main(int count, char **words)
 {
     hold_descriptors();
@@ -330,15 +350,16 @@ int main(int count, char **words)
         {"size", required_argument, NULL, 'z'},    {"network", required_argument, NULL, 'w'}, {"skew", required_argument, NULL, 'k'},
         {"lossless", no_argument, NULL, 'n'},      {"seed", required_argument, NULL, 's'},    {"every", required_argument, NULL, 'e'},
         {"apart", required_argument, NULL, 'a'},   {"streams", required_argument, NULL, 'm'}, {"unequal", required_argument, NULL, 'u'},
-        {"prp", required_argument, NULL, 'p'},     {"afdx", no_argument, NULL, 'x'},          {"help", no_argument, NULL, 'h'},
-        {NULL, 0, NULL, 0},
+        {"prp", required_argument, NULL, 'p'},     {"afdx", no_argument, NULL, 'x'},          {"priority", required_argument, NULL, 'y'},
+        {"help", no_argument, NULL, 'h'},          {NULL, 0, NULL, 0},
     };
     const uint64_t hour = UINT64_C(3600000000);
-    struct plan p = {{2, 0, 0, 0, 0, 1}, .vlan = -1, .alone = -1, .prp = NO_PRP, .indices = 1000, .skew = 16, .seed = 1, .streams = 1, .size = 60};
+    struct plan p = {{2, 0, 0, 0, 0, 1}, .vlan = -1, .priority = NOT_ASKED, .alone = -1, .prp = NO_PRP, .indices = 1000, .skew = 16, .seed = 1, .streams = 1, .size = 60};
     for (int o; (o = getopt_long(count, words, "", options, NULL)) != -1;) {
         switch (o) {
         case 'd': read_address(optarg, p.dest); break;
         case 'v': p.vlan = (int)read_number("VLAN id", optarg, 0, 4095); break;
+        case 'y': p.priority = read_priority(optarg); break;
         case 'f': p.first = read_number("first", optarg, 0, INT64_MAX); break;
         case 'c': p.indices = read_number("count", optarg, 1, INT32_MAX); break;
         case 'r': p.restart = read_number("restart", optarg, 1, INT32_MAX); break;
@@ -363,9 +384,13 @@ int main(int count, char **words)
     }
     if (p.every == 0 && (p.apart != 0 || p.streams != 1 || p.unequal != 0)) refuse("--apart, --streams and --unequal go with --every");
     if (p.afdx && p.prp != NO_PRP) refuse("--prp and --afdx: a frame of a virtual link has no trailer");
+    if (p.afdx && p.priority != NOT_ASKED && p.vlan < 0) refuse("--priority with --afdx needs --vlan: a frame of a virtual link has no VLAN tag without it");
     if (p.afdx && p.dest[ADDRESS - 1] + p.streams - 1 > UINT8_MAX) refuse("--streams with --afdx needs room for as many addresses in the last byte of --dest");
     if (!p.afdx && p.streams > 1 && (p.vlan < 0 || p.vlan + (int)p.streams - 1 > NIPPITSUN_VLAN_MOST))
         refuse("--streams needs --vlan, and room for as many ids");
+    // A priority needs a tag to stand in, and a tag has one.
+    if (p.priority != NOT_ASKED && p.vlan < 0) p.vlan = 0;
+    if (p.priority == NOT_ASKED) p.priority = 0;
     if (p.restart == 0 && p.silent != 0) refuse("--silent goes with --restart");
     if (p.restart >= p.indices) refuse("--restart %" PRIu64 " is never reached: --count is %" PRIu64, p.restart, p.indices);
     if (p.restart == 0) p.restart = p.indices;

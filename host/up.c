@@ -11,9 +11,13 @@
 #include <sys/stat.h>
 #include <unistd.h>
 
-// Bytes of the forms of a frame: at most, before the digits of a line and with its end, and before a raw frame; and of any form at least,
+// Bytes of the forms of a frame: at most, before the digits of a line and behind them, and before a raw frame; and of any form at least,
 // since a frame has two addresses and a type.
 enum { BESIDE_LINE = 32, BESIDE_RAW = 2, LONGEST = 2 * NIPPITSUN_FRAME_MOST + BESIDE_LINE, SHORTEST = BESIDE_RAW + TYPE_AT + 2 };
+
+// The largest slot, number and length, and the priority, with the bytes that end these texts in C.
+_Static_assert(NIPPITSUN_SLOTS_MOST <= 100 && NIPPITSUN_FRAME_MOST <= 9999, "the digits of a slot and of a length");
+_Static_assert(sizeof "99 65535 9999 " + sizeof " 7\n" <= BESIDE_LINE, "the longest line has room");
 
 // ---- standard output, so that no write waits
 
@@ -73,6 +77,9 @@ static size_t write_line(uint8_t *at, nippitsun_arrival_answer a, const uint8_t 
         *to++ = (uint8_t)digits[frame[i] >> 4];
         *to++ = (uint8_t)digits[frame[i] & 15];
     }
+    // Last, so that whoever takes the first four fields goes on as before.
+    *to++ = ' ';
+    *to++ = (uint8_t)(a.vlantag ? '0' + a.priority : '-');
     *to++ = '\n';
     return (size_t)(to - at);
 }

@@ -22,7 +22,7 @@ static const char usage[] =
     "  --alarm MS                  say so when a stream has arrivals on one network and for MS milliseconds none on the other, none on either, or none that is handed up; or when few second copies come (1000; 0: never)\n"
     "  --stats FILE                write all counters to FILE each second, in the text form that Prometheus reads\n"
     "  --quiet MS                  end after MS milliseconds without a frame\n"
-    "  --give lines|raw|nothing    frames handed up: 'SLOT NUMBER LENGTH HEX', or two bytes of length and the frame (lines)\n"
+    "  --give lines|raw|nothing    frames handed up: 'SLOT NUMBER LENGTH HEX PRIORITY', PRIORITY being the VLAN tag's, 0 to 7, or - where there is none; or two bytes of length and the frame (lines)\n"
     "  --check                     read all words, say whether they are good, and open nothing\n"
     "  --version                   print the version\n"
     "  --help                      print this text\n";

@@ -1,6 +1,6 @@
 // flood: frames on each interface at the highest rate that the machine gives, one thread an interface, until a signal or for
 // some time. They are foreign (untagged broadcasts, or untagged to a stream's address), or frames of a stream with the redundancy
-// tag and rising numbers, as its sender or as a faulty tap sends them.
+// tag and rising numbers, as its sender or as a faulty tap sends them, and with priorities in their VLAN tags that follow from the numbers.
 #include "clock.h"
 #include "host.h"
 #include "nippitsun.h"
@@ -23,6 +23,7 @@ static const char usage[] =
     "  --stream DEST,VLAN   frames of this stream with F1C1 and a number; without it untagged broadcasts\n"
     "  --untagged           without F1C1 and a number: foreign frames to the stream's address\n"
     "  --reflected          with a group source\n"
+    "  --priorities         number N has priority N modulo 8 in its VLAN tag, and the bit behind that where N / 8 is odd; with VLAN id 0 too\n"
     "  --count N            so many on each interface; without it until SIGTERM\n"
     "  --rate N             so many a second on each interface, in bursts of 64; without it as fast as can be\n"
     "  --help               print this text\n";
@@ -35,7 +36,7 @@ struct line {
 };
 
 static uint8_t dest[ADDRESS] = {0xFF, 0xFF, 0xFF, 0xFF, 0xFF, 0xFF};
-static int vlan = -1, untagged, reflected;
+static int vlan = -1, untagged, reflected, priorities;
 static uint64_t most = UINT64_MAX, rate;
 static volatile sig_atomic_t asked_to_end;
 
@@ -45,6 +46,12 @@ static void ask_to_end(int signal)
     asked_to_end = 1;
 }
 
+// Is there a VLAN tag?
+static int has_tag(void)
+{
+    return vlan > 0 || (vlan == 0 && priorities);
+}
+
 static size_t make(uint8_t frame[SIZE + VLAN_TAG + NIPPITSUN_TAG_LENGTH])
 {
     uint8_t plain[SIZE + VLAN_TAG] = {0};
@@ -52,7 +59,7 @@ static size_t make(uint8_t frame[SIZE + VLAN_TAG + NIPPITSUN_TAG_LENGTH])
     plain[ADDRESS] = 2;
     plain[2 * ADDRESS - 1] = 3;
     size_t at = TYPE_AT, length = SIZE;
-    if (vlan > 0) {
+    if (has_tag()) {
         plain[at++] = 0x81;
         plain[at++] = 0;
         plain[at++] = (uint8_t)(vlan >> 8);
@@ -68,6 +75,14 @@ static size_t make(uint8_t frame[SIZE + VLAN_TAG + NIPPITSUN_TAG_LENGTH])
     return length;
 }
 
+static void number(uint8_t *frame, uint64_t n)
+{
+    size_t at = has_tag() ? TYPE_AT + VLAN_TAG + 4 : TYPE_AT + 4;
+    frame[at] = (uint8_t)(n >> 8);
+    frame[at + 1] = (uint8_t)n;
+    if (priorities) frame[TYPE_AT + 2] = (uint8_t)((n & 7) << 5 | (n >> 3 & 1) << 4 | (unsigned)vlan >> 8);
+}
+
 static void *send_all(void *given)
 {
     struct line *l = given;
@@ -80,13 +95,9 @@ static void *send_all(void *given)
         messages[i].msg_hdr.msg_iov = &parts[i];
         messages[i].msg_hdr.msg_iovlen = 1;
     }
-    size_t number_at = vlan > 0 ? TYPE_AT + VLAN_TAG + 4 : TYPE_AT + 4;
     int64_t start = clock_now();
     while (!asked_to_end && l->sent < most) {
-        for (int i = 0; vlan >= 0 && !untagged && i < AT_ONCE; i++) {
-            frames[i][number_at] = (uint8_t)((l->sent + (uint64_t)i) >> 8);
-            frames[i][number_at + 1] = (uint8_t)(l->sent + (uint64_t)i);
-        }
+        for (int i = 0; vlan >= 0 && !untagged && i < AT_ONCE; i++) number(frames[i], l->sent + (uint64_t)i);
         unsigned now = most - l->sent < AT_ONCE ? (unsigned)(most - l->sent) : AT_ONCE;
         int got = sendmmsg(l->port, messages, now, 0);
         if (got < 0 && errno != ENOBUFS && errno != EAGAIN && errno != EINTR && errno != ENETDOWN) fail(l->interface);
@@ -103,8 +114,8 @@ int main(int count, char **words)
     hold_descriptors();
     static const struct option options[] = {
         {"stream", required_argument, NULL, 's'}, {"untagged", no_argument, NULL, 'u'},  {"reflected", no_argument, NULL, 'g'},
-        {"count", required_argument, NULL, 'c'},  {"rate", required_argument, NULL, 'r'}, {"help", no_argument, NULL, 'h'},
-        {NULL, 0, NULL, 0},
+        {"count", required_argument, NULL, 'c'},  {"rate", required_argument, NULL, 'r'}, {"priorities", no_argument, NULL, 'p'},
+        {"help", no_argument, NULL, 'h'},         {NULL, 0, NULL, 0},
     };
     for (int o; (o = getopt_long(count, words, "", options, NULL)) != -1;) {
         switch (o) {
@@ -118,12 +129,14 @@ int main(int count, char **words)
         }
         case 'u': untagged = 1; break;
         case 'g': reflected = 1; break;
+        case 'p': priorities = 1; break;
         case 'c': most = read_number("count", optarg, 1, INT64_MAX); break;
         case 'r': rate = read_number("rate", optarg, 1, 1000000000); break;
         default: say_usage(usage, o == 'h');
         }
     }
     if (optind == count || count - optind > INTERFACES) say_usage(usage, 0);
+    if (priorities && (vlan < 0 || untagged)) refuse("--priorities goes with --stream, and not with --untagged");
     struct sigaction ends = {.sa_handler = ask_to_end};
     sigaction(SIGINT, &ends, NULL);
     sigaction(SIGTERM, &ends, NULL);

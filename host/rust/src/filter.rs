@@ -291,7 +291,9 @@ mod tests {
         for dest in [DEST, DEST + 1, DEST ^ 1 << 47, 0xFFFF_FFFF_FFFF] {
             for outer in types {
                 for inner in types {
-                    for tci in [0, 100, 0xE064, 0xF000, 101, 4094, 4095] {
+                    for tci in [
+                        0, 100, 0x1000, 0x1064, 0xA000, 0xE064, 0xF000, 0xFFFE, 101, 4094, 4095,
+                    ] {
                         for mark in besides {
                             for length in (0..=32).chain([1514, 1999, 2000, 2001, 9000]) {
                                 let queued = Queued {
@@ -398,6 +400,38 @@ mod tests {
             };
             let through = hold_to_the_library(&program, &library, &queued);
             assert_eq!(through, tci != 101, "{first:02x}, {tci}");
+        }
+    }
+
+    /// Whatever the priority and the bit behind it are, beside the frame or in it: only the VLAN id counts. A tag with VLAN id 0 is
+    /// of the stream without a tag.
+    #[test]
+    fn every_priority_comes_through() {
+        let keys = [(DEST, 100), (DEST, 0)];
+        for kind in [None, Some(Kind::First), Some(Kind::Of2012)] {
+            let program = program(&[], &keys, kind);
+            for tci in (0..16).flat_map(|high| [0, 100, 101].map(|vlan| high << 12 | vlan)) {
+                let of_type = kind.map_or(REDUNDANCY_TAG, |_| 0x88B5);
+                let mut bytes = frame(DEST, [VLAN_MARK, of_type], tci, 60);
+                if let Some(kind) = kind {
+                    end_in(&mut bytes, kind, 0xA, 60 - 18);
+                }
+                let in_it = Queued {
+                    bytes: bytes.clone(),
+                    packet: 2,
+                    beside: None,
+                };
+                bytes.drain(TYPE_AT..TYPE_AT + VLAN_TAG);
+                let beside = Queued {
+                    bytes,
+                    packet: 2,
+                    beside: Some((VLAN_MARK, tci)),
+                };
+                for queued in [in_it, beside] {
+                    let through = run(&program, &queued) != NONE;
+                    assert_eq!(through, tci & 0xFFF != 101, "{kind:?}, {queued:?}");
+                }
+            }
         }
     }
 

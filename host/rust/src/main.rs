@@ -183,6 +183,7 @@ impl Host {
         let Arrival {
             slot,
             number,
+            priority,
             verdict,
         } = match answer {
             Ok(arrival) => arrival,
@@ -192,7 +193,8 @@ impl Host {
             }
         };
         if let Verdict::HandedUp { length } = verdict {
-            self.up.hand_up(slot, number, &self.out[..length]);
+            let frame = &self.out[..length];
+            self.up.hand_up(slot, number, priority, frame);
         }
         let stream = &self.receiver.records()[slot];
         let news = self.watches.arrival(slot, network, verdict, stream, time);

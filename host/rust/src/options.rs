@@ -23,7 +23,7 @@ pub const USAGE: &str = "usage: receive-rust [OPTION].. INTERFACE0 INTERFACE1
   --alarm MS                  say so when a stream has arrivals on one network and for MS milliseconds none on the other, none on either, or none that is handed up; or when few second copies come (1000; 0: never)
   --stats FILE                write all counters to FILE each second, in the text form that Prometheus reads
   --quiet MS                  end after MS milliseconds without a frame
-  --give lines|raw|nothing    frames handed up: 'SLOT NUMBER LENGTH HEX', or two bytes of length and the frame (lines)
+  --give lines|raw|nothing    frames handed up: 'SLOT NUMBER LENGTH HEX PRIORITY', PRIORITY being the VLAN tag's, 0 to 7, or - where there is none; or two bytes of length and the frame (lines)
   --check                     read all words, say whether they are good, and open nothing
   --version                   print the version
   --help                      print this text

@@ -285,6 +285,8 @@ mod tests {
         length: u32,
         snapped: u32,
         at: u16,
+        tci: u16,
+        tpid: u16,
     }
 
     const FRAME: Kernel = Kernel {
@@ -292,6 +294,8 @@ mod tests {
         length: 60,
         snapped: 60,
         at: 82,
+        tci: 0xE064,
+        tpid: 0x88A8,
     };
 
     /// Does the kernel's part: fills a slot, and says so.
@@ -305,8 +309,8 @@ mod tests {
         put(FRAME_AT, &kernel.at.to_le_bytes());
         put(SECONDS_AT, &4_000_000_000_u32.to_le_bytes());
         put(NANOSECONDS_AT, &7_u32.to_le_bytes());
-        put(TCI_AT, &0xE064_u16.to_le_bytes());
-        put(TPID_AT, &0x88A8_u16.to_le_bytes());
+        put(TCI_AT, &kernel.tci.to_le_bytes());
+        put(TPID_AT, &kernel.tpid.to_le_bytes());
         put(PACKET_AT, &[byte % 5]);
         let end = (usize::from(kernel.at) + kernel.snapped as usize).min(SLOT);
         let begin = usize::from(kernel.at).clamp(HEADER + ADDRESS, end.max(HEADER + ADDRESS));
@@ -444,6 +448,29 @@ mod tests {
         assert_eq!(seen(tagged), Some((stamp, Some([0x81, 0, 0xE0, 0x64]))));
         let marked = tagged | TP_STATUS_VLAN_TPID_VALID;
         assert_eq!(seen(marked), Some((stamp, Some([0x88, 0xA8, 0xE0, 0x64]))));
+    }
+
+    /// Priority, the bit behind it and VLAN id: all of what the kernel says. Zeros are a tag if it says so, and none if not.
+    #[test]
+    fn every_bit_of_a_tag() {
+        let valid = TP_STATUS_VLAN_VALID | TP_STATUS_VLAN_TPID_VALID;
+        let mut r = ring(1);
+        for tci in 0..=u16::MAX {
+            for status in [0, TP_STATUS_VLAN_VALID, valid] {
+                let kernel = Kernel {
+                    status: FRAME.status | status,
+                    tci,
+                    tpid: VLAN_MARK,
+                    ..FRAME
+                };
+                let slot = r.next;
+                fill(&mut r, slot, &kernel, 0);
+                let bits = tci.to_be_bytes();
+                let tag = (status != 0).then_some([0x81, 0x00, bits[0], bits[1]]);
+                assert_eq!(r.take().unwrap().vlan, tag);
+                r.give_back(1);
+            }
+        }
     }
 
     #[test]

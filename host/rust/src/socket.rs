@@ -961,6 +961,19 @@ mod tests {
         }
     }
 
+    /// Priority, the bit behind it and VLAN id: all of what the kernel says. Zeros are a tag if it says so.
+    #[test]
+    fn every_bit_of_a_tag() {
+        for tci in 0..=u16::MAX {
+            let bits = tci.to_be_bytes();
+            let tag = Some([0x81, 0x00, bits[0], bits[1]]);
+            let both = TP_STATUS_VLAN_VALID | TP_STATUS_VLAN_TPID_VALID;
+            for (status, tpid) in [(both, VLAN_MARK), (TP_STATUS_VLAN_VALID, 0)] {
+                assert_eq!(read_control(&tagged(status, tci, tpid)), (None, tag));
+            }
+        }
+    }
+
     #[test]
     fn what_is_not_there() {
         assert_eq!(read_control(&[]), (None, None));

@@ -2,14 +2,14 @@
 //! nothing but itself. No system call stands here.
 
 use crate::options::Give;
-use nippitsun::Stream;
+use nippitsun::{Priority, Stream};
 use std::collections::VecDeque;
 use std::io::{self, ErrorKind, Write};
 
 /// The standard library's formatter, byte by byte, would take longer than all the rest of this program's own work.
 const DIGITS: &[u8; 16] = b"0123456789abcdef";
 
-/// The longest form of one frame. In front of a line's digits stand a slot, a number and a length.
+/// The longest form of one frame. In front of a line's digits stand a slot, a number and a length, and behind them a priority.
 const LINE_MOST: usize = 2 * Stream::FRAME_MOST + 32;
 const RAW_MOST: usize = Stream::FRAME_MOST + 2;
 
@@ -77,7 +77,7 @@ impl Up {
     }
 
     /// Puts a frame behind those that wait, in the form that was asked for. The buffer is not full.
-    pub fn hand_up(&mut self, slot: usize, number: u16, frame: &[u8]) {
+    pub fn hand_up(&mut self, slot: usize, number: u16, priority: Option<Priority>, frame: &[u8]) {
         self.form.clear();
         match self.give {
             Give::Lines => {
@@ -87,7 +87,9 @@ impl Up {
                     let (high, low) = (usize::from(byte >> 4), usize::from(byte & 15));
                     self.form.extend_from_slice(&[DIGITS[high], DIGITS[low]]);
                 }
-                self.form.push(b'\n');
+                // Last, so that whoever takes the first four fields goes on as before.
+                let priority = priority.map_or(b'-', |priority| b'0' + priority.get());
+                self.form.extend_from_slice(&[b' ', priority, b'\n']);
             }
             Give::Raw => {
                 let length = frame.len() as u16;
@@ -184,13 +186,17 @@ mod tests {
 
     #[test]
     fn forms() {
-        for (give, expected) in [
-            (Give::Lines, &b"3 65535 3 00ab7f\n"[..]),
-            (Give::Raw, b"\x00\x03\x00\xab\x7f"),
-            (Give::Nothing, b""),
+        for (give, priority, expected) in [
+            (Give::Lines, None, &b"3 65535 3 00ab7f -\n"[..]),
+            (Give::Lines, Some(0), b"3 65535 3 00ab7f 0\n"),
+            (Give::Lines, Some(7), b"3 65535 3 00ab7f 7\n"),
+            // The VLAN tag stands in the frame itself.
+            (Give::Raw, None, b"\x00\x03\x00\xab\x7f"),
+            (Give::Raw, Some(7), b"\x00\x03\x00\xab\x7f"),
+            (Give::Nothing, Some(7), b""),
         ] {
             let mut up = Up::new(give, BYTES).unwrap();
-            up.hand_up(3, 65535, &[0, 0xAB, 0x7F]);
+            up.hand_up(3, 65535, priority.and_then(Priority::new), &[0, 0xAB, 0x7F]);
             let mut all = reader(BYTES, 9);
             up.give(&mut all).unwrap();
             assert_eq!(all.has, expected);
@@ -202,8 +208,40 @@ mod tests {
     fn the_longest_forms_have_room() {
         for (give, most) in [(Give::Lines, LINE_MOST), (Give::Raw, RAW_MOST)] {
             let mut up = Up::new(give, BYTES).unwrap();
-            up.hand_up(Stream::SLOTS_MOST, u16::MAX, &[7; Stream::FRAME_MOST]);
+            let (slot, frame) = (Stream::SLOTS_MOST, [7; Stream::FRAME_MOST]);
+            up.hand_up(slot, u16::MAX, Priority::new(7), &frame);
             assert!(up.waiting() <= most);
+        }
+    }
+
+    /// Each line has the priority of its own frame, whatever waits before it and wherever the buffer wraps.
+    #[test]
+    fn priorities_stay_with_their_frames() {
+        let mut up = Up::new(Give::Lines, BYTES).unwrap();
+        let (mut slow, mut handed_up) = (reader(777, 0), 0_usize);
+        // Up to the longest frame that a tag was in.
+        let length = |n: usize| 14 + n * 331 % (Stream::UNTAGGED_MOST - 13);
+        let priority = |n: usize| Priority::new((n % 9) as u8);
+        while handed_up < 3000 {
+            while !up.is_full() {
+                let n = handed_up;
+                let frame = vec![n as u8; length(n)];
+                up.hand_up(n % Stream::SLOTS_MOST, n as u16, priority(n), &frame);
+                handed_up += 1;
+            }
+            slow.writes = 7;
+            up.give(&mut slow).unwrap();
+        }
+        slow.writes = usize::MAX;
+        up.give(&mut slow).unwrap();
+        let text = String::from_utf8(slow.has).unwrap();
+        assert_eq!(text.lines().count(), handed_up);
+        assert!((0..handed_up).any(|n| length(n) == Stream::UNTAGGED_MOST));
+        for (n, line) in text.lines().enumerate() {
+            let (slot, bytes) = (n % Stream::SLOTS_MOST, length(n));
+            let hex = format!("{:02x}", n as u8).repeat(bytes);
+            let last = priority(n).map_or("-".to_string(), |p| p.to_string());
+            assert_eq!(line, format!("{slot} {n} {bytes} {hex} {last}"));
         }
     }
 
@@ -213,10 +251,10 @@ mod tests {
         let frame = [5; 1998];
         for _ in 0..3 {
             assert!(!up.is_full());
-            up.hand_up(0, 1, &frame);
+            up.hand_up(0, 1, None, &frame);
         }
         assert!(up.is_half_full() && !up.is_full());
-        up.hand_up(0, 1, &frame);
+        up.hand_up(0, 1, None, &frame);
         assert!(up.is_full());
         let mut slow = reader(BYTES / 2 - 193, 1);
         up.give(&mut slow).unwrap();
@@ -237,7 +275,7 @@ mod tests {
             while expected.len() < 20 * BYTES {
                 while !up.is_full() {
                     let frame = vec![handed_up as u8; 14 + handed_up * 37 % 1980];
-                    up.hand_up(0, 0, &frame);
+                    up.hand_up(0, 0, None, &frame);
                     expected.extend_from_slice(&(frame.len() as u16).to_be_bytes());
                     expected.extend_from_slice(&frame);
                     handed_up += 1;
@@ -263,7 +301,7 @@ mod tests {
     fn a_reader_that_dies_leaves_its_frames() {
         let mut up = Up::new(Give::Lines, BYTES).unwrap();
         for _ in 0..5 {
-            up.hand_up(0, 1, &[1; 20]);
+            up.hand_up(0, 1, None, &[1; 20]);
         }
         // One whole line and a part of the next.
         up.give(&mut reader(60, 1)).unwrap();
