@@ -1,16 +1,18 @@
 /* One cell of bench/before: CALL STREAMS FRAMES KEYS ORDER ROUNDS, all numbers. It prints the least time of a call among the
-   rounds, in ns. Built with -DBEFORE it calls a library of before order 9, whose calls take no index.
+   rounds, in ns. Built with -DNO_INDEX it calls a library of before order 9, whose calls take no index.
 
    CALL 0 is a batch of new frames of 64 bytes, L = 64, of 0 to 32 FRAMES; 1 is an open and the close of that slot, the last one
-   of STREAMS. KEYS 0: VLAN ids differ; 1: the last bytes of the destinations; 2 and more: both at random, each number other keys.
-   ORDER 0: the same 64 frames over and over; 1: one that no processor foresees. */
+   of STREAMS; 2 is as many single arrivals as FRAMES, and 3 each of them on both networks; 4 is a tick that resets none, and each
+   stream had 2 * FRAMES before it or more. KEYS 0: VLAN ids differ; 1: the last bytes of the destinations; 2 and more: both at
+   random, each number other keys. All but 1 have VLAN tags, with all priorities. ORDER 0: the same 64 frames over and over; 1: one
+   that no processor foresees. */
 #include <stdio.h>
 #include <stdlib.h>
 #include <time.h>
 
 #include "../bindings/c/nippitsun.h"
 
-#ifdef BEFORE
+#ifdef NO_INDEX
 nippitsun_batch_answer batch_before(nippitsun_stream *, size_t, uint8_t, size_t, const uint8_t *, size_t, uint8_t *, size_t) __asm__("nippitsun_batch");
 nippitsun_slot_answer open_before(nippitsun_stream *, size_t, const uint8_t *, uint16_t, uint8_t, uint16_t, uint16_t) __asm__("nippitsun_open");
 uint8_t close_before(nippitsun_stream *, size_t, size_t) __asm__("nippitsun_close");
@@ -53,7 +55,7 @@ static void write_frame(uint8_t *at, size_t stream) {
     put(at + 2, table[stream].dest, 6);
     at += 2 + 12;
     if (table[stream].vlan != 0) {
-        put(at, 0x81000000 | table[stream].vlan, 4);
+        put(at, 0x81000000 | (numbers[stream] & 7u) << 13 | table[stream].vlan, 4);
         at += 4;
     }
     put(at, 0xF1C1, 2);
@@ -75,6 +77,23 @@ static size_t batches(void) {
     return bad;
 }
 
+static size_t arrivals(uint8_t networks) {
+    size_t bad = 0;
+    for (size_t i = 0; i < CALLS; i++)
+        for (size_t j = 0; j < frames; j++)
+            for (uint8_t network = 0; network < networks; network++) {
+                nippitsun_arrival_answer a = nippitsun_arrival(table, streams, network, packed[i] + j * STEP + 2, SIZE, out, sizeof out);
+                bad += a.verdict != (network == 0 ? NIPPITSUN_VERDICT_HANDED_UP : NIPPITSUN_VERDICT_DUPLICATE);
+            }
+    return bad;
+}
+
+static size_t ticks(void) {
+    size_t bad = 0;
+    for (size_t i = 0; i < CALLS; i++) bad += nippitsun_tick(table, streams).refusal != 0;
+    return bad;
+}
+
 static size_t opens(const uint8_t *dest, uint16_t vlan) {
     size_t bad = 0;
     for (size_t i = 0; i < CALLS; i++) {
@@ -83,6 +102,15 @@ static size_t opens(const uint8_t *dest, uint16_t vlan) {
         bad += nippitsun_close(table, streams, places, sizeof places, a.slot) != 0;
     }
     return bad;
+}
+
+static size_t calls(int call, const uint8_t *dest, uint16_t vlan) {
+    switch (call) {
+    case 0: return batches();
+    case 1: return opens(dest, vlan);
+    case 4: return ticks();
+    default: return arrivals(call == 2 ? 1 : 2);
+    }
 }
 
 int main(int count, char **words) {
@@ -96,8 +124,8 @@ int main(int count, char **words) {
         uint64_t dest[] = {0x020304050600, 0x020000000000 + i, 0x020000000000 | dice() % (1ull << 40)};
         uint16_t vlan[] = {(uint16_t)(i + 1), 0, (uint16_t)(1 + dice() % 4094)};
         int kind = keys > 2 ? 2 : keys;
-        table[i] = (nippitsun_stream){.dest = dest[kind], .vlan = vlan[kind], .window = 64, .time = 100, .rule = NIPPITSUN_RULE_VECTOR,
-            .used = (uint8_t)(call == 0 || i + 1 < streams), .state = {.anchor = 65535, .any = 1}};
+        table[i] = (nippitsun_stream){.dest = dest[kind], .vlan = vlan[kind], .window = 64, .time = 65535, .rule = NIPPITSUN_RULE_VECTOR,
+            .used = (uint8_t)(call != 1 || i + 1 < streams), .state = {.anchor = 65535, .any = 1}};
     }
     for (size_t i = 0; i < FIXED; i++) fixed[i] = i % streams;
     for (size_t i = FIXED - 1; i > 0; i--) {
@@ -108,11 +136,15 @@ int main(int count, char **words) {
     uint8_t dest[6];
     put(dest, table[streams - 1].dest, 6);
     size_t bad = nippitsun_rebuild(table, streams, places, sizeof places);
+    for (int i = 0; call == 4 && i < 2; i++) {
+        write_all(0);
+        bad += arrivals(1);
+    }
     double least = 1e18;
     for (int rounds = atoi(words[6]); rounds > 0; rounds--) {
         write_all(order);
         double start = now();
-        bad += call == 0 ? batches() : opens(dest, table[streams - 1].vlan);
+        bad += calls(call, dest, table[streams - 1].vlan);
         double took = (now() - start) / CALLS;
         if (took < least) least = took;
     }

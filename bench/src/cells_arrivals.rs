@@ -36,11 +36,6 @@ impl Keys {
         }
     }
 
-    /// Do the frames have a VLAN tag?
-    fn tagged(self) -> bool {
-        self == Keys::Both || self == Keys::Vlans
-    }
-
     /// How many bytes a frame has more than what is handed up of it.
     fn taken(self) -> usize {
         match self {
@@ -132,7 +127,7 @@ const fn wide(mix: Mix) -> Mix {
 }
 
 /// Those of frames with a VLAN tag, all new. With one stream they are the same.
-const VLANS: Mix = Mix {
+pub const VLANS: Mix = Mix {
     keys: Keys::Both,
     ..mix("vlans", 1, 1)
 };
@@ -149,8 +144,18 @@ const fn linked(mix: Mix) -> Mix {
     }
 }
 
-/// What stands above the VLAN id in a VLAN tag. It is no part of the key.
-const PRIORITY: u16 = 0x2000;
+impl Mix {
+    /// Do the frames have a VLAN tag?
+    pub fn tagged(&self) -> bool {
+        self.keys == Keys::Both || self.keys == Keys::Vlans
+    }
+
+    /// What stands behind 8100 in a VLAN tag: the priority, another one from frame to frame, and the VLAN id.
+    #[inline(always)]
+    pub fn bits(&self, stream: u8, number: u16) -> u16 {
+        number.wrapping_add(stream as u16) << 13 | self.keys.vlan(stream)
+    }
+}
 
 /// The frame that comes next.
 struct Coming {
@@ -178,7 +183,7 @@ impl Coming {
     /// A frame of the mix, but for what `write` puts into it.
     fn shape(&self, size: usize) -> Vec<u8> {
         let keys = self.mix.keys;
-        let mut f = frame(size, keys.tagged(), keys != Keys::Links);
+        let mut f = frame(size, self.mix.tagged(), keys != Keys::Links);
         f[..6].copy_from_slice(&[2, 0, 0, 0, 0, 0]);
         f
     }
@@ -205,8 +210,9 @@ impl Coming {
         let keys = self.mix.keys;
         f[5] = keys.last(self.stream);
         let mut at = 16;
-        if keys.tagged() {
-            f[14..16].copy_from_slice(&(PRIORITY | keys.vlan(self.stream)).to_be_bytes());
+        if self.mix.tagged() {
+            let bits = self.mix.bits(self.stream, self.number);
+            f[14..16].copy_from_slice(&bits.to_be_bytes());
             at = 20;
         }
         if keys == Keys::Links {
@@ -325,7 +331,8 @@ pub trait Sum {
 impl Sum for ArrivalAnswer {
     #[inline(always)]
     fn sum(&self) -> u64 {
-        self.slot as u64 + self.number as u64 + self.length as u64 + self.refusal as u64
+        let of_tag = self.priority as u64 + self.vlantag as u64;
+        self.slot as u64 + self.number as u64 + self.length as u64 + self.refusal as u64 + of_tag
     }
 }
 
@@ -339,7 +346,8 @@ impl Sum for Result<Arrival, Refusal> {
                     Verdict::HandedUp { length } => length,
                     _ => 0,
                 };
-                a.slot as u64 + a.number as u64 + length as u64
+                let of_tag = a.priority as u64 + a.vlan_tag as u64;
+                a.slot as u64 + a.number as u64 + length as u64 + of_tag
             }
         }
     }

@@ -1,7 +1,7 @@
 //! The cells of a batch: one call, and as many single arrivals in turn. Every side sees the same frames on the same table, all
 //! new.
 use crate::cells::{frame, hidden, Cell, Group, Work};
-use crate::cells_arrivals::{records, Slots, Sum, NEW};
+use crate::cells_arrivals::{records, Mix, Sum, NEW, VLANS};
 use crate::compare::Dice;
 use crate::record::{ArrivalAnswer, BatchAnswer, Stream, FRAMES_MOST, HANDED_UP, PLACES};
 use crate::{plain, proved};
@@ -16,6 +16,8 @@ struct Load {
     streams: usize,
     /// In each turn the streams come in another order, which no processor foresees.
     random: bool,
+    /// All new, with a VLAN tag or without.
+    mix: Mix,
 }
 
 /// So many frames come before the order is that of the first again.
@@ -68,9 +70,8 @@ struct Traffic {
 }
 
 impl Traffic {
-    /// For streams as the first of the table.
-    fn new(load: Load, table: &Slots<Stream>) -> Traffic {
-        let first = &table.0[0];
+    fn new(load: Load) -> Traffic {
+        let first = records(load.mix).0[0];
         let mut t = Traffic {
             room: Box::new(Room {
                 ring: [0; PACKED],
@@ -84,7 +85,7 @@ impl Traffic {
             turn: 0,
             number: first.state.anchor.wrapping_add(1),
         };
-        let mut shape = frame(load.size, false, true);
+        let mut shape = frame(load.size, load.mix.tagged(), true);
         shape[..6].copy_from_slice(&first.dest.to_be_bytes()[2..]);
         for f in t.room.ring.chunks_exact_mut(t.step).take(FRAMES_MOST) {
             f[..2].copy_from_slice(&(load.size as u16).to_be_bytes());
@@ -109,8 +110,15 @@ impl Traffic {
     fn renew(&mut self) {
         let end = self.place + self.load.count * self.step;
         for f in self.room.ring[self.place..end].chunks_exact_mut(self.step) {
-            f[2 + 5] = self.order[self.turn];
-            f[2 + 16..][..2].copy_from_slice(&self.number.to_be_bytes());
+            let stream = self.order[self.turn];
+            f[2 + 5] = stream;
+            let mut at = 2 + 16;
+            if self.load.mix.tagged() {
+                let bits = self.load.mix.bits(stream, self.number);
+                f[2 + 14..][..2].copy_from_slice(&bits.to_be_bytes());
+                at = 2 + 20;
+            }
+            f[at..][..2].copy_from_slice(&self.number.to_be_bytes());
             self.turn += 1;
             if self.turn & (self.load.streams - 1) == 0 {
                 self.number = self.number.wrapping_add(1);
@@ -171,8 +179,8 @@ fn batching(
     call: impl Fn(&mut [Stream], &[u8], u8, usize, &[u8], &mut [u8]) -> BatchAnswer + 'static,
     load: Load,
 ) -> Work {
-    let mut table = records(NEW);
-    let mut traffic = Traffic::new(load, &table);
+    let mut table = records(load.mix);
+    let mut traffic = Traffic::new(load);
     let mut index = Box::new(Places([0; PLACES]));
     proved::rebuild(&table.0[..load.streams], &mut index.0);
     Box::new(move |calls| {
@@ -193,8 +201,8 @@ fn batching(
 }
 
 fn single(load: Load) -> Work {
-    let mut table = records(NEW);
-    let mut traffic = Traffic::new(load, &table);
+    let mut table = records(load.mix);
+    let mut traffic = Traffic::new(load);
     Box::new(move |calls| {
         let table = &mut table.0[..load.streams];
         let count = hidden(load.count);
@@ -212,7 +220,7 @@ fn single(load: Load) -> Work {
 
 /// The frames written and nothing else: what the loop costs.
 fn writing(load: Load) -> Work {
-    let mut traffic = Traffic::new(load, &records(NEW));
+    let mut traffic = Traffic::new(load);
     Box::new(move |calls| {
         for _ in 0..calls {
             traffic.renew();
@@ -221,17 +229,24 @@ fn writing(load: Load) -> Work {
     })
 }
 
-fn cell(count: usize, size: usize, streams: usize, random: bool) -> Cell {
-    let load = Load {
+/// In turn, without a VLAN tag.
+fn load(count: usize, size: usize, streams: usize) -> Load {
+    Load {
         count,
         size,
         streams,
-        random,
-    };
-    let order = if random { "random" } else { "turn" };
+        random: false,
+        mix: NEW,
+    }
+}
+
+fn cell(order: &str, load: Load) -> Cell {
     Cell {
-        name: format!("batch-{}-{}-{}-{}", count, size, streams, order),
-        each: count as u64,
+        name: format!(
+            "batch-{}-{}-{}-{}",
+            load.count, load.size, load.streams, order
+        ),
+        each: load.count as u64,
         works: vec![
             batching(proved::batch, load),
             batching(plain::batch, load),
@@ -245,22 +260,29 @@ pub fn batches() -> Group {
     let mut cells = Vec::new();
     for count in [8, 16, FRAMES_MOST] {
         for streams in [1, 8, 32, 64] {
-            cells.push(cell(count, 64, streams, false));
+            let in_turn = load(count, 64, streams);
+            cells.push(cell("turn", in_turn));
             if streams > 1 {
-                cells.push(cell(count, 64, streams, true));
+                let random = true;
+                cells.push(cell("random", Load { random, ..in_turn }));
             }
         }
     }
     for count in [8, FRAMES_MOST] {
         for size in [256, 1500] {
             for streams in [1, 8, 64] {
-                cells.push(cell(count, size, streams, false));
+                cells.push(cell("turn", load(count, size, streams)));
             }
         }
     }
+    for streams in [1, 8, 64] {
+        let mix = VLANS;
+        let in_turn = load(FRAMES_MOST, 64, streams);
+        cells.push(cell("vlans", Load { mix, ..in_turn }));
+    }
     for size in [64, 256, 1500] {
         for streams in [1, 8, 64] {
-            cells.push(cell(1, size, streams, false));
+            cells.push(cell("turn", load(1, size, streams)));
         }
     }
     Group {

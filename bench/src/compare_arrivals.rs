@@ -61,9 +61,28 @@ pub fn answer_of(r: Result<Arrival, Refusal>) -> ArrivalAnswer {
                 number: a.number,
                 verdict,
                 refusal: 0,
+                priority: a.priority,
+                vlantag: a.vlan_tag as u8,
             }
         }
     }
+}
+
+/// What answers have told of the VLAN tag, by verdict: each priority, and at 8 none.
+pub type Told = [[u64; 9]; 4];
+
+pub fn tell(told: &mut Told, a: &ArrivalAnswer) {
+    let place = if a.vlantag == 0 { 8 } else { a.priority };
+    told[a.verdict as usize][place as usize] += 1;
+}
+
+/// Has each verdict come with every priority, and without a VLAN tag?
+pub fn all_told(what: &str, told: &Told) -> Result<(), String> {
+    for verdict in [HANDED_UP, DUPLICATE, ROGUE] {
+        let what = format!("{} with verdict {}", what, verdict);
+        all_seen(&what, &told[verdict as usize], &[0, 1, 2, 3, 4, 5, 6, 7, 8])?;
+    }
+    Ok(())
 }
 
 /// The same table three times.
@@ -269,7 +288,7 @@ fn link_frame(dice: &mut Dice, pool: &[u8], t: &Tables) -> Vec<u8> {
     let s = slot_for(dice, t, true);
     let mut f = addressed(dice, pool, s);
     if dice.one_in(8) {
-        put(&mut f, 12, &[0x81, 0x00, 0x00, 0x05]);
+        put(&mut f, 12, &[0x81, 0x00]);
     }
     if let Some(last) = f.last_mut() {
         *last = link_number(dice, s.anchor);
@@ -295,6 +314,10 @@ pub fn frame(dice: &mut Dice, pool: &[u8], t: &Tables) -> Vec<u8> {
         [0xF1, 0xC1]
     };
     put(&mut f, at, &tag);
+    // A VLAN tag behind the other one is none.
+    if dice.one_in(8) {
+        put(&mut f, at + 6, &[0x81, 0x00]);
+    }
     let number = match dice.below(16) {
         0..=5 => number(dice, s.anchor, s.window),
         6 | 7 => s.anchor.wrapping_sub(dice.below(8) as u16),
@@ -312,7 +335,8 @@ pub fn arrivals(cases: u64) -> Result<u64, String> {
     let mut dice = Dice::new();
     let pool: Vec<u8> = (0..10_000).map(|_| dice.next() as u8).collect();
     let (mut refused, mut verdicts) = ([[0u64; 256]; 2], [[0u64; 256]; 2]);
-    let mut passed = [0u64; 2];
+    let (mut passed, mut alike) = ([0u64; 2], [0u64; 2]);
+    let mut told = Told::default();
     let mut t = tables(&mut dice, 0)?;
     for case in 0..cases {
         if case % LIFE == 0 {
@@ -340,10 +364,11 @@ pub fn arrivals(cases: u64) -> Result<u64, String> {
             t.plain.copy_from_slice(&t.proved);
         }
         let link = dice.one_in(2);
-        let (f, taken) = if link {
-            (link_frame(&mut dice, &pool, &t), 1)
+        // How many bytes are taken out, and where 8100 is no VLAN tag.
+        let (f, taken, other) = if link {
+            (link_frame(&mut dice, &pool, &t), 1, 12)
         } else {
-            (frame(&mut dice, &pool, &t), 6)
+            (frame(&mut dice, &pool, &t), 6, 18)
         };
         let network = if dice.one_in(30) {
             dice.next() as u8
@@ -378,6 +403,11 @@ pub fn arrivals(cases: u64) -> Result<u64, String> {
         refused[family][x.refusal as usize] += 1;
         verdicts[family][x.verdict as usize] += 1;
         passed[family] += (x.refusal == 0 && t.passes(x.slot)) as u64;
+        let none = x.refusal == 0 && x.vlantag == 0;
+        alike[family] += (none && f[other..].starts_with(&[0x81, 0x00])) as u64;
+        if !link {
+            tell(&mut told, &x);
+        }
     }
     all_seen(
         "an arrival's refusal",
@@ -396,5 +426,7 @@ pub fn arrivals(cases: u64) -> Result<u64, String> {
         &[0, 1, 2],
     )?;
     all_seen("a slot of the other kind passed over", &passed, &[0, 1])?;
+    all_seen("8100 where it is no VLAN tag", &alike, &[0, 1])?;
+    all_told("an arrival's priority", &told)?;
     Ok(cases)
 }

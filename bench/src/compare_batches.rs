@@ -3,7 +3,7 @@
 //! must be equal, and each answer must have come up.
 use crate::cells_batches::in_turn;
 use crate::compare::{all_seen, wrong, Dice};
-use crate::compare_arrivals::{answer_of, frame, stir, tables, Tables};
+use crate::compare_arrivals::{all_told, answer_of, frame, stir, tables, tell, Tables, Told};
 use crate::record::{ArrivalAnswer, BatchAnswer, FRAMES_MOST, PLACES};
 use crate::{plain, proved};
 
@@ -101,6 +101,7 @@ pub fn batches(cases: u64) -> Result<u64, String> {
     let pool: Vec<u8> = (0..80_000).map(|_| dice.next() as u8).collect();
     let (mut calls, mut refusals, mut verdicts) = ([0u64; 256], [0u64; 256], [0u64; 256]);
     let mut passed = [0u64];
+    let mut told = Told::default();
     let mut t = tables(&mut dice, 0)?;
     for case in 0..cases {
         if case % LIFE == 0 {
@@ -147,6 +148,7 @@ pub fn batches(cases: u64) -> Result<u64, String> {
             refusals[e.refusal as usize] += 1;
             verdicts[e.verdict as usize] += 1;
             passed[0] += (e.verdict != 0 && t.passes(e.slot)) as u64;
+            tell(&mut told, &e);
         }
     }
     all_seen("a batch's refusal", &calls, &[0, 1, 2, 15, 18])?;
@@ -157,5 +159,6 @@ pub fn batches(cases: u64) -> Result<u64, String> {
     )?;
     all_seen("a verdict in a batch", &verdicts, &[0, 1, 2, 3])?;
     all_seen("a virtual link passed over in a batch", &passed, &[0])?;
+    all_told("a priority in a batch", &told)?;
     Ok(cases)
 }

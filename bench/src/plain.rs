@@ -731,7 +731,7 @@ pub fn link_arrival_at(
         length: written,
         number: number as u16,
         verdict,
-        refusal: 0,
+        ..ArrivalAnswer::default()
     }
 }
 
@@ -805,6 +805,8 @@ struct Asked {
     vlan: u16,
     dest: u64,
     number: u16,
+    /// The priority, and whether there is a VLAN tag.
+    rank: [u8; 2],
 }
 
 /// Refusals 3, 4, 5 and 14 of an arrival.
@@ -826,16 +828,20 @@ fn read(frame: &[u8]) -> Result<Asked, u8> {
     if frame[SOURCE] & 1 != 0 {
         return Err(GROUP);
     }
-    let vlan = if at == 16 {
-        word(frame, 14) & 0x0FFF
+    // The highest three bits are the priority, the lowest twelve the id. Priority and tag as one word: this makes the plain side
+    // faster.
+    let (vlan, rank) = if at == 16 {
+        let bits = word(frame, 14);
+        (bits & 0x0FFF, bits >> 13 | 0x0100)
     } else {
-        0
+        (0, 0)
     };
     Ok(Asked {
         at,
         vlan,
         dest: destination(frame),
         number: word(tag, 4),
+        rank: rank.to_le_bytes(),
     })
 }
 
@@ -875,6 +881,8 @@ fn arrive(
         number: asked.number,
         verdict,
         refusal: 0,
+        priority: asked.rank[0],
+        vlantag: asked.rank[1],
     }
 }
 

@@ -238,6 +238,7 @@ pub fn batches(rows: &[Row], aim: f64) {
     }
     println!();
     println!("batch: the product's. single: as many single calls of the product. plain: the batch in Rust written for speed, with the same index.");
+    println!("vlans: in turn, and each frame has a VLAN tag.");
     for frames in [1, 8, 16, 32] {
         let of = || rows.iter().filter(move |r| frames_of(&r.name) == frames);
         let (single, plain) = (ratios(of(), SINGLE), ratios(of(), PLAIN));
