@@ -144,8 +144,8 @@ impl From<second::Arrival> for Answer {
 }
 
 impl Answer {
-    /// Of an arrival. A refusal that has more than its number is strange, and so are other verdicts than the three, and a length
-    /// where nothing was handed up.
+    /// Of an arrival. A refusal that has more than its number is strange, and so are other verdicts than the three, a length where
+    /// nothing was handed up, and a priority above 7.
     fn of_arrival(told: ArrivalAnswer) -> Answer {
         let (slot, number, length, refusal) = (told.slot, told.number, told.length, told.refusal);
         let vlan = VlanTag {
@@ -157,6 +157,7 @@ impl Answer {
             ..ArrivalAnswer::default()
         };
         match (told.verdict, refusal, length) {
+            _ if vlan.priority > 7 => Answer::Strange(format!("{:?}", told)),
             (0, 1.., _) if told == alone => Answer::Refused(refusal),
             (archive::HANDED_UP, 0, _) => Answer::HandedUp {
                 slot,

@@ -21,7 +21,7 @@ pub fn files() -> Vec<(&'static str, Vec<u8>)> {
         ("every kind, with right and wrong lengths", kinds()),
         ("every VLAN id", vlans()),
         ("every VLAN tag, all 16 bits of it", vlan_tags()),
-        ("any 16 bits behind 8100 behind F1C1", hidden_tags()),
+        ("8100 behind F1C1, with every priority", hidden_tags()),
         (
             "every slot, in a table that is empty, filling and full",
             slots(),
@@ -252,8 +252,8 @@ fn vlans() -> Vec<u8> {
     file.0
 }
 
-/// Each VLAN id with all 16 values of the bits above it: handed up, the other copy
-/// with other bits there, and rogues. No stream has the last id.
+/// Each VLAN id with all 16 values of the bits above it, handed up; then another
+/// copy with other bits there, and a rogue. No stream has the last id.
 fn vlan_tags() -> Vec<u8> {
     let mut file = File::new();
     for id in 0..4096 {
@@ -264,30 +264,36 @@ fn vlan_tags() -> Vec<u8> {
         };
         for high in 0..16 {
             number(0, high, high);
-            number(1, 15 - high, high);
         }
+        number(1, id % 16, id / 16 % 16);
         number(0, id % 16, 1000);
         file.body(&[kind::CLOSE, 0]);
     }
     file.0
 }
 
-/// Where F1C1 stands at 12 there is no VLAN tag: on one network 8100 and any 16
-/// bits come behind it, and the other copy has a tag with id 0 and some of them.
+/// Where F1C1 stands at 12 there is no VLAN tag. One copy has 8100 behind it, with
+/// all 16 values of the bits above an id; the other has a VLAN tag with id 0 and
+/// the same bits. Each comes first in its turn.
 fn hidden_tags() -> Vec<u8> {
     let mut file = File::new();
     file.open(KEY, Stream::VECTOR, 4, 9);
-    for tci in 0..=65535_u16 {
-        let [high, low] = tci.to_be_bytes();
+    let ids = [0, 1, 5, 7, 0x0E0, 0x0FF, 0x100, 0x800, 0xE00, 4094, 4095];
+    let all = ids
+        .iter()
+        .flat_map(|id| (0..16).map(move |high| high << 12 | id));
+    for (place, tci) in all.enumerate() {
+        let [high, low] = u16::to_be_bytes(tci);
         let behind = [0x81, 0, high, low, 8, 0];
-        let first = tagged_with(0, KEY.0, None, tci, &behind);
-        let second = tagged_with(1, KEY.0, Some(tci & 0xF000), tci, &TYPE);
-        // Each network has every second number first.
-        let copies = match tci % 2 {
-            0 => [first, second],
-            _ => [second, first],
-        };
-        copies.iter().for_each(|copy| file.body(copy));
+        for number in [2 * place as u16, 2 * place as u16 + 1] {
+            let first = tagged_with(0, KEY.0, None, number, &behind);
+            let second = tagged_with(1, KEY.0, Some(tci & 0xF000), number, &TYPE);
+            let copies = match number % 2 {
+                0 => [first, second],
+                _ => [second, first],
+            };
+            copies.iter().for_each(|copy| file.body(copy));
+        }
     }
     file.0
 }
