@@ -93,7 +93,7 @@ readVerdict v l = cond (eqb v 1) (handedUp l) (cond (eqb v 2) duplicate rogue)
 
 abbrev readBy : (refusal verdict : ℕ) → ArrivalAnswer → Option (Said Answer)
 readBy zero zero e = none
-readBy zero (suc v) e = some (answers (arrived (e .slot) (e .number) (record { priority = e .priority; vlantag = e .vlantag }) (readVerdict (suc v) (e .length))))
+readBy zero (suc v) e = some (answers (arrived (e .slot) (e .number) (e .rank) (readVerdict (suc v) (e .length))))
 readBy (suc n) v e = some (refused (suc n))
 
 abbrev pub readEach : ArrivalAnswer → Option (Said Answer)

@@ -4,6 +4,7 @@ use calls::Answer;
 use calls::ArrivalAnswer;
 use calls::Asked;
 use calls::Found;
+use frame::Rank;
 use record::Stream;
 ghost use mathlib.Core.Path.{_≡_};
 ghost use mathlib.Core.Bool.{true, false};
@@ -198,8 +199,10 @@ fn unreached() -> ArrivalAnswer
         number: 0,
         verdict: 0,
         refusal: 0,
-        priority: 0,
-        vlantag: 0,
+        rank: Rank {
+            priority: 0,
+            vlantag: 0,
+        },
     }
 }
 

@@ -53,8 +53,9 @@ pub enum Answer {
 }
 
 // The same in plain fields, since an enum can't cross to C, and an array of these is what a batch answers. Refusal 0: verdict
-// is 1 handed up, 2 duplicate, 3 rogue, and length is what was written to the output, 0 but for a frame handed up; priority is 0
-// to 7, and vlantag 1 if a VLAN tag was there. Where it is refused, refusal is the number and the rest is 0.
+// is 1 handed up, 2 duplicate, 3 rogue, and length is what was written to the output, 0 but for a frame handed up. Where it
+// is refused, refusal is the number and the rest is 0. The rank goes through as one: of two fields here the compiler parted it,
+// at three instructions an arrival (docs/SPEED.md).
 #[repr(C)]
 pub struct ArrivalAnswer {
     pub slot: usize,
@@ -62,8 +63,7 @@ pub struct ArrivalAnswer {
     pub number: u16,
     pub verdict: u8,
     pub refusal: u8,
-    pub priority: u8,
-    pub vlantag: u8,
+    pub rank: Rank,
 }
 
 // The answer of an open: the slot.

@@ -17,8 +17,7 @@ fn tell_verdict(slot: usize, number: u16, rank: Rank, v: Verdict) -> ArrivalAnsw
             number,
             verdict: 1,
             refusal: 0,
-            priority: rank.priority,
-            vlantag: rank.vlantag,
+            rank,
         },
         Verdict::Duplicate => ArrivalAnswer {
             slot,
@@ -26,8 +25,7 @@ fn tell_verdict(slot: usize, number: u16, rank: Rank, v: Verdict) -> ArrivalAnsw
             number,
             verdict: 2,
             refusal: 0,
-            priority: rank.priority,
-            vlantag: rank.vlantag,
+            rank,
         },
         Verdict::Rogue => ArrivalAnswer {
             slot,
@@ -35,8 +33,7 @@ fn tell_verdict(slot: usize, number: u16, rank: Rank, v: Verdict) -> ArrivalAnsw
             number,
             verdict: 3,
             refusal: 0,
-            priority: rank.priority,
-            vlantag: rank.vlantag,
+            rank,
         },
     }
 }
@@ -51,8 +48,10 @@ pub fn tell_arrival(a: Answer) -> ArrivalAnswer
             number: 0,
             verdict: 0,
             refusal,
-            priority: 0,
-            vlantag: 0,
+            rank: Rank {
+                priority: 0,
+                vlantag: 0,
+            },
         },
         Answer::Arrival {
             slot,

@@ -26,6 +26,7 @@ pub struct Header {
 }
 
 // The VLAN tag's three priority bits, 0 to 7, and whether such a tag is there: 1, or 0 and priority 0 (order 11).
+#[repr(C)]
 pub struct Rank {
     pub priority: u8,
     pub vlantag: u8,

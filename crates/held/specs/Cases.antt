@@ -36,11 +36,11 @@ pub record NumberCases : Type 0 where
   pub refusals : TABLE ∷ NETWORK ∷ LONG ∷ SHORT ∷ UNTAGGED ∷ UNKNOWN ∷ DAMAGED ∷ ROOM ∷ SETTING ∷ TAKEN ∷ FULL ∷ SLOT ∷ TAGGED ∷ GROUP ∷ BATCH ∷ TRAILER ∷ INDEX ∷ []
       ≡ 1 ∷ 2 ∷ 3 ∷ 4 ∷ 5 ∷ 6 ∷ 7 ∷ 8 ∷ 9 ∷ 10 ∷ 11 ∷ 12 ∷ 13 ∷ 14 ∷ 15 ∷ 16 ∷ 18 ∷ []
   -- an answer in plain fields, and the mark of a batch
-  pub handed-up : tellArrival (answers (arrived 5 7 (record { priority = 6; vlantag = 1 }) (handedUp 14))) ≡ record { slot = 5; length = 14; number = 7; verdict = 1; refusal = 0; priority = 6; vlantag = 1 }
-  pub again : tellArrival (answers (arrived 5 7 (record { priority = 6; vlantag = 1 }) duplicate)) ≡ record { slot = 5; length = 0; number = 7; verdict = 2; refusal = 0; priority = 6; vlantag = 1 }
-  pub far : tellArrival (answers (arrived 5 7 (record { priority = 3; vlantag = 1 }) rogue)) ≡ record { slot = 5; length = 0; number = 7; verdict = 3; refusal = 0; priority = 3; vlantag = 1 }
-  pub not-taken : tellArrival (refused 8) ≡ record { slot = 0; length = 0; number = 0; verdict = 0; refusal = 8; priority = 0; vlantag = 0 }
-  pub not-reached : mark ≡ record { slot = 0; length = 0; number = 0; verdict = 0; refusal = 0; priority = 0; vlantag = 0 }
+  pub handed-up : tellArrival (answers (arrived 5 7 (record { priority = 6; vlantag = 1 }) (handedUp 14))) ≡ record { slot = 5; length = 14; number = 7; verdict = 1; refusal = 0; rank = record { priority = 6; vlantag = 1 } }
+  pub again : tellArrival (answers (arrived 5 7 (record { priority = 6; vlantag = 1 }) duplicate)) ≡ record { slot = 5; length = 0; number = 7; verdict = 2; refusal = 0; rank = record { priority = 6; vlantag = 1 } }
+  pub far : tellArrival (answers (arrived 5 7 (record { priority = 3; vlantag = 1 }) rogue)) ≡ record { slot = 5; length = 0; number = 7; verdict = 3; refusal = 0; rank = record { priority = 3; vlantag = 1 } }
+  pub not-taken : tellArrival (refused 8) ≡ record { slot = 0; length = 0; number = 0; verdict = 0; refusal = 8; rank = record { priority = 0; vlantag = 0 } }
+  pub not-reached : mark ≡ record { slot = 0; length = 0; number = 0; verdict = 0; refusal = 0; rank = record { priority = 0; vlantag = 0 } }
   -- and the other answers, as C gets them
   pub for-open : (tellOpened (answers (placed 5)) ≡ record { slot = 5; refusal = 0 }) × (tellOpened (refused 9) ≡ record { slot = 0; refusal = 9 })
   pub for-close : (tellDone (answers done) ≡ 0) × (tellDone (refused 12) ≡ 12)

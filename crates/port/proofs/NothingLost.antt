@@ -72,7 +72,7 @@ abbrev readVerdict : (verdict length : ℕ) → Verdict
 readVerdict v l = cond (eqb v 1) (handedUp l) (cond (eqb v 2) duplicate rogue)
 
 abbrev readArrival : ArrivalAnswer → Said Answer
-readArrival a = unless (a .refusal) (arrived (a .slot) (a .number) (record { priority = a .priority; vlantag = a .vlantag }) (readVerdict (a .verdict) (a .length)))
+readArrival a = unless (a .refusal) (arrived (a .slot) (a .number) (a .rank) (readVerdict (a .verdict) (a .length)))
 
 abbrev readOpened : SlotAnswer → Said Answer
 readOpened a = unless (a .refusal) (placed (a .slot))
