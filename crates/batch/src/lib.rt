@@ -1,5 +1,7 @@
 // Up to 32 frames in one call (document 02, order 3): each is a single arrival, and what these hand up is packed into the
 // output. The slot of each is found by the index (order 9).
+#![tactic(auto)]
+
 ghost use Rattle.std.specs.Prelude.{◌≡◌, true, false, ◌+◌, ◌^◌, ◌≤◌, ◌<◌, length, drop, set};
 ghost use Rattle.frame.specs.Bytes.{word};
 ghost use Rattle.calls.specs.Calls.{arriving, Meets};
@@ -20,7 +22,7 @@ pub const FRAMES_MOST: usize = 32;
 // The answer of a batch: the answer of each frame in its place, all zeros where it was not reached; and how many frames came
 // before one that was refused with 8, else the count. Where the call is refused, refusal is the number and the rest is 0.
 #[repr(C)]
-#[derive(Drop)]
+#[derive(Clone, Copy)]
 pub struct Batched {
     pub answers: [ArrivalAnswer; 32],
     pub frames: usize,
@@ -28,7 +30,7 @@ pub struct Batched {
 }
 
 // Where a batch is.
-#[derive(Drop)]
+#[derive(Clone, Copy)]
 pub struct Cursor {
     // The place of the next frame's length.
     pub at: usize,
@@ -43,7 +45,7 @@ pub struct Cursor {
 }
 
 // The next frame: where it starts and ends, and from where on the output is its.
-#[derive(Drop)]
+#[derive(Clone, Copy)]
 pub enum Next {
     Done,
     Frame(usize, usize, usize),

@@ -1,5 +1,7 @@
 // The by-value part of each call on a table: what it answers, what it stores, what it writes (document 01, "Calls and the
 // order of checks", and document 02, orders 1, 10 and 11). The walks over the table are in the crate `receiver`.
+#![tactic(auto)]
+
 mod arrival;
 mod link;
 mod slot;
@@ -18,7 +20,7 @@ use stream::Marks;
 pub use told::tell_arrival;
 
 // What an arrival was found to be.
-#[derive(Drop)]
+#[derive(Clone, Copy)]
 pub enum Verdict {
     // With the length of the frame that was written.
     HandedUp(usize),
@@ -27,7 +29,7 @@ pub enum Verdict {
 }
 
 // The answer of an arrival: a refusal's number, or its stream's slot, its number, its priority and its verdict.
-#[derive(Drop)]
+#[derive(Clone, Copy)]
 pub enum Answer {
     Refused(u8),
     Arrival {
@@ -43,7 +45,7 @@ pub enum Answer {
 // is refused, refusal is the number and the rest is 0. The rank goes through as one: of two fields here the compiler parted it,
 // at three instructions an arrival (docs/SPEED.md).
 #[repr(C)]
-#[derive(Drop)]
+#[derive(Clone, Copy)]
 pub struct ArrivalAnswer {
     pub slot: usize,
     pub length: usize,
@@ -54,35 +56,35 @@ pub struct ArrivalAnswer {
 }
 
 // The answer of an open: the slot.
-#[derive(Drop)]
+#[derive(Clone, Copy)]
 pub enum Opened {
     Refused(u8),
     At(usize),
 }
 
 // The answer of a close and of a reset.
-#[derive(Drop)]
+#[derive(Clone, Copy)]
 pub enum Done {
     Refused(u8),
     Ok,
 }
 
 // The answer of a tick: how many streams it reset, and how many records in use are damaged.
-#[derive(Drop)]
+#[derive(Clone, Copy)]
 pub enum Swept {
     Refused(u8),
     Counted(u64, u64),
 }
 
 // What an arrival asks of the table, by its frame's header and number; or 1 to 5 and 14.
-#[derive(Drop)]
+#[derive(Clone, Copy)]
 pub enum Asked {
     Refused(u8),
     For(Header, u16),
 }
 
 // What an arrival is to its record; or 7 and 8.
-#[derive(Drop)]
+#[derive(Clone, Copy)]
 pub enum Judged {
     Refused(u8),
     HandedUp(Marks),
@@ -91,7 +93,7 @@ pub enum Judged {
 }
 
 // The answer of an open, and what it stores. Where it is refused the slot lies beyond the table, so nothing is stored.
-#[derive(Drop)]
+#[derive(Clone, Copy)]
 pub struct Placing {
     pub answer: Opened,
     pub slot: usize,
@@ -99,7 +101,7 @@ pub struct Placing {
 }
 
 // The answer of a close or a reset, and what it stores, in the same way.
-#[derive(Drop)]
+#[derive(Clone, Copy)]
 pub struct Change {
     pub answer: Done,
     pub slot: usize,
@@ -128,14 +130,14 @@ pub fn hears(s: Stream, dest: u64, vlan: u16, link: bool) -> bool
 }
 
 // The slot that a search was for.
-#[derive(Drop)]
+#[derive(Clone, Copy)]
 pub enum Found {
     At(usize),
     Nothing,
 }
 
 // What an open has to know of a table.
-#[derive(Drop)]
+#[derive(Clone, Copy)]
 pub struct Survey {
     // A slot in use has the key.
     pub taken: bool,
@@ -177,14 +179,14 @@ pub fn blank() -> Stream
 }
 
 // What a tick counts: streams that it reset, and records in use that are damaged.
-#[derive(Drop)]
+#[derive(Clone, Copy)]
 pub struct Sums {
     pub resets: u64,
     pub damaged: u64,
 }
 
 // A record after its tick, and what was counted so far.
-#[derive(Drop)]
+#[derive(Clone, Copy)]
 pub struct Visited {
     pub stream: Stream,
     pub sums: Sums,

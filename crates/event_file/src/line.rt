@@ -9,7 +9,7 @@ ghost use Rattle.event_file.specs.Buffers.{Put, Writes, line_most, last_most};
 use calls::{Answer, Done, Opened, Swept, Verdict};
 
 // The answer of the call that a record asked for.
-#[derive(Drop)]
+#[derive(Clone, Copy)]
 pub enum Reply {
     Open(Opened),
     Close(Done),
@@ -19,7 +19,7 @@ pub enum Reply {
 }
 
 // What is told of a record: that it is bad, or the answer.
-#[derive(Drop)]
+#[derive(Clone, Copy)]
 pub enum Told {
     Bad,
     Answered(Reply),
@@ -81,7 +81,7 @@ fn pair(a: u64, b: u64, buf: &mut [u8], at: usize) -> usize
 
 // A refusal's number in decimal: its digits, or a number that no refusal has. (Document 01, "Which form goes where": a match
 // on refusal numbers for printing.)
-#[derive(Drop)]
+#[derive(Clone, Copy)]
 enum Numeral {
     One(u8),
     Two(u8, u8),

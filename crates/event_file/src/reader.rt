@@ -4,7 +4,7 @@ ghost use Rattle.frame.specs.Bytes.{word};
 ghost use Rattle.event_file.specs.Records.{OPEN, WIDE, read_at, event_of, destination_of};
 
 // What stands at a place of the bytes read so far.
-#[derive(Drop)]
+#[derive(Clone, Copy)]
 pub enum Read {
     // Not a whole record yet.
     More,
@@ -13,7 +13,7 @@ pub enum Read {
 }
 
 // What an open asks for, beside the destination: that is the six bytes behind the kind.
-#[derive(Drop)]
+#[derive(Clone, Copy)]
 pub struct Settings {
     pub vlan: u16,
     pub rule: u8,
@@ -22,7 +22,7 @@ pub struct Settings {
 }
 
 // What a body says.
-#[derive(Drop)]
+#[derive(Clone, Copy)]
 pub enum Event {
     // A body of length 0, an unknown kind or a wrong length.
     Bad,

@@ -1,5 +1,7 @@
 // The records of an event file that stand in a buffer, and the lines that answer them (document 01, "Event file and the
 // program `events`"). Reading the buffer and writing the lines is for the crate `event_turns`.
+#![tactic(auto)]
+
 ghost use Rattle.std.specs.Prelude.{◌≡◌, ◌+◌, ◌-◌, ◌^◌, ◌<◌, ◌≤◌, [], length, take, drop};
 ghost use Rattle.calls.specs.Calls.{opening, closing, Meets};
 ghost use Rattle.calls.specs.Said.{said_opened, said_done};
@@ -13,7 +15,7 @@ use event_file::reader::{Event, Read};
 use record::Stream;
 
 // Where a run is: the next record's number and its place in the input, and how many bytes of lines wait.
-#[derive(Drop)]
+#[derive(Clone, Copy)]
 pub struct Place {
     pub number: u64,
     pub at: usize,
@@ -213,7 +215,7 @@ fn drain(table: &mut [Stream], p: Place, input: &[u8], lines: &mut [u8], out: &m
 }
 
 // The table after the records of a buffer, and where the run is then.
-#[derive(Drop)]
+#[derive(Clone, Copy)]
 pub struct Round {
     pub table: [Stream; 8],
     pub place: Place,

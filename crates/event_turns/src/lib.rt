@@ -1,6 +1,8 @@
 // The run over an event file (document 01, "Event file and the program `events`"): it is read in large pieces, what is left
 // of a record is kept, and the lines are written as soon as no record is left that can be answered. Nothing that is printed
 // depends on how the input is cut into reads.
+#![tactic(auto)]
+
 ghost use Rattle.std.specs.Prelude.{◌≡◌, true, false, not, ◌+◌, ◌-◌, ◌≤◌, ◌<◌, length, take, drop};
 ghost use Rattle.std.specs.Int.Signed.{non_neg};
 ghost use Rattle.record.specs.Sizes.{frame_most};
@@ -32,7 +34,7 @@ fn shift(input: &mut [u8], at: usize, to: usize) -> usize
 }
 
 // The descriptor onto which bytes were handed over to be written, how many, and whether they went out.
-#[derive(Drop)]
+#[derive(Clone, Copy)]
 pub struct Sent {
     pub onto: i32,
     pub wrote: usize,
@@ -65,7 +67,7 @@ fn flush(onto: i32, lines: &[u8], used: usize) -> Sent
 
 // What one read brought: the descriptor that it came from, the place up to which the buffer is read now, and the read's
 // answer.
-#[derive(Drop)]
+#[derive(Clone, Copy)]
 struct Piece {
     from: i32,
     to: usize,
@@ -98,7 +100,7 @@ fn fill(from: i32, input: &mut [u8], left: usize) -> Piece
 
 // Where a run is between two turns: the table, the next record's number, and the part of the input buffer, from a place up
 // to another, that is still to be answered.
-#[derive(Drop)]
+#[derive(Clone, Copy)]
 struct Held {
     table: [Stream; 8],
     number: u64,
@@ -108,7 +110,7 @@ struct Held {
 
 // How a run stands after a turn: it goes on, its input has ended, a read or a write has failed, or the numbers for records
 // are used up.
-#[derive(Drop)]
+#[derive(Clone, Copy)]
 enum Stand {
     Going,
     Ended,
@@ -118,7 +120,7 @@ enum Stand {
 
 // What a turn came to: where the run is then, what of the first bytes of the lines was handed over to be written, the
 // descriptor that it reads from and what the read answered (0 where it did not read), and how the run stands.
-#[derive(Drop)]
+#[derive(Clone, Copy)]
 struct Turn {
     held: Held,
     sent: Sent,
@@ -236,7 +238,7 @@ fn stay(held: Held, sent: Sent, from: i32, stand: Stand) -> Turn
 
 // What a run came to: the input has ended and the last line was handed over; the version byte is absent or different, and
 // `version` was; a read or a write before these has failed; or the numbers for records, or the turns, are used up.
-#[derive(Drop)]
+#[derive(Clone, Copy)]
 pub enum Over {
     Printed(Sent),
     Version(Sent),

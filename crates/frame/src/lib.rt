@@ -1,5 +1,7 @@
 // The bytes of one frame: the header reader, a tag taken out, a tag written (document 01, "The frame", and document 02,
 // orders 1 and 11); `link` has what is read and written of a virtual link's.
+#![tactic(auto)]
+
 mod link;
 
 ghost use Rattle.std.specs.Prelude.{◌≡◌, ◌+◌, ◌*◌, ◌≤◌, ◌<◌, length};
@@ -12,7 +14,7 @@ pub use link::{read_link, write_shorter};
 use record::Stream;
 
 // What stands before a frame's data.
-#[derive(Drop)]
+#[derive(Clone, Copy)]
 pub struct Header {
     // The destination's six bytes as one number, high byte first.
     pub dest: u64,
@@ -26,49 +28,49 @@ pub struct Header {
 
 // The VLAN tag's three priority bits, 0 to 7, and whether such a tag is there: 1, or 0 and priority 0 (order 11).
 #[repr(C)]
-#[derive(Drop)]
+#[derive(Clone, Copy)]
 pub struct Rank {
     pub priority: u8,
     pub vlantag: u8,
 }
 
 // A frame's header, or a frame too short to have one.
-#[derive(Drop)]
+#[derive(Clone, Copy)]
 pub enum Head {
     Short,
     Whole(Header),
 }
 
 // A tagged frame's header and number, or the number of its refusal.
-#[derive(Drop)]
+#[derive(Clone, Copy)]
 pub enum TagRead {
     Refused(u8),
     Tagged(Header, u16),
 }
 
 // Where a tag is put into a frame, or the number of its refusal.
-#[derive(Drop)]
+#[derive(Clone, Copy)]
 pub enum TagPlace {
     Refused(u8),
     At(usize),
 }
 
 // A virtual link's destination and number, or the number of its refusal.
-#[derive(Drop)]
+#[derive(Clone, Copy)]
 pub enum LinkRead {
     Refused(u8),
     Link(u64, u16),
 }
 
 // A tag taken out: its number, and the length of the frame without it.
-#[derive(Drop)]
+#[derive(Clone, Copy)]
 pub enum Taken {
     Refused(u8),
     Out(u16, usize),
 }
 
 // A tag written: the length of the frame with it.
-#[derive(Drop)]
+#[derive(Clone, Copy)]
 pub enum Written {
     Refused(u8),
     Out(usize),

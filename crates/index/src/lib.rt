@@ -1,5 +1,7 @@
 // The index beside the table (document 02, order 9): its size, and the place of a key. What an index is, and what the calls
 // that take one come to, is in specs/; the walks over table and index are in the crate `receiver`.
+#![tactic(auto)]
+
 ghost use Rattle.std.specs.Prelude.{◌≡◌, ◌<◌};
 ghost use Rattle.index.specs.Index.{place_of, places};
 

@@ -1,1 +1,2 @@
 // No code: what holds of virtual links and what does not (specs/), and why (proofs/).
+#![tactic(auto)]

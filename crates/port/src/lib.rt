@@ -1,5 +1,7 @@
 // The interface for C: numbers and slices only. Each function calls the library below it and tells its answer as plain
 // fields, since an enum can't cross.
+#![tactic(auto)]
+
 ghost use Rattle.std.specs.Prelude.{◌≡◌, []};
 ghost use Rattle.frame.specs.TagCalls.{take_tag, write_tag};
 ghost use Rattle.calls.specs.Calls.{arriving, opening, closing, resetting};
@@ -17,7 +19,7 @@ use sender::{Sender, Sent};
 
 // The answer of a tag call. Where it is refused, refusal is the number and the rest is 0; otherwise refusal is 0.
 #[repr(C)]
-#[derive(Drop)]
+#[derive(Clone, Copy)]
 pub struct TagAnswer {
     pub length: usize,
     pub number: u16,
@@ -115,7 +117,7 @@ pub extern "C" fn nippitsun_reset_sender(sender: &mut u16)
 
 // The answer of an open. Where it is refused, refusal is the number and slot is 0; otherwise refusal is 0.
 #[repr(C)]
-#[derive(Drop)]
+#[derive(Clone, Copy)]
 pub struct SlotAnswer {
     pub slot: usize,
     pub refusal: u8,

@@ -1,5 +1,7 @@
 // The batch for C. It has a library of its own: in one with the single arrival the compiler would keep what both use once,
 // as a function that both call, and a single arrival would take longer (docs/SPEED.md).
+#![tactic(auto)]
+
 ghost use Rattle.batch.specs.Indexed.{MeetsBatchBy};
 
 use batch::Batched;

@@ -1,4 +1,6 @@
 // The arrival of a virtual link for C. It has a library of its own, as the tick has, so that no other call's code changes with it.
+#![tactic(auto)]
+
 ghost use Rattle.calls.specs.Calls.{linking};
 ghost use Rattle.calls.specs.Told.{tell_arrival};
 ghost use Rattle.port.specs.Answers.{MeetsInC};

@@ -1,4 +1,6 @@
 // PRP lines for C (document 02, order 7). A library of its own, as batch and tick have: so no other call's code changes.
+#![tactic(auto)]
+
 ghost use Rattle.std.specs.Prelude.{◌≡◌};
 ghost use Rattle.prp.specs.Prp.{trailer_of, from_prp, to_prp, said_turned};
 ghost use Rattle.port_prp.specs.Lines.{line_of, tell_turned};
@@ -7,7 +9,7 @@ use prp::{Kind, Turned};
 
 // The answer of a turn. Where it is refused, refusal is the number and the rest is 0; otherwise refusal is 0.
 #[repr(C)]
-#[derive(Drop)]
+#[derive(Clone, Copy)]
 pub struct PrpAnswer {
     pub length: usize,
     pub number: u16,

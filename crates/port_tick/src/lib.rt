@@ -1,5 +1,7 @@
 // The tick for C. It has a library of its own: in one with the single arrival the compiler would keep what both use once, as a
 // function that both call, and a single arrival would take longer (docs/SPEED.md).
+#![tactic(auto)]
+
 ghost use Rattle.std.specs.Prelude.{◌≡◌, []};
 ghost use Rattle.calls.specs.Calls.{ticking};
 ghost use Rattle.calls.specs.Said.{said_swept};
@@ -11,7 +13,7 @@ use record::Stream;
 
 // The answer of a tick. Where it is refused, refusal is the number and the rest is 0; otherwise refusal is 0.
 #[repr(C)]
-#[derive(Drop)]
+#[derive(Clone, Copy)]
 pub struct TickAnswer {
     pub resets: u64,
     pub damaged: u64,

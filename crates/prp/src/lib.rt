@@ -1,4 +1,6 @@
 // PRP lines (document 02, order 7): a frame with a trailer is turned into one with a tag, and back.
+#![tactic(auto)]
+
 ghost use Rattle.std.specs.Prelude.{◌≡◌, ◌+◌, ◌≤◌, ◌<◌, length, drop};
 ghost use Rattle.frame.specs.Bytes.{word, overlay};
 ghost use Rattle.frame.specs.Frame.{type_at, cut_at};
@@ -9,14 +11,14 @@ use frame::{Head, TagRead};
 use record::Stream;
 
 // A line's kind of trailer: the first edition's, or that of 2012.
-#[derive(Drop)]
+#[derive(Clone, Copy)]
 pub enum Kind {
     First,
     Of2012,
 }
 
 // A turn: network, number, and how many bytes were written. Or the number of its refusal.
-#[derive(Drop)]
+#[derive(Clone, Copy)]
 pub enum Turned {
     Refused(u8),
     Out(u8, u16, usize),

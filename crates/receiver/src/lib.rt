@@ -1,5 +1,7 @@
 // The table that the caller lends, a slice of stream records, and the index beside it (document 02, order 9). Each function here
 // is a thin walk; what is decided of one record is decided by value in the crates below, and of one place in `places`.
+#![tactic(auto)]
+
 mod places;
 
 ghost use Rattle.std.specs.Prelude.{◌≡◌, true, [], ◌<◌, ◌≤◌, leb, length, set};
@@ -23,14 +25,14 @@ use record::Stream;
 use stream::Marks;
 
 // What a place of the index says: it is empty, or names a slot.
-#[derive(Drop)]
+#[derive(Clone, Copy)]
 pub enum Named {
     Nothing,
     Slot(usize),
 }
 
 // The key of a slot, and whether it is in use.
-#[derive(Drop)]
+#[derive(Clone, Copy)]
 pub struct Holder {
     pub dest: u64,
     pub vlan: u16,

@@ -1,5 +1,6 @@
 // The refusal numbers of document 01, "Calls and the order of checks", and of the orders of document 02, by name.
 // Beside each name stand the document's words. specs/Numbers.antt has the same names for the contracts.
+#![tactic(auto)]
 
 // The table has more than 64 slots.
 pub const TABLE: u8 = 1;

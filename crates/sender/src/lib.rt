@@ -1,5 +1,7 @@
 // The sending side (document 02, order 6): a sender stream by value, the call that writes the same tagged frame for both
 // networks or for neither, and the reset.
+#![tactic(auto)]
+
 ghost use Rattle.std.specs.Prelude.{◌≡◌};
 ghost use Rattle.sender.specs.Sender.{sender_at_first, following, reset_of, send_of, comes_to};
 
@@ -7,20 +9,20 @@ use frame::TagPlace;
 
 // A sender stream. Every value is a sender: the number that the next frame gets.
 #[repr(C)]
-#[derive(Drop)]
+#[derive(Clone, Copy)]
 pub struct Sender {
     pub next: u16,
 }
 
 // What a send answers: the number of its refusal, or the number that the frame got and the length of the tagged frame.
-#[derive(Drop)]
+#[derive(Clone, Copy)]
 pub enum Sent {
     Refused(u8),
     Out(u16, usize),
 }
 
 // What a send leaves: the sender as it is then, and the answer.
-#[derive(Drop)]
+#[derive(Clone, Copy)]
 pub struct Sending {
     pub sender: Sender,
     pub answer: Sent,

@@ -1,5 +1,7 @@
 // One stream record, by value: when it is lawful, how an arrival is decided, how it ages (document 01, "The stream record"
 // and "Decisions"). No public function has a condition on its caller: every bit pattern of a record is answered for.
+#![tactic(auto)]
+
 mod cases;
 mod effects;
 mod history;
@@ -19,7 +21,7 @@ const FRESH_ANCHOR: u16 = 65535;
 
 // What an arrival that is handed up leaves: how many more are lost, how many places the history moves up and which bit is then
 // set, the anchor, the places left for older numbers, and whether it is out of order.
-#[derive(Drop)]
+#[derive(Clone, Copy)]
 pub struct Marks {
     pub lost: u64,
     pub places: u16,
@@ -30,7 +32,7 @@ pub struct Marks {
 }
 
 // What an arrival is to a record. A record that is not lawful has no verdict.
-#[derive(Drop)]
+#[derive(Clone, Copy)]
 pub enum Weighed {
     Damaged,
     HandedUp(Marks),
@@ -39,7 +41,7 @@ pub enum Weighed {
 }
 
 // The answer of a tick: the record after it, whether the stream was reset, whether the record is damaged.
-#[derive(Drop)]
+#[derive(Clone, Copy)]
 pub struct Ticked {
     pub stream: Stream,
     pub reset: bool,

@@ -1,5 +1,7 @@
 // Puts a redundancy tag with the number 7 into the frame on standard input and writes the tagged frame to standard output:
 // the smallest use of the proved tag writer. A frame that it refuses gives no output.
+#![tactic(auto)]
+
 use frame::Written;
 use libc::{STDIN_FILENO, STDOUT_FILENO};
 use record::Stream;

@@ -1,5 +1,7 @@
 // The decision on one record, exported for the benchmark alone: what `stream::weigh` and `stream::next` give, by value.
 // A row of decisions has a crate of its own: with two callers in one archive `weigh` would no longer be inlined.
+#![tactic(auto)]
+
 ghost use Rattle.std.specs.Prelude.{◌≡◌};
 ghost use Rattle.timing.specs.Decided.{tell, decided_of};
 
@@ -8,7 +10,7 @@ use stream::Weighed;
 
 // The record after an arrival, and what the arrival was to it.
 #[repr(C)]
-#[derive(Drop)]
+#[derive(Clone, Copy)]
 pub struct Decided {
     pub stream: Stream,
     // 0 damaged, 1 handed up, 2 duplicate, 3 rogue.

@@ -1,4 +1,6 @@
 // Decisions in a row on one record, exported for the benchmark alone: so a decision is measured without the cost of a call.
+#![tactic(auto)]
+
 ghost use Rattle.std.specs.Prelude.{◌≡◌};
 ghost use Rattle.timing_row.specs.Row.{in_row};
 
