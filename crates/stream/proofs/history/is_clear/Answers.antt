@@ -1,5 +1,5 @@
 -- `stream::history::is_clear` meets its contract. Assumes nothing.
-use Rattle.std.proofs.Common.{◌≡◌, ◌*◌, ◌^◌, ◌<◌, ◌≤◌, length, get_or, sym, arith, w64, Fits, rules, le-ltb, lt-ltb}
+use Rattle.std.proofs.Common.{◌≡◌, ◌*◌, ◌^◌, length, get_or, sym, arith, w64, Fits, rules, le-ltb, lt-ltb}
 use native.Mathlib.Decide.{dec_lt}
 use Rattle.stream.specs.History.{value, within}
 use Rattle.stream.proofs.Words.{clear-lt, not-clear, beyond}

@@ -1,5 +1,5 @@
 -- `stream::history::is_long_within` meets its contract. Assumes nothing.
-use Rattle.std.proofs.Common.{◌≡◌, ℕ, ◌+◌, ◌-◌, ◌*◌, ◌/◌, ◌%◌, ◌^◌, ◌<◌, ◌≤◌, true, false, ltb, get_or, sym, ap, ◌∙◌, le_trans, arith, pow_mono, w64, Fits, rules, ltb-false, ltb-true, le-ltb}
+use Rattle.std.proofs.Common.{◌≡◌, ℕ, ◌+◌, ◌-◌, ◌*◌, ◌/◌, ◌%◌, ◌^◌, ◌≤◌, true, false, ltb, get_or, sym, ap, ◌∙◌, le_trans, arith, pow_mono, w64, Fits, rules, ltb-false, ltb-true, le-ltb}
 use Rattle.stream.specs.History.{value, within}
 use Rattle.stream.proofs.Digits.{top-clear}
 use Rattle.stream.proofs.Words.{last_word}

@@ -1,5 +1,5 @@
 -- `stream::history::moved` meets its contract. Assumes nothing.
-use Rattle.std.proofs.Common.{ℕ, ◌-◌, ◌*◌, ◌%◌, ◌^◌, ◌<◌, ◌≤◌, List, ◌∷◌, get_or, replicate, sym, ap, ◌∙◌, lt_of_lt_of_le, mod-lt, arith, pow_pos, pow_mono, w64, Fits, rules}
+use Rattle.std.proofs.Common.{ℕ, ◌*◌, ◌%◌, ◌^◌, ◌<◌, ◌≤◌, List, ◌∷◌, get_or, replicate, sym, ap, ◌∙◌, lt_of_lt_of_le, mod-lt, arith, pow_pos, pow_mono, w64, Fits, rules}
 use Rattle.stream.specs.History.{value, words_of}
 use Rattle.stream.proofs.Words.{one_word, cut_up}
 use Rattle.stream.proofs.Moves.{top_shift}

@@ -1,5 +1,5 @@
 -- `stream::history::places_up` meets its contract. Assumes nothing.
-use Rattle.std.proofs.Common.{◌≡◌, ℕ, ◌+◌, ◌-◌, ◌*◌, ◌/◌, ◌^◌, ◌<◌, ◌≤◌, length, get_or, set, replicate, sym, ap, ◌∙◌, arith, length-set, get_or-set_other, get_or-set_same, w64, Fits, rules, below_more}
+use Rattle.std.proofs.Common.{◌≡◌, ◌+◌, ◌-◌, ◌*◌, ◌/◌, ◌^◌, ◌<◌, length, get_or, set, replicate, sym, ap, ◌∙◌, arith, length-set, get_or-set_other, get_or-set_same, w64, Fits, rules, below_more}
 use Rattle.stream.specs.History.{value}
 use Rattle.stream.proofs.Words.{words-at}
 use Rattle.stream.proofs.Shifts.{zeros-at, cut-words}
