@@ -1,7 +1,7 @@
 -- `frame::place_of` meets its contract: at each return a law says where the tag is put.
 use Rattle.std.proofs.Common.{arith, sym, ap, ◌∙◌}
 use Rattle.refusal.specs.Checks.Said.{answers}
-use Rattle.frame.proofs.Heads.{HeadIs, head-is, short-is}
+use Rattle.frame.proofs.Heads.{head-is, short-is}
 use Rattle.frame.proofs.Writes.{place-long, place_short, place-tagged, place-group, place-whole}
 use Rattle.frame.proofs.place_of.Goals as goal
 

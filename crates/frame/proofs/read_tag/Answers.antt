@@ -2,7 +2,7 @@
 use Rattle.std.proofs.Common.{arith}
 use borrow.Author.Tests.{lt-ltb, not-true, not-false}
 use Rattle.frame.specs.Frame.{read_of}
-use Rattle.frame.proofs.Heads.{HeadIs, head-is, short-is, type-least, read_short, read-untagged, read-cut, read_whole}
+use Rattle.frame.proofs.Heads.{head-is, short-is, type-least, read_short, read-untagged, read-cut, read_whole}
 use Rattle.frame.proofs.read_tag.Goals as goal
 
 pub returns-then-frame-gt-FRAME_MOST : goal.returns-then-frame-gt-FRAME_MOST

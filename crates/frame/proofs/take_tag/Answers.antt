@@ -1,6 +1,6 @@
 -- `frame::take_tag` meets its contract: at each return a law says what the call comes to.
 use Rattle.std.proofs.Common.{arith}
-use Rattle.frame.proofs.Heads.{TagIs, tag_is}
+use Rattle.frame.proofs.Heads.{tag_is}
 use Rattle.frame.proofs.Writes.{take-refused, take-small, take_done}
 use Rattle.frame.proofs.take_tag.Goals as goal
 
