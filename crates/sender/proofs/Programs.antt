@@ -1,8 +1,7 @@
 -- What a program gets from the calls of the sending side. Assumes nothing.
-use mathlib.Core.Path.{◌≡◌, refl, sym, ap, ◌∙◌}
+use mathlib.Core.Path.{◌≡◌, refl, ap, ◌∙◌}
 use mathlib.Core.List.{List, [], ◌∷◌, ◌++◌}
 use Rattle.sender.specs.declared.Sender.{Sender}
-use Rattle.sender.specs.Sender.{Sends}
 use Rattle.sender.specs.Runs.{Call, sending, resetting, Side, the_side, Pair, pair_of, sent, SideGot, sent_so, reset_so, sender_left, EnsuredCall, EnsuredCalls, side_gives, side_gives_all, SendRunsCoincide, sent_in, SentIsRead}
 
 one : (s : Sender) (c : Call) (g : SideGot) → EnsuredCall s c g → g ≡ side_gives the_side s c
