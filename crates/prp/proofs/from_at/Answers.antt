@@ -37,7 +37,7 @@ returns c =
     let k = trailer_of c.args.kind in
     let w : c.word_at.result ≡ word f (end_at k f + 2) = c.word_at.ensures ∙ ap (λ x. word f (x + 2)) c.requires.there in
     let p =
-        from-done k f c.args.out.now (omega arith) (omega arith) c.requires.bare (sym c.has_trailer.ensures ∙ c.if-not-has_trailer.false)
-        c.requires.there c.requires.here (ap (λ x. x / 4096 - 10) w) (c.word_at-number.ensures ∙ ap (word f) c.requires.there) refl c.if-out-len.false
-        c.write_with.ensures in
+    from-done k f c.args.out.now (omega arith) (omega arith) c.requires.bare (sym c.has_trailer.ensures ∙ c.if-not-has_trailer.false)
+    c.requires.there c.requires.here (ap (λ x. x / 4096 - 10) w) (c.word_at-number.ensures ∙ ap (word f) c.requires.there) refl c.if-out-len.false
+    c.write_with.ensures in
     record { result_value = p.0; out_after = p.1 }

@@ -46,8 +46,8 @@ returns-then-out-len c =
     let room : type_at (untagged f) + 2 ≤ length f - 6 = omega arith in
     let long = to-length k c.args.network f c.requires.known {r = Tagged _ _} _ _ (sym c.requires.read) refl room in
     let p =
-        to-small k c.args.network f c.args.out.now (to_turn k c.args.network c.args.number f)
-        (to_is k c.args.network f c.requires.known {r = Tagged _ _} _ _ (sym c.requires.read) refl room) (omega arith) in
+    to-small k c.args.network f c.args.out.now (to_turn k c.args.network c.args.number f)
+    (to_is k c.args.network f c.requires.known {r = Tagged _ _} _ _ (sym c.requires.read) refl room) (omega arith) in
     record { result_value = p.0; out_after = p.1 }
 
 pub write_trailer-requires-clause-size_bound : goal.write_trailer-requires-clause-size_bound
@@ -64,9 +64,9 @@ returns c =
     let room : type_at (untagged f) + 2 ≤ length f - 6 = omega arith in
     let long = to-length k c.args.network f c.requires.known {r = Tagged _ _} _ _ (sym c.requires.read) refl room in
     let w =
-        to-written k c.args.network f c.requires.known {r = Tagged _ _} _ _ (sym c.requires.read) refl room c.args.out.now
-        (c.requires.here ∙ sym (known f c.requires.read).at) refl (omega arith) (omega arith) c.write_trailer.ensures c.write_without.ensures in
+    to-written k c.args.network f c.requires.known {r = Tagged _ _} _ _ (sym c.requires.read) refl room c.args.out.now
+    (c.requires.here ∙ sym (known f c.requires.read).at) refl (omega arith) (omega arith) c.write_trailer.ensures c.write_without.ensures in
     let p =
-        to-done k c.args.network f c.args.out.now (to_turn k c.args.network c.args.number f)
-        (to_is k c.args.network f c.requires.known {r = Tagged _ _} _ _ (sym c.requires.read) refl room) (omega arith) c.if-out-len.false w in
+    to-done k c.args.network f c.args.out.now (to_turn k c.args.network c.args.number f)
+    (to_is k c.args.network f c.requires.known {r = Tagged _ _} _ _ (sym c.requires.read) refl room) (omega arith) c.if-out-len.false w in
     record { result_value = p.0; out_after = p.1 }
