@@ -1,5 +1,5 @@
 -- `stream::history::set_bit` meets its contract. Assumes nothing.
-use Rattle.std.proofs.Common.{◌≡◌, ℕ, ◌+◌, ◌-◌, ◌*◌, ◌/◌, ◌%◌, ◌^◌, eqb, bit_or, [], ◌∷◌, get_or, set, if◌then◌else◌, sym, refl, ap, ◌∙◌, ap₂, arith, w64, Fits, rules, eq-eqb, ne_eqb}
+use Rattle.std.proofs.Common.{◌≡◌, ℕ, ◌*◌, ◌/◌, ◌%◌, ◌^◌, eqb, bit_or, [], ◌∷◌, get_or, set, if◌then◌else◌, sym, refl, ap, ◌∙◌, ap₂, arith, w64, Fits, rules, eq-eqb, ne_eqb}
 use Rattle.stream.specs.History.{bit, set_bit}
 use Rattle.stream.proofs.Digits.{one_shl}
 use Rattle.stream.proofs.Words.{set_word}
