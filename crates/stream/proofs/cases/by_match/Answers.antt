@@ -1,6 +1,6 @@
 -- `stream::cases::by_match` meets its contract. Assumes nothing.
 use Rattle.std.proofs.Common.{◌≡◌, ℕ, ◌^◌, ◌<◌, true, false, eqb, ℤ, sym, ap, ◌∙◌, arith, w32, SFits, of_z, rules, eq-eqb, ne_eqb}
-use Rattle.stream.specs.Decisions.{Signed, difference, as_int, case_of, match_case, state_after, losses, out_of_order}
+use Rattle.stream.specs.Decisions.{Signed, difference, as_int, state_after, losses, out_of_order}
 use Rattle.stream.specs.Steps.{weighed_as}
 use Rattle.stream.proofs.Flags.{is-yes, is-no}
 use Rattle.stream.proofs.Reading.{forward, isℤ, bits_are}
