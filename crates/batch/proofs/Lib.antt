@@ -7,12 +7,6 @@ pub mod Lengths
 pub mod Filling
 pub mod Fits
 pub mod Turning
-pub mod Values
-pub mod Enums
-pub mod Tails
-pub mod Rows
-pub mod ThirtyTwo
-pub mod Fields
 -- The steps of the code are the batch: what is packed, the middle of a batch, and the call.
 pub mod Packing
 pub mod Middle

@@ -100,7 +100,8 @@ walk_put ix t k i (suc c) p below len h r =
         let other : p % places ≢ q = λ x. (let w : suc m ≡ 0 = sym e ∙ ap (λ (y : ℕ). get_or ix y 0) x ∙ z.0 in absurd (omega arith)) in
         let s : get_or (set ix q (suc i)) (p % places) 0 ≡ suc m = get_or-set_other ix q (p % places) (suc i) 0 other ∙ e in
         let l : suc m ≤ i = subst (λ (x : ℕ). x ≤ i) e (below (p % places)) in
-        rw (e, s) (goes m q l (f m e) (keyed k (at t m)) refl)
+        let v : probe ix (suc c) p ≡ q = rw e refl in
+        subst (λ (x : ℕ). walk (set ix x (suc i)) t k (suc c) p ≤ i) (sym v) (rw s (goes m q l (f m e) (keyed k (at t m)) refl))
 
 -- How many places are not empty.
 unfoldable pub full : Index → ℕ

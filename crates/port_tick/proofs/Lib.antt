@@ -1,4 +1,2 @@
 -- Nothing is lost in what the tick tells.
 pub mod NothingLost
--- What the walk names.
-mod Values

@@ -1,2 +1,0 @@
--- What a walk names of the answer.
-pub mod Values

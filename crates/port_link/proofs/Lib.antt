@@ -1,2 +1,0 @@
--- What the walk names of the answer.
-mod Values
