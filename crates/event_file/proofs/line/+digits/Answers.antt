@@ -1,5 +1,5 @@
 -- `event_file::line::digits` meets its contract: the digits of a tenth, and the last one. Assumes nothing.
-use Rattle.std.proofs.Common.{ℕ, ◌<◌, ◌≤◌, length, ap, arith}
+use Rattle.std.proofs.Common.{length, ap, arith}
 use Rattle.event_file.proofs.Decimals.{decimal-small, decimal-room}
 use Rattle.event_file.proofs.Writing.{small_put, large-put}
 use Rattle.event_file.proofs.line.+digits.Goals as goal
