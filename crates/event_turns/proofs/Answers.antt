@@ -8,14 +8,13 @@ use lib.IntN.{ℤ, pos, negsuc}
 use lib.Signed.{lt_z, non_neg}
 use lib.Dec.{ltb}
 use borrow.Author.Tests.{le-ltb}
-use Rattle.libc.specs.Io.{Moved}
 use Rattle.io.specs.Counts.{clamp_len}
 use Rattle.std.specs.Prelude.{if◌then◌else◌}
 use Rattle.event_file.specs.declared.reader.Read.{Read}
 use Rattle.event_file.specs.declared.reader.Read.TheVariants.{Body, More}
 use Rattle.event_run.specs.Run.{last_number}
 use Rattle.event_turns.specs.declared.Stand.TheVariants.{Going, Ended, Failed, Used}
-use Rattle.event_turns.specs.Turns.{bytes_in, is_whole, after_whole, after_read}
+use Rattle.event_turns.specs.Turns.{Moved, bytes_in, is_whole, after_whole, after_read}
 
 -- all that a read brought is counted
 pub clamp-bytes : (got : ℤ) (most all : ℕ) → Moved most got → most ≤ all → clamp_len got all ≡ bytes_in got

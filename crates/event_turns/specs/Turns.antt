@@ -28,6 +28,11 @@ pub record Handed (onto : ℤ) (bytes lines : List ℕ) (s : Sent) : Type 0 wher
   pub there : s.onto ≡ onto
   pub front : take s.wrote lines ≡ bytes
 
+-- what a read answers that has room for so many bytes: how many it brought, or -1
+abbrev pub Moved : (room : ℕ) → ℤ → Type 0
+Moved room (pos n) = n ≤ room
+Moved room (negsuc n) = n ≡ 0
+
 -- how many bytes a read brought that answered so
 abbrev pub bytes_in : ℤ → ℕ
 bytes_in (pos n) = n

@@ -3,18 +3,22 @@
 // depends on how the input is cut into reads.
 #![tactic(auto)]
 
-ghost use Rattle.std.specs.Prelude.{◌≡◌, true, false, not, ◌+◌, ◌-◌, ◌≤◌, ◌<◌, length, take, drop};
+ghost use Rattle.std.specs.Prelude.{ℤ, IfSome, ◌≡◌, true, false, not, ◌+◌, ◌-◌, ◌≤◌, ◌<◌, length, take, drop};
 ghost use Rattle.std.specs.Int.Signed.{non_neg};
 ghost use Rattle.record.specs.Sizes.{frame_most};
 ghost use Rattle.event_file.specs.Records.{read_at};
 ghost use Rattle.event_file.specs.Buffers.{line_most, last_most};
 ghost use Rattle.event_run.specs.Run.{Drained};
-ghost use Rattle.event_turns.specs.Turns.{Filled, place_of, left_of, stays, is_whole, after_whole, after_read, Turned, Stops, Ran, starts_one, start_of, version_line, Served, Runs};
+ghost use Rattle.event_turns.specs.Turns.{Moved, Filled, place_of, left_of, stays, is_whole, after_whole, after_read, Turned, Stops, Ran, starts_one, start_of, version_line, Served, Runs};
 
 use event_file::reader::Read;
 use event_run::{Place, Round};
-use libc::STDERR_FILENO;
 use record::Stream;
+use std::io::Read as Reads;
+use std::os::fd::AsRawFd;
+
+// The descriptor of standard error.
+const STDERR_FILENO: i32 = 2;
 
 // Moves the bytes from a place up to another to the front, and answers how many.
 fn shift(input: &mut [u8], at: usize, to: usize) -> usize
@@ -81,12 +85,23 @@ fn failed(got: isize) -> bool
     got < 0
 }
 
-// Reads a piece behind the bytes that are left. There is room for one, so that no byte read means the end of the input.
-fn fill(from: i32, input: &mut [u8], left: usize) -> Piece
+// One read, as the C library tells it: how many bytes it brought, or less than 0 where it failed.
+fn read<R: Reads>(reader: &mut R, buf: &mut [u8]) -> isize
+    ensures { Moved (length buf.old) result }
+{
+    match reader.read(buf) {
+        Ok(n) => n as isize,
+        Err(_) => -1,
+    }
+}
+
+// Reads a piece behind the bytes that are left, by the reader of a descriptor. There is room for one, so that no byte read means
+// the end of the input.
+fn fill<R: Reads>(reader: &mut R, from: i32, input: &mut [u8], left: usize) -> Piece
     requires { left < length input.old }
     ensures { Filled from left input.old input.new result }
 {
-    let got = libc::read(from, &mut input[left..]);
+    let got = read(reader, &mut input[left..]);
     if failed(got) {
         io::write_all(STDERR_FILENO, b"events: cannot read\n");
     }
@@ -182,7 +197,7 @@ fn after_read(got: isize) -> Stand
 }
 
 // One turn: answers what can be answered and writes the lines; then, if no whole record is left, reads a piece more.
-fn go_on(from: i32, onto: i32, h: Held, input: &mut [u8], lines: &mut [u8], out: &mut [u8]) -> Turn
+fn go_on<R: Reads>(reader: &mut R, from: i32, onto: i32, h: Held, input: &mut [u8], lines: &mut [u8], out: &mut [u8]) -> Turn
     requires in_bounds { (65537 ≤ length input.old) × (length out.old ≡ frame_most) × (line_most ≤ length lines.old) }
     requires at_le_to { (h.at ≤ h.to) × (h.to ≤ length input.old) }
     ensures turned { Turned from onto h input.old input.new lines.new result }
@@ -208,7 +223,7 @@ fn go_on(from: i32, onto: i32, h: Held, input: &mut [u8], lines: &mut [u8], out:
         return stay(held, sent, from, after_whole(number));
     }
     let left = shift(input, at, to);
-    let p = fill(from, input, left);
+    let p = fill(reader, from, input, left);
     Turn {
         held: Held {
             table,
@@ -321,7 +336,7 @@ fn going(stand: Stand) -> bool
 }
 
 // A proved loop has to end, and nothing says that an input does: turns are counted down from a number that no run uses up.
-fn turns(from: i32, onto: i32, h: Held, input: &mut [u8], lines: &mut [u8], out: &mut [u8]) -> Over
+fn turns<R: Reads>(reader: &mut R, from: i32, onto: i32, h: Held, input: &mut [u8], lines: &mut [u8], out: &mut [u8]) -> Over
     requires in_bounds { (65537 ≤ length input.old) × (length out.old ≡ frame_most) × (line_most ≤ length lines.old) }
     requires at_le_to { (h.at ≤ h.to) × (h.to ≤ length input.old) }
     ensures { Ran from onto h input.old input.new lines.new result }
@@ -329,7 +344,7 @@ fn turns(from: i32, onto: i32, h: Held, input: &mut [u8], lines: &mut [u8], out:
     let mut held = h;
     let mut left = u64::MAX;
     while left > 0 {
-        let t = go_on(from, onto, held, input, lines, out);
+        let t = go_on(reader, from, onto, held, input, lines, out);
         let h = t.held;
         let stand = t.stand;
         if !going(stand) {
@@ -342,11 +357,11 @@ fn turns(from: i32, onto: i32, h: Held, input: &mut [u8], lines: &mut [u8], out:
 }
 
 // Reads a first piece, and goes on where it starts with the version byte.
-fn serve(from: i32, onto: i32, input: &mut [u8], lines: &mut [u8], out: &mut [u8]) -> Over
+fn serve<R: Reads>(reader: &mut R, from: i32, onto: i32, input: &mut [u8], lines: &mut [u8], out: &mut [u8]) -> Over
     requires { (65537 ≤ length input.old) × (length out.old ≡ frame_most) × (line_most ≤ length lines.old) }
     ensures { Served from onto input.new lines.new result }
 {
-    let p = fill(from, input, 0);
+    let p = fill(reader, from, input, 0);
     if failed(p.got) {
         return Over::Stopped;
     }
@@ -356,7 +371,7 @@ fn serve(from: i32, onto: i32, input: &mut [u8], lines: &mut [u8], out: &mut [u8
         let said = flush(onto, lines, used);
         return Over::Version(said);
     }
-    turns(from, onto, start(to), input, lines, out)
+    turns(reader, from, onto, start(to), input, lines, out)
 }
 
 // Bytes of the input buffer (a record and its length bytes fit, 65537, and a read brings a large piece), and of the lines (a
@@ -365,13 +380,15 @@ const INPUT: usize = 262144;
 
 const LINES: usize = 65536;
 
-// Runs the event file that a descriptor gives, and writes the lines onto another. No contract can say that the bytes go
-// through the descriptors: specs/Turns.antt says what is shown of the turns.
-pub fn run(from: i32, onto: i32) -> Over
-    ensures { Runs from onto result }
+// Runs the event file that the reader of a descriptor gives, and writes the lines onto another. No contract can say that the
+// bytes go through the descriptors: specs/Turns.antt says what is shown of the turns.
+pub fn run<R: Reads + AsRawFd>(from: &mut R, onto: i32) -> Over
+    ensures runs { (number : ℤ) × Runs number onto result }
+    ensures number { IfSome (R.raw_fd from.old) (λ number. Runs number onto result) }
 {
+    let number = from.as_raw_fd();
     let mut input = [0u8; INPUT];
     let mut lines = [0u8; LINES];
     let mut out = [0u8; Stream::FRAME_MOST];
-    serve(from, onto, &mut input, &mut lines, &mut out)
+    serve(from, number, onto, &mut input, &mut lines, &mut out)
 }

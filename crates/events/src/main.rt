@@ -2,8 +2,10 @@
 // `events`").
 #![tactic(auto)]
 
-use libc::{STDIN_FILENO, STDOUT_FILENO};
+// The descriptor of standard output.
+const STDOUT_FILENO: i32 = 1;
 
-fn main() {
-    event_turns::run(STDIN_FILENO, STDOUT_FILENO);
+fn main(rt: HostRuntime) {
+    let mut input = rt.stdin();
+    event_turns::run(&mut input, STDOUT_FILENO);
 }

@@ -27,8 +27,7 @@ pub struct TagAnswer {
 }
 
 // Take a tag out.
-#[unsafe(no_mangle)]
-pub extern "C" fn nippitsun_take_tag(frame: &[u8], out: &mut [u8]) -> TagAnswer
+pub fn nippitsun_take_tag(frame: &[u8], out: &mut [u8]) -> TagAnswer
     ensures value { result ≡ tell_taken (take_tag frame.now out.old).said }
     ensures out_after { out.new ≡ (take_tag frame.now out.old).bytes }
 {
@@ -48,8 +47,7 @@ pub extern "C" fn nippitsun_take_tag(frame: &[u8], out: &mut [u8]) -> TagAnswer
 }
 
 // Write a tag.
-#[unsafe(no_mangle)]
-pub extern "C" fn nippitsun_write_tag(frame: &[u8], number: u16, out: &mut [u8]) -> TagAnswer
+pub fn nippitsun_write_tag(frame: &[u8], number: u16, out: &mut [u8]) -> TagAnswer
     ensures value { result ≡ tell_written number (write_tag frame.now number out.old).said }
     ensures out_after { out.new ≡ (write_tag frame.now number out.old).bytes }
 {
@@ -88,8 +86,7 @@ fn tell_sent(a: Sent) -> TagAnswer
 }
 
 // Send.
-#[unsafe(no_mangle)]
-pub extern "C" fn nippitsun_send(
+pub fn nippitsun_send(
     sender: &mut u16,
     frame: &[u8],
     out0: &mut [u8],
@@ -105,8 +102,7 @@ pub extern "C" fn nippitsun_send(
 }
 
 // Reset of a sender.
-#[unsafe(no_mangle)]
-pub extern "C" fn nippitsun_reset_sender(sender: &mut u16)
+pub fn nippitsun_reset_sender(sender: &mut u16)
     ensures { sender.new ≡ sender_at_first.next }
 {
     let s = sender::at_first();
@@ -149,8 +145,7 @@ fn six_of(dest: &[u8; 6]) -> [u8; 6]
 }
 
 // Arrival.
-#[unsafe(no_mangle)]
-pub extern "C" fn nippitsun_arrival(
+pub fn nippitsun_arrival(
     table: &mut [Stream],
     network: u8,
     frame: &[u8],
@@ -163,8 +158,7 @@ pub extern "C" fn nippitsun_arrival(
 }
 
 // Reset.
-#[unsafe(no_mangle)]
-pub extern "C" fn nippitsun_reset(table: &mut [Stream], slot: usize) -> u8
+pub fn nippitsun_reset(table: &mut [Stream], slot: usize) -> u8
     ensures { MeetsInC tell_done table.old (resetting slot) result table.new [] }
 {
     let a = receiver::reset(table, slot);
@@ -175,8 +169,7 @@ pub extern "C" fn nippitsun_reset(table: &mut [Stream], slot: usize) -> u8
 // places, so that nothing is asked of the caller.
 
 // Open. The destination is six bytes.
-#[unsafe(no_mangle)]
-pub extern "C" fn nippitsun_open(
+pub fn nippitsun_open(
     table: &mut [Stream],
     index: &mut [u8],
     dest: &[u8; 6],
@@ -193,8 +186,7 @@ pub extern "C" fn nippitsun_open(
 }
 
 // Close.
-#[unsafe(no_mangle)]
-pub extern "C" fn nippitsun_close(table: &mut [Stream], index: &mut [u8], slot: usize) -> u8
+pub fn nippitsun_close(table: &mut [Stream], index: &mut [u8], slot: usize) -> u8
     ensures { MeetsIndexedInC tell_done index.old table.old (closing slot) result table.new index.new }
 {
     let a = receiver::close(table, index, slot);
@@ -202,8 +194,7 @@ pub extern "C" fn nippitsun_close(table: &mut [Stream], index: &mut [u8], slot: 
 }
 
 // Rebuild of the index from the table, which stays as it is.
-#[unsafe(no_mangle)]
-pub extern "C" fn nippitsun_rebuild(table: &[Stream], index: &mut [u8]) -> u8
+pub fn nippitsun_rebuild(table: &[Stream], index: &mut [u8]) -> u8
     ensures { MeetsRebuildInC index.old table.now result index.new }
 {
     let a = receiver::rebuild(table, index);

@@ -9,8 +9,7 @@ use record::Stream;
 
 // A batch: the frames stand in one buffer, each behind its length in two bytes, and so do those that are handed up in the
 // output.
-#[unsafe(no_mangle)]
-pub extern "C" fn nippitsun_batch(
+pub fn nippitsun_batch(
     table: &mut [Stream],
     index: &[u8],
     network: u8,

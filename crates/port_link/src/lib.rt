@@ -9,8 +9,7 @@ use calls::ArrivalAnswer;
 use record::Stream;
 
 // Arrival of a virtual link.
-#[unsafe(no_mangle)]
-pub extern "C" fn nippitsun_link_arrival(
+pub fn nippitsun_link_arrival(
     table: &mut [Stream],
     network: u8,
     frame: &[u8],

@@ -47,8 +47,7 @@ fn kind_of(setting: u8) -> Kind
 }
 
 // From PRP.
-#[unsafe(no_mangle)]
-pub extern "C" fn nippitsun_from_prp(frame: &[u8], kind: u8, out: &mut [u8]) -> PrpAnswer
+pub fn nippitsun_from_prp(frame: &[u8], kind: u8, out: &mut [u8]) -> PrpAnswer
     ensures value { result ≡ tell_turned (from_prp (line_of kind) frame.now out.old).said }
     ensures out_after { out.new ≡ (from_prp (line_of kind) frame.now out.old).bytes }
 {
@@ -58,8 +57,7 @@ pub extern "C" fn nippitsun_from_prp(frame: &[u8], kind: u8, out: &mut [u8]) -> 
 }
 
 // To PRP.
-#[unsafe(no_mangle)]
-pub extern "C" fn nippitsun_to_prp(frame: &[u8], network: u8, kind: u8, out: &mut [u8]) -> PrpAnswer
+pub fn nippitsun_to_prp(frame: &[u8], network: u8, kind: u8, out: &mut [u8]) -> PrpAnswer
     ensures value { result ≡ tell_turned (to_prp (line_of kind) network frame.now out.old).said }
     ensures out_after { out.new ≡ (to_prp (line_of kind) network frame.now out.old).bytes }
 {

@@ -38,8 +38,7 @@ fn tell_swept(a: Swept) -> TickAnswer
 }
 
 // Tick.
-#[unsafe(no_mangle)]
-pub extern "C" fn nippitsun_tick(table: &mut [Stream]) -> TickAnswer
+pub fn nippitsun_tick(table: &mut [Stream]) -> TickAnswer
     ensures { MeetsInC tell_swept table.old ticking result table.new [] }
 {
     let a = receiver::tick(table);

@@ -20,7 +20,7 @@ use Rattle.frame.proofs.Heads.{type-least, head-room, tag_of}
 use Rattle.frame.proofs.Words.{word-behind}
 use Rattle.frame.proofs.TakeThenPut.{cut-length, kept, tag-then, again, again-only}
 use Rattle.prp.specs.declared.Kind.{Kind}
-use Rattle.prp.specs.Prp.{Trailer, Turn, trailer_of, width_of, trailer_bytes, end_at, number_at, lan_at, same, lan_of, network_of, is_lan, after_type, wears, body_of, from_of, trailed, to_as_read, to_of}
+use Rattle.prp.specs.Prp.{Trailer, Turn, trailer_of, width_of, trailer_bytes, end_at, number_at, lan_at, lan_of, network_of, is_lan, after_type, wears, body_of, from_of, trailed, to_as_read, to_of}
 use Rattle.prp.specs.RoundTrips.{ToThenFromIs, ToThenFrom, SizesFit}
 use Rattle.prp.specs.Refusals.{Wears, TrailerWords}
 use Rattle.prp.proofs.Trailers.{EndsSo, wears-is, wears-no-size, wears-last, width_is}

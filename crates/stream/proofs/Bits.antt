@@ -1,5 +1,5 @@
 -- The laws of the bits of a number. Assumes nothing.
-use Rattle.std.proofs.Common.{◌≡◌, ℕ, zero, suc, ◌+◌, ◌-◌, ◌*◌, ◌/◌, ◌%◌, ◌^◌, ◌<◌, false, ◌||◌, eqb, sym, ap, ◌∙◌, div-one, arith, shr-shr, eq-eqb, ne_eqb}
+use Rattle.std.proofs.Common.{◌≡◌, ℕ, zero, suc, ◌+◌, ◌*◌, ◌/◌, ◌%◌, ◌^◌, ◌<◌, false, ◌||◌, eqb, sym, ap, ◌∙◌, div-one, arith, shr-shr, eq-eqb, ne_eqb}
 use native.Mathlib.Nat.{zero-div}
 use lib.Dec.{eqb-suc-suc, eqb-zero-suc, eqb-suc-zero}
 use lib.Pow.{field, mod-mod-pow}

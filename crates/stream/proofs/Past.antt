@@ -1,5 +1,5 @@
 -- The laws of a history. Assumes nothing.
-use Rattle.std.proofs.Common.{◌≡◌, ℕ, zero, suc, ◌+◌, ◌-◌, ◌*◌, ◌/◌, ◌%◌, ◌^◌, ◌<◌, ◌≤◌, Bool, true, false, ◌||◌, eqb, ltb, [], ◌∷◌, length, get_or, sym, refl, ap, ◌∙◌, ap₂, lt_of_lt_of_le, add-zero, mod-lt, mod-eq_of_lt, mul-one, arith, pow_pos, pow_mono, ltb-false, ltb-true, le-ltb, lt-ltb, ne_eqb, eqb-true}
+use Rattle.std.proofs.Common.{◌≡◌, ℕ, zero, suc, ◌+◌, ◌*◌, ◌/◌, ◌%◌, ◌^◌, ◌<◌, ◌≤◌, Bool, true, false, ◌||◌, eqb, ltb, [], ◌∷◌, length, get_or, sym, refl, ap, ◌∙◌, ap₂, lt_of_lt_of_le, add-zero, mod-lt, mod-eq_of_lt, mul-one, arith, pow_pos, pow_mono, ltb-false, ltb-true, le-ltb, lt-ltb, ne_eqb, eqb-true}
 use native.Mathlib.Nat.{div-eq_of_lt}
 use native.Mathlib.Decide.{dec_lt}
 use lib.Dec.{eqb-suc-zero}

@@ -1,5 +1,5 @@
 -- A tick, case by case as the code goes. Assumes nothing.
-use Rattle.std.proofs.Common.{◌≡◌, ◌-◌, Bool, true, false, ◌&&◌, refl, arith, eq-eqb, ne_eqb}
+use Rattle.std.proofs.Common.{◌≡◌, ◌-◌, true, false, arith, eq-eqb, ne_eqb}
 use mathlib.Core.Bool.{and-true, and-false}
 use Rattle.record.specs.Words.{yes}
 use Rattle.stream.specs.Record.{Stream, lawful, damaged}

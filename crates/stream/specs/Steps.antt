@@ -1,6 +1,6 @@
 -- Document 01, "Decisions": the decision in the two steps that the code takes, and the answer of a tick. The first step
 -- says what an arrival is to a record and reads no counter; the second gives the record after it. Assumes nothing.
-use Rattle.std.specs.Prelude.{ℕ, Bool, true, false, ◌&&◌, ◌==◌, nat_le, nat_lt}
+use Rattle.std.specs.Prelude.{ℕ, Bool, false, ◌&&◌, ◌==◌, nat_le, nat_lt}
 use Rattle.std.specs.Bool.{beq}
 use Rattle.std.proofs.Math.Option.{Option, none, some}
 use Rattle.std.specs.Prelude.{if◌then◌else◌}

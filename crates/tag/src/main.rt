@@ -3,16 +3,18 @@
 #![tactic(auto)]
 
 use frame::Written;
-use libc::{STDIN_FILENO, STDOUT_FILENO};
 use record::Stream;
+use std::io::Read;
 
-fn main() {
+// The descriptor of standard output.
+const STDOUT_FILENO: i32 = 1;
+
+fn main(rt: HostRuntime) {
     let mut input = [0u8; Stream::FRAME_MOST];
-    let got = libc::read(STDIN_FILENO, &mut input);
-    if got < 0 {
+    let mut from = rt.stdin();
+    let Ok(n) = from.read(&mut input) else {
         return;
-    }
-    let n = io::count(got, &input);
+    };
     let mut out = [0u8; Stream::FRAME_MOST];
     let written = frame::write_tag(&input[..n], 7, &mut out);
     let Written::Out(length) = written else {

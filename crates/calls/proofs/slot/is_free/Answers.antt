@@ -1,0 +1,9 @@
+-- `calls::slot::is_free` meets its contract.
+use Rattle.std.proofs.Common.{refl}
+use Rattle.record.specs.Words.{yes}
+use Rattle.calls.specs.Table.{is_free}
+use Rattle.calls.proofs.slot.is_free.Goals as goal
+
+pub returns : goal.returns
+unfolding is_free yes
+returns c = refl

@@ -1,0 +1,13 @@
+-- `tag::main` is safe: what the writer answers fits into the output. Assumes nothing.
+use Rattle.std.proofs.Common.{◌≤◌, sym, ap, ◌∙◌, arith, length, length-take}
+use Rattle.frame.specs.TagCalls.{said_written}
+use Rattle.frame.proofs.Writes.{written-fits}
+use Rattle.tag.proofs.main.Goals as goal
+
+pub slice_bounds-out-end : goal.slice_bounds-out-end
+slice_bounds-out-end c = omega (arith, written-fits _ 7 _ (sym c.write_tag-written.ensures.result_value ∙ ap said_written c.in-Out.is))
+
+pub slice_bounds-write_all-end : goal.slice_bounds-write_all-end
+slice_bounds-write_all-end c =
+    let fits : c.in-Out.length ≤ 2000 = written-fits _ 7 _ (sym c.write_tag-written.ensures.result_value ∙ ap said_written c.in-Out.is) in
+    simp length-take (omega arith)
