@@ -135,9 +135,6 @@ pub all-sure-agree : (ix : Index) (t : Table) {ok : Bool} → ok ≡ sure_all ix
 unfolding sure_all agrees
 all-sure-agree ix t e y = sym (every-gives (sure_in ix t) (agrees_at ix t) (sure-agrees ix t) (length t) (sym e ∙ y))
 
-pub slot_small : (t : Table) (i : ℕ) → i < length t → length t < 2 ^ 64 → i + 1 < 2 ^ 64
-slot_small t i l r = omega (arith, l, r)
-
 -- ---- the loop of `sure_from`: what is left from the k-th place on comes to what all comes to
 abbrev pub SureLeft : Index → (slot from k : ℕ) → Type 0
 SureLeft ix i from k = (k ≤ places) × (sure_from ix i (places - k) (from + k) ≡ sure_from ix i places from)
