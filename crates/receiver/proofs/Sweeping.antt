@@ -5,7 +5,7 @@ use native.Mathlib.Omega.{arith}
 use mathlib.Core.List.{List, [], ◌∷◌, ◌++◌, append_assoc, append-nil}
 use lib.ListN.{length, get_or, set, take, drop}
 use lib.Seq.{take_all, length-take-le, drop-cons, get_or_at, set_at}
-use Rattle.std.proofs.lemmas.List.{take_more}
+use Rattle.std.proofs.lemmas.List.{take_more, get_or_default}
 use Rattle.std.proofs.Common.{add-one}
 use Rattle.record.specs.declared.Stream.{Stream}
 use Rattle.calls.specs.Table.{Table, blank, at}
@@ -41,13 +41,14 @@ module _ (t zs : Table) (i : ℕ) (c : Sums) (counted : c ≡ sums (take i t)) (
     parts : zs ≡ front ++ e ∷ drop (i + 1) t
     parts = ticked ∙ ap (λ (r : Table). front ++ r) (rw add-one (drop-cons t i blank l))
 
-    same-record : at zs i ≡ e
-    same-record = ap (λ (r : Table). at r i) parts ∙ get_or_at front e (drop (i + 1) t) blank i front-length
+    -- the record that is read
+    same-record : (d : Stream) → i < length zs → get_or zs i d ≡ e
+    same-record d h = get_or_default zs i d blank h ∙ ap (λ (r : Table). at r i) parts ∙ get_or_at front e (drop (i + 1) t) blank i front-length
 
-    pub sweep-next : length t < 2 ^ 64 → (v : Visited) → v ≡ visited c (at zs i)
+    pub sweep-next : length t < 2 ^ 64 → (d : Stream) → i < length zs → (v : Visited) → v ≡ visited c (get_or zs i d)
         → (v.sums ≡ sums (take (i + 1) t)) × (set zs i v.stream ≡ ticked_all (take (i + 1) t) ++ drop (i + 1) t)
-    sweep-next few v said =
-        let v-is : v ≡ visited (sums (take i t)) e = said ∙ (λ j. visited (counted j) (same-record j)) in
+    sweep-next few d h v said =
+        let v-is : v ≡ visited (sums (take i t)) e = said ∙ (λ j. visited (counted j) (same-record d h j)) in
         let more : length (take i t) + 1 < 2 ^ 64 = omega (arith, taken) in
         (ap (λ (w : Visited). w.sums) v-is ∙ sym (sums-snoc (take i t) e more) ∙ ap sums (sym (take_more t i blank l)),
         ap (λ (r : Table). set r i v.stream) parts ∙ set_at front e (drop (i + 1) t) v.stream i front-length

@@ -5,9 +5,9 @@ use Rattle.receiver.proofs.sweep.Given as goal
 
 abbrev pub invariant-loop-i : goal.invariant-loop-i
 invariant-loop-i l = record {
-  within : l.i ≤ length l.fn.t;
-  counted : l.sums ≡ sums (take l.i l.fn.t);
-  ticked : l.t ≡ ticked_all (take l.i l.fn.t) ++ drop l.i l.fn.t;
+  within : l.i ≤ length l.initial.t;
+  counted : l.sums ≡ sums (take l.i l.initial.t);
+  ticked : l.t ≡ ticked_all (take l.i l.initial.t) ++ drop l.i l.initial.t;
 }
 
 abbrev pub decreases-loop-i : goal.decreases-loop-i
