@@ -14,9 +14,6 @@ use Rattle.receiver.proofs.Lists.{one_more}
 abbrev pub VacantLeft : Index → (from k : ℕ) → Type 0
 VacantLeft ix from k = (k ≤ places) × (probe ix (places - k) (from + k) ≡ probe ix places from)
 
-pub vacant-start : (ix : Index) (from : ℕ) → VacantLeft ix from 0
-vacant-start ix from = (omega arith, ap (probe ix places) (let e : from + 0 ≡ from = omega arith in e))
-
 probe-hit : (ix : Index) (m p : ℕ) → get_or ix (p % places) 0 ≡ 0 → probe ix (suc m) p ≡ p % places
 unfolding probe vacant
 probe-hit ix m p e = rw e

@@ -1,7 +1,5 @@
 -- `receiver::close` meets its contract.
-use Rattle.std.proofs.Common.{◌≡◌, ◌≤◌, true, length, refl, arith}
-use Rattle.record.specs.Sizes.{slots_most}
-use Rattle.index.specs.Index.{indexed}
+use Rattle.std.proofs.Common.{refl, arith}
 use Rattle.receiver.proofs.Closing.{unfit-refused, unfit-none, good-size, close-refused, close-stored}
 use Rattle.receiver.proofs.close.Goals as goal
 

@@ -1,5 +1,4 @@
 -- `receiver::places::sure_from` meets its contract.
-use Rattle.std.proofs.Common.{arith}
 use Rattle.receiver.proofs.Agreeing.{sure-out, sure-hit, sure-empty, sure-above, sure-on}
 use Rattle.receiver.proofs.places.sure_from.Goals as goal
 
