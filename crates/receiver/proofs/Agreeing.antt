@@ -1,5 +1,5 @@
 -- Order 9: the tests that the code makes are the agreement's. Assumes nothing.
-use Prim.Native.Nat.{ℕ, zero, suc, ◌+◌, ◌-◌, ◌^◌, ◌%◌, ◌≤◌, ◌<◌}
+use Prim.Native.Nat.{ℕ, zero, suc, ◌+◌, ◌-◌, ◌%◌, ◌≤◌, ◌<◌}
 use mathlib.Core.Path.{◌≡◌, refl, ap, sym, ◌∙◌}
 use mathlib.Core.Bool.{Bool, true, false, not, ◌&&◌, ◌||◌, cond, false≢true, and-eq-true_iff}
 use native.Mathlib.Decide.{dec_lt}
@@ -11,7 +11,7 @@ use Rattle.record.specs.Words as words
 use Rattle.calls.specs.Table.{Table, at, blank}
 use Rattle.calls.specs.declared.Found.{Found}
 use Rattle.calls.specs.declared.Found.TheVariants.{At, Nothing}
-use Rattle.index.specs.Index.{Key, key_of, keyed, used, Index, places, place_of, home, named, walk, follow, agrees_at, every_to, agrees}
+use Rattle.index.specs.Index.{Key, key_of, keyed, Index, places, place_of, home, named, walk, follow, agrees_at, every_to, agrees}
 use Rattle.receiver.specs.Seek.{place_as, holder_of, sure_from, sure_at, sure_in, sure_all, not_above, agrees_by}
 use Rattle.index.proofs.Search.{key-own}
 use Rattle.receiver.proofs.Lists.{one_more}
