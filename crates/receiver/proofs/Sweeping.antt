@@ -21,9 +21,10 @@ sweep-starts t = ap (λ (l : Table). l ++ t) (sym ticked-nil)
 -- the first i records had their tick, c are their sums, and zs is the table
 module _ (t zs : Table) (i : ℕ) (c : Sums) (counted : c ≡ sums (take i t)) (ticked : zs ≡ ticked_all (take i t) ++ drop i t) where
   pub sweep-ended : length t ≤ i → (c ≡ sums t) × (zs ≡ ticked_all t)
-  sweep-ended h =
-      (counted ∙ ap sums (take_all i t h),
-      ticked ∙ (λ j. ticked_all (take_all i t h j) ++ drop_past t i h j) ∙ append-nil (ticked_all t))
+  sweep-ended h = (
+    counted ∙ ap sums (take_all i t h),
+    ticked ∙ (λ j. ticked_all (take_all i t h j) ++ drop_past t i h j) ∙ append-nil (ticked_all t),
+  )
 
   module _ (l : i < length t) where
     abbrev front : Table
@@ -49,8 +50,9 @@ module _ (t zs : Table) (i : ℕ) (c : Sums) (counted : c ≡ sums (take i t)) (
         → (v.sums ≡ sums (take (i + 1) t)) × (set zs i v.stream ≡ ticked_all (take (i + 1) t) ++ drop (i + 1) t)
     sweep-next few d h v said =
         let v-is : v ≡ visited (sums (take i t)) e = said ∙ (λ j. visited (counted j) (same-record d h j)) in
-        let more : length (take i t) + 1 < 2 ^ 64 = omega (arith, taken) in
-        (ap (λ (w : Visited). w.sums) v-is ∙ sym (sums-snoc (take i t) e more) ∙ ap sums (sym (take_more t i blank l)),
-        ap (λ (r : Table). set r i v.stream) parts ∙ set_at front e (drop (i + 1) t) v.stream i front-length
-        ∙ sym (append_assoc front (v.stream ∷ []) (drop (i + 1) t))
-        ∙ ap (λ (r : Table). r ++ drop (i + 1) t) (ap (λ (w : Visited). front ++ w.stream ∷ []) v-is ∙ sym (ticked-snoc (take i t) e (sums (take i t))) ∙ ap ticked_all (sym (take_more t i blank l))))
+        let more : length (take i t) + 1 < 2 ^ 64 = omega (arith, taken) in (
+          ap (λ (w : Visited). w.sums) v-is ∙ sym (sums-snoc (take i t) e more) ∙ ap sums (sym (take_more t i blank l)),
+          ap (λ (r : Table). set r i v.stream) parts ∙ set_at front e (drop (i + 1) t) v.stream i front-length
+              ∙ sym (append_assoc front (v.stream ∷ []) (drop (i + 1) t))
+              ∙ ap (λ (r : Table). r ++ drop (i + 1) t) (ap (λ (w : Visited). front ++ w.stream ∷ []) v-is ∙ sym (ticked-snoc (take i t) e (sums (take i t))) ∙ ap ticked_all (sym (take_more t i blank l))),
+        )
