@@ -1,6 +1,6 @@
 -- Order 9: the steps of an open with an index are the open, and those of a rebuild the rebuild. Assumes nothing.
 use Prim.Native.Nat.{ℕ, ◌≤◌}
-use mathlib.Core.Path.{◌≡◌, refl, ap, sym, ◌∙◌, subst}
+use mathlib.Core.Path.{◌≡◌, refl, ap, sym, ◌∙◌}
 use mathlib.Core.Bool.{Bool, true, false, ◌&&◌, ◌||◌, beq, false≢true}
 use mathlib.Core.List.{List, [], ◌∷◌}
 use lib.Dec.{eqb, ltb}
@@ -21,7 +21,6 @@ use Rattle.calls.specs.Said.{said_opened}
 use Rattle.calls.specs.declared.Opened.{Opened}
 use Rattle.calls.specs.declared.Survey.{Survey}
 use Rattle.calls.specs.declared.Found.{Found}
-use Rattle.calls.specs.declared.Found.TheVariants.{At}
 use Rattle.calls.specs.Steps.{is_at, seen_as, is_opened}
 use Rattle.calls.proofs.Search.{some-cons}
 use Rattle.index.specs.Index.{Index, places, follow, indexed, rebuilt}

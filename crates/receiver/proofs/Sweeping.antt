@@ -2,7 +2,7 @@
 use mathlib.Core.Path.{◌≡◌, sym, ◌∙◌, ap}
 use Prim.Native.Nat.{ℕ, ◌+◌, ◌^◌, ◌<◌, ◌≤◌}
 use native.Mathlib.Omega.{arith}
-use mathlib.Core.List.{List, [], ◌∷◌, ◌++◌, append_assoc, append-nil}
+use mathlib.Core.List.{[], ◌∷◌, ◌++◌, append_assoc, append-nil}
 use lib.ListN.{length, get_or, set, take, drop}
 use lib.Seq.{take_all, length-take-le, drop-cons, get_or_at, set_at}
 use Rattle.std.proofs.lemmas.List.{take_more, get_or_default}
@@ -12,7 +12,7 @@ use Rattle.calls.specs.Table.{Table, blank, at}
 use Rattle.calls.specs.Ticks.{sums, ticked_all, visited}
 use Rattle.calls.specs.declared.Sums.{Sums}
 use Rattle.calls.specs.declared.Visited.{Visited}
-use Rattle.calls.proofs.Visits.{sums-nil, sums-snoc, ticked-nil, ticked-snoc, ticked-length}
+use Rattle.calls.proofs.Visits.{sums-snoc, ticked-nil, ticked-snoc, ticked-length}
 use Rattle.receiver.proofs.Lists.{drop_past}
 
 pub sweep-starts : (t : Table) → t ≡ ticked_all (take 0 t) ++ drop 0 t

@@ -1,5 +1,5 @@
 -- `receiver::arrival` meets its contract: at each return a law says that the steps so far are the arrival.
-use Rattle.std.proofs.Common.{ℕ, sym, ap, ◌∙◌}
+use Rattle.std.proofs.Common.{sym, ap, ◌∙◌}
 use Rattle.refusal.specs.Checks.Said.{refused}
 use Rattle.calls.specs.Steps.{refusal_in}
 use Rattle.calls.specs.declared.Asked.{Asked}

@@ -1,5 +1,5 @@
 -- `receiver::link_arrival` meets its contract: at each return a law says that the steps so far are the arrival.
-use Rattle.std.proofs.Common.{ℕ, sym, ap, ◌∙◌}
+use Rattle.std.proofs.Common.{sym, ap, ◌∙◌}
 use Rattle.refusal.specs.Checks.Said.{refused}
 use Rattle.frame.specs.declared.LinkRead.{LinkRead}
 use Rattle.calls.specs.Steps.{link_refusal}

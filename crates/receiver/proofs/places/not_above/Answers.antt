@@ -1,5 +1,4 @@
 -- `receiver::places::not_above` meets its contract.
-use Rattle.std.proofs.Common.{sym}
 use Rattle.receiver.specs.Seek.{not_above}
 use Rattle.receiver.proofs.Agreeing.{above-is}
 use Rattle.receiver.proofs.places.not_above.Goals as goal
