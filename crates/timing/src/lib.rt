@@ -29,8 +29,7 @@ fn tell(w: Weighed) -> u8
 }
 
 // One arrival.
-#[unsafe(no_mangle)]
-pub extern "C" fn timing_decide(s: Stream, number: u16, network: u8) -> Decided
+pub fn timing_decide(s: Stream, number: u16, network: u8) -> Decided
     ensures { result ≡ decided_of s number network }
 {
     let w = stream::weigh(s, number);

@@ -7,8 +7,7 @@ ghost use Rattle.timing_row.specs.Row.{in_row};
 use record::Stream;
 
 // So many arrivals on one network, each with a number that is `step` beyond the last one's.
-#[unsafe(no_mangle)]
-pub extern "C" fn timing_row(s: Stream, number: u16, step: u16, network: u8, times: u64) -> Stream
+pub fn timing_row(s: Stream, number: u16, step: u16, network: u8, times: u64) -> Stream
     ensures { result ≡ in_row times s number step network }
 {
     let mut t = s;

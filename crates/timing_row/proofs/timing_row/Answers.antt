@@ -1,4 +1,4 @@
--- `timing_row::timing_row` meets its contract: each turn is the row's first decision, and no arrival that is left leaves the record.
+-- `timing_row::timing_row` meets its contract. Assumes nothing.
 use Rattle.std.proofs.Common.{◌≡◌, ◌-◌, sym, ap, ◌∙◌, arith}
 use Rattle.stream.specs.Steps.{record_after}
 use Rattle.timing_row.specs.Row.{after, in_row}
@@ -9,8 +9,7 @@ pub loop-left-preserved : goal.loop-left-preserved
 loop-left-preserved c =
     let l = c.loop-left in
     let t : c.next-t.result ≡ after l.t l.n c.args.network = c.next-t.ensures ∙ ap (record_after l.t c.args.network) c.weigh-w.ensures in
-    let n = c.wrapping_add_u16-n.ensures.value in
-    (λ i. in_row (l.left - 1) (t i) (n i) c.args.step c.args.network)
+    (λ i. in_row (l.left - 1) (t i) (c.wrapping_add_u16-n.ensures.value i) c.args.step c.args.network)
     ∙ (sym (row_first l.t l.n c.args.step c.args.network l.left (omega arith)) ∙ l.invariant)
 
 pub returns : goal.returns
