@@ -8,7 +8,8 @@ use lib.Dec.{eqb}
 use lib.ListN.{take, drop}
 use seplogic.Ra.Ura.{Ura}
 use prog.Model.{Model}
-use prog.Routine.{Routine}
+use mir.Syntax.{Callee}
+use prog.Wired.{Code}
 use types.Logic.{Logic}
 use contract.Lifetimes.{Lfts}
 use contract.Running.{Running}
@@ -43,9 +44,9 @@ use Rattle.end_to_end.specs.Code.SenderDoes.{send, reset as reset-sender}
 use Rattle.end_to_end.specs.Code.SenderRan.{none_made as no-sends, made as sends_more}
 
 -- what a promise of the code gives of what was passed and left holds of a call of it
-module _ {T : Ended} {code : Routine} {X Y : Type 0} {passed : (κs : Lfts T.signature.lifetimes) → Args T.signature κs → X} {left : (κs : Lfts T.signature.lifetimes) → Res T.signature κs → AtExit T κs → Y} where
-  called : (R : X → Y → Type 0) {x : X} {y : Y} → CodeCalled T code passed left x y → {P : Promise T}
-      → ((M : Type 1) (𝓤 : Ura M) (𝓛 : Logic 𝓤) (𝓜 : Model 𝓤 𝓛.H) (𝓡 : Running 𝓤 𝓛.H 𝓜) → Ensures 𝓛 𝓜 𝓡 T code P)
+module _ {T : Ended} {name : Callee} {code : Code} {X Y : Type 0} {passed : (κs : Lfts T.signature.lifetimes) → Args T.signature κs → X} {left : (κs : Lfts T.signature.lifetimes) → Res T.signature κs → AtExit T κs → Y} where
+  called : (R : X → Y → Type 0) {x : X} {y : Y} → CodeCalled T name code passed left x y → {P : Promise T}
+      → ((M : Type 1) (𝓤 : Ura M) (𝓛 : Logic 𝓤) (𝓜 : Model 𝓤 𝓛.H) (𝓡 : Running 𝓤 𝓛.H 𝓜) → Ensures 𝓛 𝓜 𝓡 T name code P)
       → ((κs : Lfts T.signature.lifetimes) (a : Args T.signature κs) (r : Res T.signature κs) (e : AtExit T κs) → P κs a r e → R (passed κs a) (left κs r e))
       → R x y
   called R {x} {y} c {P} met gives =

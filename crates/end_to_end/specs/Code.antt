@@ -3,7 +3,8 @@
 use Rattle.std.specs.Prelude.{ℕ, ◌+◌, ◌≡◌, List, [], ◌∷◌, ◌++◌, eqb, take, drop}
 use seplogic.Ra.Ura.{Ura}
 use prog.Model.{Model}
-use prog.Routine.{Routine}
+use mir.Syntax.{Callee}
+use prog.Wired.{Code}
 use types.Logic.{Logic}
 use contract.Lifetimes.{Lfts}
 use contract.Running.{Running}
@@ -15,21 +16,21 @@ use Rattle.calls.specs.Calls.{arriving, linking, opening, closing, resetting, ti
 use Rattle.calls.specs.Said.{said_arrival, said_opened, said_done, said_swept}
 use Rattle.calls.specs.declared.ArrivalAnswer.{ArrivalAnswer}
 use Rattle.receiver.specs.contracts.arrival.{ended as arrival_ended}
-use Rattle.receiver.proofs.arrival.Symbol.{routine as arrival_code}
+use Rattle.receiver.proofs.arrival.Symbol.{name as arrival_name, code as arrival_code}
 use Rattle.receiver.specs.contracts.link_arrival.{ended as link_ended}
-use Rattle.receiver.proofs.link_arrival.Symbol.{routine as link_code}
+use Rattle.receiver.proofs.link_arrival.Symbol.{name as link_name, code as link_code}
 use Rattle.receiver.specs.contracts.open.{ended as open_ended}
-use Rattle.receiver.proofs.open.Symbol.{routine as open_code}
+use Rattle.receiver.proofs.open.Symbol.{name as open_name, code as open_code}
 use Rattle.receiver.specs.contracts.close.{ended as close_ended}
-use Rattle.receiver.proofs.close.Symbol.{routine as close_code}
+use Rattle.receiver.proofs.close.Symbol.{name as close_name, code as close_code}
 use Rattle.receiver.specs.contracts.rebuild.{ended as rebuild_ended}
-use Rattle.receiver.proofs.rebuild.Symbol.{routine as rebuild_code}
+use Rattle.receiver.proofs.rebuild.Symbol.{name as rebuild_name, code as rebuild_code}
 use Rattle.receiver.specs.contracts.reset.{ended as reset_ended}
-use Rattle.receiver.proofs.reset.Symbol.{routine as reset_code}
+use Rattle.receiver.proofs.reset.Symbol.{name as reset_name, code as reset_code}
 use Rattle.receiver.specs.contracts.tick.{ended as tick_ended}
-use Rattle.receiver.proofs.tick.Symbol.{routine as tick_code}
+use Rattle.receiver.proofs.tick.Symbol.{name as tick_name, code as tick_code}
 use Rattle.batch.specs.contracts.batch.{ended as batch_ended}
-use Rattle.batch.proofs.batch.Symbol.{routine as batch_code}
+use Rattle.batch.proofs.batch.Symbol.{name as batch_name, code as batch_code}
 use Rattle.demands.specs.Receiver.{the_receiver}
 use Rattle.demands.specs.Missed.{FreshVector}
 use Rattle.index.specs.Index.{Index}
@@ -42,9 +43,9 @@ use Rattle.sender.specs.Sender.{comes_to}
 use Rattle.sender.specs.Runs as sends
 use Rattle.sender.specs.Runs.{the_side, sent_in}
 use Rattle.sender.specs.contracts.send.{ended as send_ended}
-use Rattle.sender.proofs.send.Symbol.{routine as send_code}
+use Rattle.sender.proofs.send.Symbol.{name as send_name, code as send_code}
 use Rattle.sender.specs.contracts.reset.{ended as reset_sender_ended}
-use Rattle.sender.proofs.reset.Symbol.{routine as reset_sender_code}
+use Rattle.sender.proofs.reset.Symbol.{name as reset_sender_name, code as reset_sender_code}
 use Rattle.delays.specs.Line.{Known, Event}
 use Rattle.end_to_end.specs.Bytes.{got_of, given_at, once_each, Between}
 
@@ -52,19 +53,19 @@ use Rattle.end_to_end.specs.Bytes.{got_of, given_at, once_each, Between}
 
 -- An outcome of a code: every promise that the code ensures, in every model of the kit's logic, holds of it. What the code comes to when
 -- it is run is one: that is what the kit's logic is for.
-abbrev pub OutcomeOf : (T : Ended) → Routine → (κs : Lfts T.signature.lifetimes) → Args T.signature κs → Res T.signature κs → AtExit T κs → Type 2
-OutcomeOf T code κs a r e =
+abbrev pub OutcomeOf : (T : Ended) → Callee → Code → (κs : Lfts T.signature.lifetimes) → Args T.signature κs → Res T.signature κs → AtExit T κs → Type 2
+OutcomeOf T name code κs a r e =
     (P : Promise T)
-    → ((M : Type 1) (𝓤 : Ura M) (𝓛 : Logic 𝓤) (𝓜 : Model 𝓤 𝓛.H) (𝓡 : Running 𝓤 𝓛.H 𝓜) → Ensures 𝓛 𝓜 𝓡 T code P)
+    → ((M : Type 1) (𝓤 : Ura M) (𝓛 : Logic 𝓤) (𝓜 : Model 𝓤 𝓛.H) (𝓡 : Running 𝓤 𝓛.H 𝓜) → Ensures 𝓛 𝓜 𝓡 T name code P)
     → P κs a r e
 
 -- The code was called with x and came to y, where `passed` and `left` say what its arguments and its outcome are in the statements.
-pub record CodeCalled (T : Ended) (code : Routine) {X Y : Type 0} (passed : (κs : Lfts T.signature.lifetimes) → Args T.signature κs → X) (left : (κs : Lfts T.signature.lifetimes) → Res T.signature κs → AtExit T κs → Y) (x : X) (y : Y) : Type 2 where
+pub record CodeCalled (T : Ended) (name : Callee) (code : Code) {X Y : Type 0} (passed : (κs : Lfts T.signature.lifetimes) → Args T.signature κs → X) (left : (κs : Lfts T.signature.lifetimes) → Res T.signature κs → AtExit T κs → Y) (x : X) (y : Y) : Type 2 where
   pub κs : Lfts T.signature.lifetimes
   pub arguments : Args T.signature κs
   pub answer : Res T.signature κs
   pub exit : AtExit T κs
-  pub outcome : OutcomeOf T code κs arguments answer exit
+  pub outcome : OutcomeOf T name code κs arguments answer exit
   pub with-x : passed κs arguments ≡ x
   pub to-y : left κs answer exit ≡ y
 
@@ -72,27 +73,27 @@ pub record CodeCalled (T : Ended) (code : Routine) {X Y : Type 0} (passed : (κs
 
 -- What a program does on an index and a table, and what it gets: a call of one of these. A primed name is what stands there afterwards.
 pub data Receives (ix : Index) (t : Table) (d : Doing) : GotBy → Type 2 where
-  arrival : {g : GotBy} → CodeCalled arrival_ended arrival_code {X = Index × Table × Doing}
+  arrival : {g : GotBy} → CodeCalled arrival_ended arrival_name arrival_code {X = Index × Table × Doing}
       (λ κs (t, (network, (frame, (out, _)))). (ix, t.now, step (single (arriving network frame.now out.now))))
       (λ κs r (t', (_, (_, (out', _)))). got (result (record { said = said_arrival r; table = t'.now; output = out'.now })) ix) (ix, t, d) g → Receives ix t d g
-  link-arrival : {g : GotBy} → CodeCalled link_ended link_code {X = Index × Table × Doing}
+  link-arrival : {g : GotBy} → CodeCalled link_ended link_name link_code {X = Index × Table × Doing}
       (λ κs (t, (network, (frame, (out, _)))). (ix, t.now, step (single (linking network frame.now out.now))))
       (λ κs r (t', (_, (_, (out', _)))). got (result (record { said = said_arrival r; table = t'.now; output = out'.now })) ix) (ix, t, d) g → Receives ix t d g
-  open-stream : {g : GotBy} → CodeCalled open_ended open_code {X = Index × Table × Doing}
+  open-stream : {g : GotBy} → CodeCalled open_ended open_name open_code {X = Index × Table × Doing}
       (λ κs (t, (ix, (dest, (vlan, (rule, (window, (time, _))))))). (ix.now, t.now, step (single (opening dest vlan rule window time))))
       (λ κs r (t', (ix', _)). got (result (record { said = said_opened r; table = t'.now; output = [] })) ix'.now) (ix, t, d) g → Receives ix t d g
-  close : {g : GotBy} → CodeCalled close_ended close_code {X = Index × Table × Doing}
+  close : {g : GotBy} → CodeCalled close_ended close_name close_code {X = Index × Table × Doing}
       (λ κs (t, (ix, (slot, _))). (ix.now, t.now, step (single (closing slot))))
       (λ κs r (t', (ix', _)). got (result (record { said = said_done r; table = t'.now; output = [] })) ix'.now) (ix, t, d) g → Receives ix t d g
-  rebuild : {g : GotBy} → CodeCalled rebuild_ended rebuild_code {X = Index × Table × Doing}
+  rebuild : {g : GotBy} → CodeCalled rebuild_ended rebuild_name rebuild_code {X = Index × Table × Doing}
       (λ κs (t, (ix, _)). (ix.now, t.now, rebuilds)) (λ κs r (_, (ix', _)). indexed.made (said_done r) ix'.now) (ix, t, d) g → Receives ix t d g
-  reset : {g : GotBy} → CodeCalled reset_ended reset_code {X = Index × Table × Doing}
+  reset : {g : GotBy} → CodeCalled reset_ended reset_name reset_code {X = Index × Table × Doing}
       (λ κs (t, (slot, _)). (ix, t.now, step (single (resetting slot))))
       (λ κs r (t', _). got (result (record { said = said_done r; table = t'.now; output = [] })) ix) (ix, t, d) g → Receives ix t d g
-  tick : {g : GotBy} → CodeCalled tick_ended tick_code {X = Index × Table × Doing}
+  tick : {g : GotBy} → CodeCalled tick_ended tick_name tick_code {X = Index × Table × Doing}
       (λ κs (t, _). (ix, t.now, step (single ticking)))
       (λ κs r (t', _). got (result (record { said = said_swept r; table = t'.now; output = [] })) ix) (ix, t, d) g → Receives ix t d g
-  in-batch : {g : Got} → CodeCalled batch_ended batch_code {X = Index × Table × Doing}
+  in-batch : {g : Got} → CodeCalled batch_ended batch_name batch_code {X = Index × Table × Doing}
       (λ κs (t, (ix, (network, (count, (frames, (out, _)))))). (ix.now, t.now, step (batch (record { network = network; count = count; frames = frames.now; out = out.now }))))
       (λ κs r (t', (_, (_, (_, (_, (out', _)))))). told r t'.now out'.now) (ix, t, d) g → Receives ix t d (got g ix)
 
@@ -121,10 +122,10 @@ got_all i (indexed.made w jx ∷ gs) = got_all i gs
 -- ---- the sender's end
 
 pub data SenderDoes (s : Sender) (c : sends.Call) (g : sends.SideGot) : Type 2 where
-  send : CodeCalled send_ended send_code {X = Sender × sends.Call}
+  send : CodeCalled send_ended send_name send_code {X = Sender × sends.Call}
       (λ κs (s, (frame, (out0, (out1, _)))). (s, sends.sending frame.now out0.now out1.now))
       (λ κs r (_, (_, (out0', (out1', _)))). sends.sent_so (comes_to r out0'.now out1'.now)) (s, c) g → SenderDoes s c g
-  reset : CodeCalled reset_sender_ended reset_sender_code {X = Sender × sends.Call} (λ κs (s, _). (s, sends.resetting)) (λ κs r e. sends.reset_so r) (s, c) g → SenderDoes s c g
+  reset : CodeCalled reset_sender_ended reset_sender_name reset_sender_code {X = Sender × sends.Call} (λ κs (s, _). (s, sends.resetting)) (λ κs r e. sends.reset_so r) (s, c) g → SenderDoes s c g
 
 pub data SenderRan : Sender → List sends.Call → List sends.SideGot → Type 2 where
   none_made : {s : Sender} → SenderRan s [] []

@@ -88,6 +88,7 @@ enum Numeral {
     Other(u8),
 }
 
+#[tactic(auto, unfolding(crate::specs::Text::decimal_of, crate::specs::Text::digits_of))]
 fn in_digits(n: u8) -> Numeral
     ensures { numeral_of result ≡ decimal_of n }
 {

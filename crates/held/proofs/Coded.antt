@@ -23,31 +23,31 @@ use Rattle.batch.specs.Indexed.{MeetsBatchBy}
 use Rattle.batch.proofs.Within.{batch-refused-exactly, batch-refused-keeps}
 use Rattle.batch.specs.declared.Batched.{Batched}
 use Rattle.frame.specs.contracts.take_tag.{ended as take_ended}
-use Rattle.frame.proofs.take_tag.Symbol.{routine as take_code}
+use Rattle.frame.proofs.take_tag.Symbol.{name as take_name, code as take_code}
 use Rattle.frame.specs.contracts.write_tag.{ended as write_ended}
-use Rattle.frame.proofs.write_tag.Symbol.{routine as write_code}
+use Rattle.frame.proofs.write_tag.Symbol.{name as write_name, code as write_code}
 use Rattle.receiver.specs.contracts.arrival.{ended as arrival_ended}
-use Rattle.receiver.proofs.arrival.Symbol.{routine as arrival_code}
+use Rattle.receiver.proofs.arrival.Symbol.{name as arrival_name, code as arrival_code}
 use Rattle.receiver.specs.contracts.link_arrival.{ended as link_ended}
-use Rattle.receiver.proofs.link_arrival.Symbol.{routine as link_code}
+use Rattle.receiver.proofs.link_arrival.Symbol.{name as link_name, code as link_code}
 use Rattle.receiver.specs.contracts.open.{ended as open_ended}
-use Rattle.receiver.proofs.open.Symbol.{routine as open_code}
+use Rattle.receiver.proofs.open.Symbol.{name as open_name, code as open_code}
 use Rattle.receiver.specs.contracts.close.{ended as close_ended}
-use Rattle.receiver.proofs.close.Symbol.{routine as close_code}
+use Rattle.receiver.proofs.close.Symbol.{name as close_name, code as close_code}
 use Rattle.receiver.specs.contracts.rebuild.{ended as rebuild_ended}
-use Rattle.receiver.proofs.rebuild.Symbol.{routine as rebuild_code}
+use Rattle.receiver.proofs.rebuild.Symbol.{name as rebuild_name, code as rebuild_code}
 use Rattle.receiver.specs.contracts.reset.{ended as reset_ended}
-use Rattle.receiver.proofs.reset.Symbol.{routine as reset_code}
+use Rattle.receiver.proofs.reset.Symbol.{name as reset_name, code as reset_code}
 use Rattle.receiver.specs.contracts.tick.{ended as tick_ended}
-use Rattle.receiver.proofs.tick.Symbol.{routine as tick_code}
+use Rattle.receiver.proofs.tick.Symbol.{name as tick_name, code as tick_code}
 use Rattle.batch.specs.contracts.batch.{ended as batch_ended}
-use Rattle.batch.proofs.batch.Symbol.{routine as batch_code}
+use Rattle.batch.proofs.batch.Symbol.{name as batch_name, code as batch_code}
 use Rattle.sender.specs.contracts.at_first.{ended as first_ended}
-use Rattle.sender.proofs.at_first.Symbol.{routine as first_code}
+use Rattle.sender.proofs.at_first.Symbol.{name as first_name, code as first_code}
 use Rattle.sender.specs.contracts.reset.{ended as again_ended}
-use Rattle.sender.proofs.reset.Symbol.{routine as again_code}
+use Rattle.sender.proofs.reset.Symbol.{name as again_name, code as again_code}
 use Rattle.sender.specs.contracts.send.{ended as send_ended}
-use Rattle.sender.proofs.send.Symbol.{routine as send_code}
+use Rattle.sender.proofs.send.Symbol.{name as send_name, code as send_code}
 use Rattle.demands.proofs.Follows.{follows}
 use Rattle.demands.proofs.Theorems as demands
 use Rattle.sender.specs.declared.Sender.{Sender}
@@ -98,17 +98,17 @@ pub code-refuses : CodeRefuses
 code-refuses M 𝓤 𝓛 𝓜 𝓡 =
     let c = (demands.theorems).code_meets M 𝓤 𝓛 𝓜 𝓡 in
     let s = (both-sides.theorems).sender-meets M 𝓤 𝓛 𝓜 𝓡 in record {
-      arrival = follows 𝓛 𝓜 𝓡 arrival_ended arrival_code (of_arrival Meets) (of_arrival RefusedCall) (λ κs a r e. refused-call _ _ _) c.arrival;
-      link-arrival = follows 𝓛 𝓜 𝓡 link_ended link_code (of_link Meets) (of_link RefusedCall) (λ κs a r e. refused-call _ _ _) c.link-arrival;
-      open-stream = follows 𝓛 𝓜 𝓡 open_ended open_code (of_open MeetsIndexed) (of_open RefusedIndexed) (λ κs a r e. refused-indexed _ _ _ _) c.open-stream;
-      close = follows 𝓛 𝓜 𝓡 close_ended close_code (of_close MeetsIndexed) (of_close RefusedIndexed) (λ κs a r e. refused-indexed _ _ _ _) c.close;
-      rebuild = follows 𝓛 𝓜 𝓡 rebuild_ended rebuild_code (of_rebuild MeetsRebuild) (of_rebuild RefusedRebuild) (λ κs a r e. refused-rebuild _ _ _ _) c.rebuild;
-      reset = follows 𝓛 𝓜 𝓡 reset_ended reset_code (of_reset Meets) (of_reset RefusedCall) (λ κs a r e. refused-call _ _ _) c.reset;
-      tick = follows 𝓛 𝓜 𝓡 tick_ended tick_code (of_tick Meets) (of_tick RefusedCall) (λ κs a r e. refused-call _ _ _) c.tick;
-      batch = follows 𝓛 𝓜 𝓡 batch_ended batch_code (of_batch MeetsBatchBy) (of_batch RefusedBatch) (λ κs a r e. refused-batch _ _ _ _ _ _) c.batch;
-      take = follows 𝓛 𝓜 𝓡 take_ended take_code (of_take (λ f out o. o ≡ take_tag f out)) (of_take (λ f out. RefusedTag (take_checks f out) out)) (λ κs a r e. take-refused _ _ _) c.take;
-      write = follows 𝓛 𝓜 𝓡 write_ended write_code (of_write (λ f x out o. o ≡ write_tag f x out)) (of_write (λ f x out. RefusedTag (write_checks f out) out)) (λ κs a r e. write-refused _ _ _ _) c.write;
-      send = follows 𝓛 𝓜 𝓡 send_ended send_code (of_send (λ s f out0 out1 o. o ≡ send_of s f out0 out1)) (of_send RefusedSend) (λ κs a r e. refused-send _ _ _ _ _) s.send;
-      at_first = follows 𝓛 𝓜 𝓡 first_ended first_code (λ κs a r e. r ≡ sender_at_first) (λ κs a r e. r.next ≡ 0) (λ κs a r e. from-zero-first r) s.at_first;
-      again = follows 𝓛 𝓜 𝓡 again_ended again_code (λ κs (s, _) r e. r ≡ reset_of s) (λ κs a r e. r.next ≡ 0) (λ κs a r e. from-zero-first r) s.reset;
+      arrival = follows 𝓛 𝓜 𝓡 arrival_ended arrival_name arrival_code (of_arrival Meets) (of_arrival RefusedCall) (λ κs a r e. refused-call _ _ _) c.arrival;
+      link-arrival = follows 𝓛 𝓜 𝓡 link_ended link_name link_code (of_link Meets) (of_link RefusedCall) (λ κs a r e. refused-call _ _ _) c.link-arrival;
+      open-stream = follows 𝓛 𝓜 𝓡 open_ended open_name open_code (of_open MeetsIndexed) (of_open RefusedIndexed) (λ κs a r e. refused-indexed _ _ _ _) c.open-stream;
+      close = follows 𝓛 𝓜 𝓡 close_ended close_name close_code (of_close MeetsIndexed) (of_close RefusedIndexed) (λ κs a r e. refused-indexed _ _ _ _) c.close;
+      rebuild = follows 𝓛 𝓜 𝓡 rebuild_ended rebuild_name rebuild_code (of_rebuild MeetsRebuild) (of_rebuild RefusedRebuild) (λ κs a r e. refused-rebuild _ _ _ _) c.rebuild;
+      reset = follows 𝓛 𝓜 𝓡 reset_ended reset_name reset_code (of_reset Meets) (of_reset RefusedCall) (λ κs a r e. refused-call _ _ _) c.reset;
+      tick = follows 𝓛 𝓜 𝓡 tick_ended tick_name tick_code (of_tick Meets) (of_tick RefusedCall) (λ κs a r e. refused-call _ _ _) c.tick;
+      batch = follows 𝓛 𝓜 𝓡 batch_ended batch_name batch_code (of_batch MeetsBatchBy) (of_batch RefusedBatch) (λ κs a r e. refused-batch _ _ _ _ _ _) c.batch;
+      take = follows 𝓛 𝓜 𝓡 take_ended take_name take_code (of_take (λ f out o. o ≡ take_tag f out)) (of_take (λ f out. RefusedTag (take_checks f out) out)) (λ κs a r e. take-refused _ _ _) c.take;
+      write = follows 𝓛 𝓜 𝓡 write_ended write_name write_code (of_write (λ f x out o. o ≡ write_tag f x out)) (of_write (λ f x out. RefusedTag (write_checks f out) out)) (λ κs a r e. write-refused _ _ _ _) c.write;
+      send = follows 𝓛 𝓜 𝓡 send_ended send_name send_code (of_send (λ s f out0 out1 o. o ≡ send_of s f out0 out1)) (of_send RefusedSend) (λ κs a r e. refused-send _ _ _ _ _) s.send;
+      at_first = follows 𝓛 𝓜 𝓡 first_ended first_name first_code (λ κs a r e. r ≡ sender_at_first) (λ κs a r e. r.next ≡ 0) (λ κs a r e. from-zero-first r) s.at_first;
+      again = follows 𝓛 𝓜 𝓡 again_ended again_name again_code (λ κs (s, _) r e. r ≡ reset_of s) (λ κs a r e. r.next ≡ 0) (λ κs a r e. from-zero-first r) s.reset;
     }

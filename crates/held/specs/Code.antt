@@ -10,45 +10,45 @@ use Rattle.refusal.specs.Checks.Said.{refused}
 use Rattle.frame.specs.TagCalls.{Outcome, Bare, said_taken, said_written}
 use Rattle.frame.specs.Refusals.{take_checks, write_checks}
 use Rattle.frame.specs.contracts.take_tag.{ended as take_ended}
-use Rattle.frame.proofs.take_tag.Symbol.{routine as take_code}
+use Rattle.frame.proofs.take_tag.Symbol.{name as take_name, code as take_code}
 use Rattle.frame.specs.contracts.write_tag.{ended as write_ended}
-use Rattle.frame.proofs.write_tag.Symbol.{routine as write_code}
+use Rattle.frame.proofs.write_tag.Symbol.{name as write_name, code as write_code}
 use Rattle.calls.specs.Table.{Table}
 use Rattle.calls.specs.Calls.{Call, Answer, arriving, linking, opening, resetting, ticking, out_of, Result}
 use Rattle.calls.specs.Calls as calls
 use Rattle.calls.specs.Refusals.{checks_of}
 use Rattle.calls.specs.Said.{said_arrival, said_opened, said_done, said_swept}
 use Rattle.receiver.specs.contracts.arrival.{ended as arrival_ended}
-use Rattle.receiver.proofs.arrival.Symbol.{routine as arrival_code}
+use Rattle.receiver.proofs.arrival.Symbol.{name as arrival_name, code as arrival_code}
 use Rattle.receiver.specs.contracts.link_arrival.{ended as link_ended}
-use Rattle.receiver.proofs.link_arrival.Symbol.{routine as link_code}
+use Rattle.receiver.proofs.link_arrival.Symbol.{name as link_name, code as link_code}
 use Rattle.receiver.specs.contracts.open.{ended as open_ended}
-use Rattle.receiver.proofs.open.Symbol.{routine as open_code}
+use Rattle.receiver.proofs.open.Symbol.{name as open_name, code as open_code}
 use Rattle.receiver.specs.contracts.close.{ended as close_ended}
-use Rattle.receiver.proofs.close.Symbol.{routine as close_code}
+use Rattle.receiver.proofs.close.Symbol.{name as close_name, code as close_code}
 use Rattle.receiver.specs.contracts.rebuild.{ended as rebuild_ended}
-use Rattle.receiver.proofs.rebuild.Symbol.{routine as rebuild_code}
+use Rattle.receiver.proofs.rebuild.Symbol.{name as rebuild_name, code as rebuild_code}
 use Rattle.receiver.specs.contracts.reset.{ended as reset_ended}
-use Rattle.receiver.proofs.reset.Symbol.{routine as reset_code}
+use Rattle.receiver.proofs.reset.Symbol.{name as reset_name, code as reset_code}
 use Rattle.receiver.specs.contracts.tick.{ended as tick_ended}
-use Rattle.receiver.proofs.tick.Symbol.{routine as tick_code}
+use Rattle.receiver.proofs.tick.Symbol.{name as tick_name, code as tick_code}
 use Rattle.index.specs.Index.{Index}
 use Rattle.index.specs.Indexed.{Indexed, checks_with, rebuild_checks}
 use Rattle.batch.specs.Batch.{Batch}
 use Rattle.batch.specs.Indexed.{batch_checks_with}
 use Rattle.batch.specs.declared.Batched.{Batched}
 use Rattle.batch.specs.contracts.batch.{ended as batch_ended}
-use Rattle.batch.proofs.batch.Symbol.{routine as batch_code}
+use Rattle.batch.proofs.batch.Symbol.{name as batch_name, code as batch_code}
 use Rattle.demands.specs.Code.{Promise, Ensures}
 use Rattle.sender.specs.declared.Sender.{Sender}
 use Rattle.sender.specs.Sender.{Sends, refuses, comes_to}
 use Rattle.sender.specs.Refusals.{send_checks}
 use Rattle.sender.specs.contracts.at_first.{ended as first_ended}
-use Rattle.sender.proofs.at_first.Symbol.{routine as first_code}
+use Rattle.sender.proofs.at_first.Symbol.{name as first_name, code as first_code}
 use Rattle.sender.specs.contracts.reset.{ended as again_ended}
-use Rattle.sender.proofs.reset.Symbol.{routine as again_code}
+use Rattle.sender.proofs.reset.Symbol.{name as again_name, code as again_code}
 use Rattle.sender.specs.contracts.send.{ended as send_ended}
-use Rattle.sender.proofs.send.Symbol.{routine as send_code}
+use Rattle.sender.proofs.send.Symbol.{name as send_name, code as send_code}
 
 -- Where a condition of its list holds, a call says the first such number, and table and output bytes are as they were.
 abbrev pub RefusedCall : Table → Call → Result → Type 0
@@ -117,20 +117,20 @@ of_send P = λ κs (s, (frame, (out0, (out1, _)))) r (_, (_, (out0', (out1', _))
 
 module _ {M : Type 1} {𝓤 : Ura M} (𝓛 : Logic 𝓤) (𝓜 : Model 𝓤 𝓛.H) (𝓡 : Running 𝓤 𝓛.H 𝓜) where
   pub record RefusingCalls : Type 1 where
-    pub arrival : Ensures 𝓛 𝓜 𝓡 arrival_ended arrival_code (of_arrival RefusedCall)
-    pub link-arrival : Ensures 𝓛 𝓜 𝓡 link_ended link_code (of_link RefusedCall)
-    pub open-stream : Ensures 𝓛 𝓜 𝓡 open_ended open_code (of_open RefusedIndexed)
-    pub close : Ensures 𝓛 𝓜 𝓡 close_ended close_code (of_close RefusedIndexed)
-    pub rebuild : Ensures 𝓛 𝓜 𝓡 rebuild_ended rebuild_code (of_rebuild RefusedRebuild)
-    pub reset : Ensures 𝓛 𝓜 𝓡 reset_ended reset_code (of_reset RefusedCall)
-    pub tick : Ensures 𝓛 𝓜 𝓡 tick_ended tick_code (of_tick RefusedCall)
-    pub batch : Ensures 𝓛 𝓜 𝓡 batch_ended batch_code (of_batch RefusedBatch)
-    pub take : Ensures 𝓛 𝓜 𝓡 take_ended take_code (of_take (λ f out. RefusedTag (take_checks f out) out))
-    pub write : Ensures 𝓛 𝓜 𝓡 write_ended write_code (of_write (λ f number out. RefusedTag (write_checks f out) out))
-    pub send : Ensures 𝓛 𝓜 𝓡 send_ended send_code (of_send RefusedSend)
+    pub arrival : Ensures 𝓛 𝓜 𝓡 arrival_ended arrival_name arrival_code (of_arrival RefusedCall)
+    pub link-arrival : Ensures 𝓛 𝓜 𝓡 link_ended link_name link_code (of_link RefusedCall)
+    pub open-stream : Ensures 𝓛 𝓜 𝓡 open_ended open_name open_code (of_open RefusedIndexed)
+    pub close : Ensures 𝓛 𝓜 𝓡 close_ended close_name close_code (of_close RefusedIndexed)
+    pub rebuild : Ensures 𝓛 𝓜 𝓡 rebuild_ended rebuild_name rebuild_code (of_rebuild RefusedRebuild)
+    pub reset : Ensures 𝓛 𝓜 𝓡 reset_ended reset_name reset_code (of_reset RefusedCall)
+    pub tick : Ensures 𝓛 𝓜 𝓡 tick_ended tick_name tick_code (of_tick RefusedCall)
+    pub batch : Ensures 𝓛 𝓜 𝓡 batch_ended batch_name batch_code (of_batch RefusedBatch)
+    pub take : Ensures 𝓛 𝓜 𝓡 take_ended take_name take_code (of_take (λ f out. RefusedTag (take_checks f out) out))
+    pub write : Ensures 𝓛 𝓜 𝓡 write_ended write_name write_code (of_write (λ f number out. RefusedTag (write_checks f out) out))
+    pub send : Ensures 𝓛 𝓜 𝓡 send_ended send_name send_code (of_send RefusedSend)
     -- These two refuse nothing: the next number is 0.
-    pub at_first : Ensures 𝓛 𝓜 𝓡 first_ended first_code (λ κs a r e. r.next ≡ 0)
-    pub again : Ensures 𝓛 𝓜 𝓡 again_ended again_code (λ κs a r e. r.next ≡ 0)
+    pub at_first : Ensures 𝓛 𝓜 𝓡 first_ended first_name first_code (λ κs a r e. r.next ≡ 0)
+    pub again : Ensures 𝓛 𝓜 𝓡 again_ended again_name again_code (λ κs a r e. r.next ≡ 0)
 
 abbrev pub CodeRefuses : Type 2
 CodeRefuses =

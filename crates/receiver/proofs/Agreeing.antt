@@ -1,19 +1,20 @@
 -- Order 9: the tests that the code makes are the agreement's. Assumes nothing.
-use Prim.Native.Nat.{ℕ, zero, suc, ◌+◌, ◌-◌, ◌^◌, ◌%◌, ◌≤◌, ◌<◌}
+use Prim.Native.Nat.{ℕ, zero, suc, ◌+◌, ◌-◌, ◌%◌, ◌≤◌, ◌<◌}
 use mathlib.Core.Path.{◌≡◌, refl, ap, sym, ◌∙◌}
 use mathlib.Core.Bool.{Bool, true, false, not, ◌&&◌, ◌||◌, cond, false≢true, and-eq-true_iff}
 use native.Mathlib.Decide.{dec_lt}
 use native.Mathlib.Omega.{arith}
-use lib.Dec.{T, eqb, ltb, leb}
+use lib.Dec.{eqb, ltb, leb}
 use lib.ListN.{length, get_or}
 use borrow.Author.Tests.{le-leb, lt-leb, lt-ltb, le-ltb, eqb-true, ltb-false, eq-eqb, ne_eqb}
 use Rattle.record.specs.Words as words
 use Rattle.calls.specs.Table.{Table, at, blank}
 use Rattle.calls.specs.declared.Found.{Found}
 use Rattle.calls.specs.declared.Found.TheVariants.{At, Nothing}
-use Rattle.index.specs.Index.{Key, key_of, keyed, used, Index, places, place_of, home, named, walk, follow, agrees_at, every_to, agrees}
+use Rattle.index.specs.Index.{Key, key_of, keyed, Index, places, place_of, home, named, walk, follow, agrees_at, every_to, agrees}
 use Rattle.receiver.specs.Seek.{place_as, holder_of, sure_from, sure_at, sure_in, sure_all, not_above, agrees_by}
 use Rattle.index.proofs.Search.{key-own}
+use Rattle.receiver.proofs.Lists.{one_more}
 use Rattle.receiver.specs.declared.Holder.{Holder}
 
 or_no : (a b : Bool) → (a || b) ≡ false → b ≡ false
@@ -39,7 +40,7 @@ module _ (ix : Index) (t : Table) (k : Key) (i : ℕ) (own : keyed k (at t i) �
       go true q = rw q (omega (arith, low))
       go false q = rw q l
 
-  pub sure-low : (n p : ℕ) → sure_from ix i n p ≡ true → walk ix t k n p ≤ i
+  sure-low : (n p : ℕ) → sure_from ix i n p ≡ true → walk ix t k n p ≤ i
   unfolding sure_from walk
   sure-low zero p h = absurd (false≢true h)
   sure-low (suc n) p h = go (eqb (get_or ix (p % places) 0) (suc i)) refl (eqb (get_or ix (p % places) 0) 0 || ltb i (get_or ix (p % places) 0)) refl h (sure-low n (suc p))
@@ -73,7 +74,7 @@ and_no false = refl
 
 -- ---- a slot
 module _ (ix : Index) (t : Table) (i : ℕ) where
-  pub sure-agrees : sure_in ix t i ≡ true → agrees_at ix t i ≡ true
+  sure-agrees : sure_in ix t i ≡ true → agrees_at ix t i ≡ true
   unfolding sure_in sure_at agrees_at follow
   sure-agrees h = go (words.yes (at t i).used) refl
     where
@@ -110,10 +111,9 @@ module _ (p : ℕ → Bool) where
     pub all_pass : (i ≤ n) × (every_to p i ≡ true) → n ≤ i → true ≡ every_to p n
     all_pass f h = let e : i ≡ n = (let a : i ≤ n = f.0 in omega (arith, a, h)) in sym (ap (every_to p) (sym e) ∙ f.1)
 
-    pub one-more-passes : i < n → (i ≤ n) × (every_to p i ≡ true) → (r : Bool) → r ≡ p i → T (not (not r)) → (suc i ≤ n) × (every_to p (suc i) ≡ true)
+    pub one-more-passes : i < n → (i ≤ n) × (every_to p i ≡ true) → {r : Bool} → r ≡ p i → r ≡ true → (i + 1 ≤ n) × (every_to p (i + 1) ≡ true)
     unfolding every_to
-    one-more-passes l f true said y = (l, rw (f.1, ← said))
-    one-more-passes l f false said y = absurd y
+    one-more-passes l f said y = (omega (arith, l), ap (every_to p) (one_more i) ∙ rw (f.1, sym said ∙ y))
 
   fails-on : (i n : ℕ) → i < n → p i ≡ false → every_to p n ≡ false
   unfolding every_to
@@ -123,31 +123,23 @@ module _ (p : ℕ → Bool) where
     | no b ↦ (let q : n ≡ i = omega (arith, l, b) in ap (λ (m : ℕ). every_to p n && p m) q ∙ ap (λ (c : Bool). every_to p n && c) e ∙ and_no (every_to p n))
   ]
 
-  pub one-fails : (n i : ℕ) → i < n → (r : Bool) → r ≡ p i → T (not r) → false ≡ every_to p n
-  one-fails n i l true said y = absurd y
-  one-fails n i l false said y = sym (fails-on i n l (sym said))
+  pub one-fails : (n i : ℕ) → i < n → {r : Bool} → r ≡ p i → r ≡ false → false ≡ every_to p n
+  one-fails n i l said y = sym (fails-on i n l (sym said ∙ y))
 
 every-gives : (p q : ℕ → Bool) → ((i : ℕ) → p i ≡ true → q i ≡ true) → (n : ℕ) → every_to p n ≡ true → every_to q n ≡ true
 unfolding every_to
 every-gives p q g zero h = refl
 every-gives p q g (suc n) h = let a = (and-eq-true_iff (every_to p n) (p n)).0 h in (and-eq-true_iff _ _).1 (every-gives p q g n a.0, g n a.1)
 
-pub all-sure-agree : (ix : Index) (t : Table) (ok : Bool) → ok ≡ sure_all ix t → T ok → true ≡ agrees ix t
+pub all-sure-agree : (ix : Index) (t : Table) {ok : Bool} → ok ≡ sure_all ix t → ok ≡ true → true ≡ agrees ix t
 unfolding sure_all agrees
-all-sure-agree ix t true e y = sym (every-gives (sure_in ix t) (agrees_at ix t) (sure-agrees ix t) (length t) (sym e))
-all-sure-agree ix t false e y = absurd y
-
-pub slot_small : (t : Table) (i : ℕ) → i < length t → length t < 2 ^ 64 → i + 1 < 2 ^ 64
-slot_small t i l r = omega (arith, l, r)
+all-sure-agree ix t e y = sym (every-gives (sure_in ix t) (agrees_at ix t) (sure-agrees ix t) (length t) (sym e ∙ y))
 
 -- ---- the loop of `sure_from`: what is left from the k-th place on comes to what all comes to
 abbrev pub SureLeft : Index → (slot from k : ℕ) → Type 0
 SureLeft ix i from k = (k ≤ places) × (sure_from ix i (places - k) (from + k) ≡ sure_from ix i places from)
 
 module _ (ix : Index) (i from : ℕ) where
-  pub sure-start : SureLeft ix i from 0
-  sure-start = (omega arith, ap (sure_from ix i places) (let z : from + 0 ≡ from = omega arith in z))
-
   module _ (k : ℕ) (f : SureLeft ix i from k) where
     pub sure-out : places ≤ k → false ≡ sure_from ix i places from
     unfolding sure_from

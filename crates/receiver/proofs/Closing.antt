@@ -1,10 +1,10 @@
 -- Order 9: the steps of a call with an index are the call. Assumes nothing.
 use Prim.Native.Nat.{ℕ, ◌≤◌}
-use mathlib.Core.Path.{◌≡◌, refl, ap, sym, ◌∙◌, subst}
-use mathlib.Core.Bool.{Bool, true, false, not}
+use mathlib.Core.Path.{◌≡◌, refl, ap, sym, ◌∙◌}
+use mathlib.Core.Bool.{Bool, true, false, false≢true}
 use mathlib.Core.List.{List, []}
 use native.Mathlib.Omega.{arith}
-use lib.Dec.{T, eqb, ltb}
+use lib.Dec.{eqb, ltb}
 use lib.ListN.{length}
 use borrow.Author.Tests.{le-ltb, ltb-false, eqb-true, eq-eqb}
 use Rattle.refusal.specs.Checks.{Said}
@@ -24,22 +24,22 @@ use Rattle.index.proofs.Kept.{indexed-is, as-without}
 
 -- ---- 1 and 18
 module _ (ix : Index) (t : Table) (no : ℕ) (said : no ≡ sizes_unfit (length t) (length ix)) where
-  pub sizes-refuse : T (not (eqb no 0)) → no ≡ unfit_of ix t
+  pub sizes-refuse : (no ≡ 0 → ⊥) → no ≡ unfit_of ix t
   unfolding sizes_unfit unfit_of indexed
   sizes-refuse y = go (ltb slots_most (length t)) refl (eqb (length ix) places) refl
     where
       go : (a : Bool) → ltb slots_most (length t) ≡ a → (b : Bool) → eqb (length ix) places ≡ b → no ≡ unfit_of ix t
       go true p b q = said ∙ rw p refl
       go false p false q = said ∙ rw (p, q) refl
-      go false p true q = absurd (subst (λ (m : ℕ). T (not (eqb m 0))) (let e : no ≡ 0 = said ∙ rw (p, q) refl in e) y)
+      go false p true q = absurd (y (said ∙ rw (p, q) refl))
 
-  pub sizes-fit : T (not (not (eqb no 0))) → (length t ≤ slots_most) × (length ix ≡ places)
+  pub sizes-fit : no ≡ 0 → (length t ≤ slots_most) × (length ix ≡ places)
   unfolding sizes_unfit
   sizes-fit y = go (ltb slots_most (length t)) refl (eqb (length ix) places) refl
     where
       go : (a : Bool) → ltb slots_most (length t) ≡ a → (b : Bool) → eqb (length ix) places ≡ b → (length t ≤ slots_most) × (length ix ≡ places)
-      go true p b q = absurd (subst (λ (m : ℕ). T (not (not (eqb m 0)))) (let e : no ≡ TABLE = said ∙ rw p refl in e) y)
-      go false p false q = absurd (subst (λ (m : ℕ). T (not (not (eqb m 0)))) (let e : no ≡ INDEX = said ∙ rw (p, q) refl in e) y)
+      go true p b q = absurd (let e : no ≡ TABLE = said ∙ rw p refl in omega (arith, e, y))
+      go false p false q = absurd (let e : no ≡ INDEX = said ∙ rw (p, q) refl in omega (arith, e, y))
       go false p true q = (ltb-false slots_most (length t) p, eqb-true (length ix) places q)
 
 pub unfit-last : (ix : Index) (t : Table) → (length t ≤ slots_most) × (length ix ≡ places) → (ok : Bool) → ok ≡ agrees ix t → (r : ℕ) → r ≡ differs ok → r ≡ unfit_of ix t
@@ -48,7 +48,7 @@ unfit-last ix t f true e r d = d ∙ rw (le-ltb slots_most (length t) f.0, eq-eq
 unfit-last ix t f false e r d = d ∙ rw (le-ltb slots_most (length t) f.0, eq-eqb (length ix) places f.1, sym e) refl
 
 module _ (ix : Index) (t : Table) (no : ℕ) (said : no ≡ unfit_of ix t) where
-  pub unfit-refused : (c : Call) {w : Said Answer} → T (not (eqb no 0)) → w ≡ refused no → MeetsIndexed ix t c (record { said = w; table = t; index = ix })
+  pub unfit-refused : (c : Call) {w : Said Answer} → (no ≡ 0 → ⊥) → w ≡ refused no → MeetsIndexed ix t c (record { said = w; table = t; index = ix })
   unfolding answer after index_after guarded unfit_of
   unfit-refused c {w} y e = record {
     said = e ∙ sym (ap (answer t) g);
@@ -62,15 +62,15 @@ module _ (ix : Index) (t : Table) (no : ℕ) (said : no ≡ unfit_of ix t) where
           go : (a : Bool) → ltb slots_most (length t) ≡ a → (b : Bool) → indexed ix t ≡ b → guarded ix t c ≡ refuse no
           go true p b q = rw p (ap refuse (sym (said ∙ rw p refl)))
           go false p false q = rw (p, q) (ap refuse (sym (said ∙ rw (p, q) refl)))
-          go false p true q = absurd (subst (λ (m : ℕ). T (not (eqb m 0))) (let e : no ≡ 0 = said ∙ rw (p, q) refl in e) y)
+          go false p true q = absurd (y (said ∙ rw (p, q) refl))
 
-  pub unfit-none : T (not (not (eqb no 0))) → (length t ≤ slots_most) × (indexed ix t ≡ true)
+  pub unfit-none : no ≡ 0 → (length t ≤ slots_most) × (indexed ix t ≡ true)
   unfolding unfit_of
   unfit-none y = go (ltb slots_most (length t)) refl (indexed ix t) refl
     where
       go : (a : Bool) → ltb slots_most (length t) ≡ a → (b : Bool) → indexed ix t ≡ b → (length t ≤ slots_most) × (indexed ix t ≡ true)
-      go true p b q = absurd (subst (λ (m : ℕ). T (not (not (eqb m 0)))) (let e : no ≡ TABLE = said ∙ rw p refl in e) y)
-      go false p false q = absurd (subst (λ (m : ℕ). T (not (not (eqb m 0)))) (let e : no ≡ INDEX = said ∙ rw (p, q) refl in e) y)
+      go true p b q = absurd (let e : no ≡ TABLE = said ∙ rw p refl in omega (arith, e, y))
+      go false p false q = absurd (let e : no ≡ INDEX = said ∙ rw (p, q) refl in omega (arith, e, y))
       go false p true q = (ltb-false slots_most (length t) p, q)
 
 pub good-size : (ix : Index) (t : Table) → indexed ix t ≡ true → length ix ≡ places
@@ -124,14 +124,14 @@ module _ (ix : Index) (t : Table) (c : Call) (good : indexed ix t ≡ true) {w :
 
 -- ---- close
 module _ (ix : Index) (t : Table) (slot : ℕ) (good : indexed ix t ≡ true) (zs : Table) where
-  pub close-refused : (a : Done) → Meets t (closing slot) (record { said = said_done a; table = zs; output = [] }) → (d : Bool) → d ≡ is_done a → T (not d)
+  pub close-refused : (a : Done) → Meets t (closing slot) (record { said = said_done a; table = zs; output = [] }) → {d : Bool} → d ≡ is_done a → d ≡ false
       → MeetsIndexed ix t (closing slot) (record { said = said_done a; table = zs; index = ix })
   unfolding is_done
-  close-refused (Done.Refused n) met d e y = indexed-refused ix t (closing slot) good met n refl
-  close-refused Done.Ok met d e y = absurd (subst (λ (b : Bool). T (not b)) e y)
+  close-refused (Done.Refused n) met e y = indexed-refused ix t (closing slot) good met n refl
+  close-refused Done.Ok met e y = absurd (false≢true (sym y ∙ e))
 
-  pub close-stored : (a : Done) → Meets t (closing slot) (record { said = said_done a; table = zs; output = [] }) → (d : Bool) → d ≡ is_done a → T (not (not d))
+  pub close-stored : (a : Done) → Meets t (closing slot) (record { said = said_done a; table = zs; output = [] }) → {d : Bool} → d ≡ is_done a → d ≡ true
       → (jx : Index) → jx ≡ rebuilt zs → MeetsIndexed ix t (closing slot) (record { said = said_done a; table = zs; index = jx })
   unfolding is_done
-  close-stored (Done.Refused n) met d e y jx b = absurd (subst (λ (v : Bool). T (not (not v))) e y)
-  close-stored Done.Ok met d e y jx b = indexed-stored ix t (closing slot) good met (close-stores t slot) _ refl jx b
+  close-stored (Done.Refused n) met e y jx b = absurd (false≢true (sym e ∙ y))
+  close-stored Done.Ok met e y jx b = indexed-stored ix t (closing slot) good met (close-stores t slot) _ refl jx b

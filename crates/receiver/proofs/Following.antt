@@ -1,10 +1,9 @@
 -- Order 9: the steps of following are following. Assumes nothing.
 use Prim.Native.Nat.{ℕ, zero, suc, ◌+◌, ◌-◌, ◌%◌, ◌≤◌, ◌<◌}
 use mathlib.Core.Path.{◌≡◌, refl, ap, sym, ◌∙◌}
-use mathlib.Core.Bool.{Bool, true, false, not, cond}
+use mathlib.Core.Bool.{Bool, true, false, cond}
 use native.Mathlib.Decide.{dec_lt}
 use native.Mathlib.Omega.{arith}
-use lib.Dec.{T}
 use lib.ListN.{length, get_or}
 use borrow.Author.Tests.{le-leb, lt-ltb, le-ltb, lt-leb}
 use Rattle.calls.specs.Table.{Table, at, blank, hears}
@@ -107,15 +106,16 @@ module _ (ix : Index) (t : Table) (key : Key) (from k i : ℕ) (f : Left-of ix t
   unfolding named
   named_here = sym f.1 ∙ step ix t key from k (is-place ix from k i e) ∙ ap (λ (v : ℕ). named t key v (walk ix t key (places - suc k) (suc (from + k)))) (slot-here ix from k i e)
 
-  pub hit : (r : Bool) → r ≡ hears key.link key.dest key.vlan (get_or t i blank) → T r → At i ≡ place_as t (follow ix t key)
-  hit true said y =
-      let w : follow ix t key ≡ i = named_here ∙ ap (λ (b : Bool). cond b i (walk ix t key (places - suc k) (suc (from + k)))) (sym said) in
-      sym (ap (place_as t) w ∙ place-slot ix t key from i (within key t i (sym said)))
-  hit false said y = absurd y
+  pub hit : {r : Bool} → r ≡ hears key.link key.dest key.vlan (get_or t i blank) → r ≡ true → At i ≡ place_as t (follow ix t key)
+  hit said y =
+      let h : keyed key (at t i) ≡ true = sym said ∙ y in
+      let w : follow ix t key ≡ i = named_here ∙ ap (λ (b : Bool). cond b i (walk ix t key (places - suc k) (suc (from + k)))) h in
+      sym (ap (place_as t) w ∙ place-slot ix t key from i (within key t i h))
 
-  pub missed : (r : Bool) → r ≡ hears key.link key.dest key.vlan (get_or t i blank) → T (not r) → Left-of ix t key from (suc k)
-  missed true said y = absurd y
-  missed false said y =
-      let w : follow ix t key ≡ walk ix t key (places - suc k) (suc (from + k)) = named_here ∙ ap (λ (b : Bool). cond b i (walk ix t key (places - suc k) (suc (from + k)))) (sym said) in
-      let q : suc (from + k) ≡ from + suc k = omega arith in
-      (is-place ix from k i e, ap (walk ix t key (places - suc k)) (sym q) ∙ sym w)
+  pub missed : {r : Bool} → r ≡ hears key.link key.dest key.vlan (get_or t i blank) → r ≡ false → Left-of ix t key from (k + 1)
+  missed said y =
+      let l : k < places = is-place ix from k i e in
+      let w : follow ix t key ≡ walk ix t key (places - suc k) (suc (from + k)) = named_here ∙ ap (λ (b : Bool). cond b i (walk ix t key (places - suc k) (suc (from + k)))) (sym said ∙ y) in
+      let a : places - (k + 1) ≡ places - suc k = omega arith in
+      let b : from + (k + 1) ≡ suc (from + k) = omega arith in
+      (omega (arith, l), (λ j. walk ix t key (a j) (b j)) ∙ sym w)

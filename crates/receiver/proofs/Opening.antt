@@ -1,9 +1,9 @@
 -- Order 9: the steps of an open with an index are the open, and those of a rebuild the rebuild. Assumes nothing.
 use Prim.Native.Nat.{ℕ, ◌≤◌}
-use mathlib.Core.Path.{◌≡◌, refl, ap, sym, ◌∙◌, subst}
-use mathlib.Core.Bool.{Bool, true, false, ◌&&◌, ◌||◌, not, beq}
+use mathlib.Core.Path.{◌≡◌, refl, ap, sym, ◌∙◌}
+use mathlib.Core.Bool.{Bool, true, false, ◌&&◌, ◌||◌, beq, false≢true}
 use mathlib.Core.List.{List, [], ◌∷◌}
-use lib.Dec.{T, eqb, ltb}
+use lib.Dec.{eqb, ltb}
 use lib.ListN.{length}
 use borrow.Author.Tests.{le-ltb, eq-eqb}
 use Rattle.refusal.specs.Checks.{first_of}
@@ -21,7 +21,6 @@ use Rattle.calls.specs.Said.{said_opened}
 use Rattle.calls.specs.declared.Opened.{Opened}
 use Rattle.calls.specs.declared.Survey.{Survey}
 use Rattle.calls.specs.declared.Found.{Found}
-use Rattle.calls.specs.declared.Found.TheVariants.{At}
 use Rattle.calls.specs.Steps.{is_at, seen_as, is_opened}
 use Rattle.calls.proofs.Search.{some-cons}
 use Rattle.index.specs.Index.{Index, places, follow, indexed, rebuilt}
@@ -98,27 +97,27 @@ module _ (t : Table) (dest : List ℕ) (vlan rule window time : ℕ) where
       go false p true q false r true s = rw (p, q, r, s) (Stores.fills _ _)
 
 module _ (ix : Index) (t : Table) (dest : List ℕ) (vlan rule window time : ℕ) (good : indexed ix t ≡ true) (zs : Table) where
-  pub open-refused : (a : Opened) → Meets t (opening dest vlan rule window time) (record { said = said_opened a; table = zs; output = [] }) → (d : Bool) → d ≡ is_opened a → T (not d)
+  pub open-refused : (a : Opened) → Meets t (opening dest vlan rule window time) (record { said = said_opened a; table = zs; output = [] }) → {d : Bool} → d ≡ is_opened a → d ≡ false
       → MeetsIndexed ix t (opening dest vlan rule window time) (record { said = said_opened a; table = zs; index = ix })
   unfolding is_opened
-  open-refused (Opened.Refused n) met d e y = indexed-refused ix t (opening dest vlan rule window time) good met n refl
-  open-refused (Opened.At i) met d e y = absurd (subst (λ (b : Bool). T (not b)) e y)
+  open-refused (Opened.Refused n) met e y = indexed-refused ix t (opening dest vlan rule window time) good met n refl
+  open-refused (Opened.At i) met e y = absurd (false≢true (sym y ∙ e))
 
-  pub open-stored : (a : Opened) → Meets t (opening dest vlan rule window time) (record { said = said_opened a; table = zs; output = [] }) → (d : Bool) → d ≡ is_opened a → T (not (not d))
+  pub open-stored : (a : Opened) → Meets t (opening dest vlan rule window time) (record { said = said_opened a; table = zs; output = [] }) → {d : Bool} → d ≡ is_opened a → d ≡ true
       → (jx : Index) → jx ≡ rebuilt zs → MeetsIndexed ix t (opening dest vlan rule window time) (record { said = said_opened a; table = zs; index = jx })
   unfolding is_opened
-  open-stored (Opened.Refused n) met d e y jx b = absurd (subst (λ (v : Bool). T (not (not v))) e y)
-  open-stored (Opened.At i) met d e y jx b = indexed-stored ix t (opening dest vlan rule window time) good met (open-stores t dest vlan rule window time) _ refl jx b
+  open-stored (Opened.Refused n) met e y jx b = absurd (false≢true (sym e ∙ y))
+  open-stored (Opened.At i) met e y jx b = indexed-stored ix t (opening dest vlan rule window time) good met (open-stores t dest vlan rule window time) _ refl jx b
 
 -- ---- rebuild
-pub rebuild-refused : (ix : Index) (t : Table) (num : ℕ) → num ≡ sizes_unfit (length t) (length ix) → T (not (eqb num 0)) → MeetsRebuild ix t (refused num) ix
+pub rebuild-refused : (ix : Index) (t : Table) (num : ℕ) → num ≡ sizes_unfit (length t) (length ix) → (num ≡ 0 → ⊥) → MeetsRebuild ix t (refused num) ix
 unfolding sizes_unfit first_of rebuild_checks rebuilt_by
 rebuild-refused ix t num said y = go (ltb slots_most (length t)) refl (eqb (length ix) places) refl
   where
     go : (a : Bool) → ltb slots_most (length t) ≡ a → (b : Bool) → eqb (length ix) places ≡ b → MeetsRebuild ix t (refused num) ix
     go true p b q = record { said = rw p (ap refused (let e : num ≡ TABLE = said ∙ rw p refl in e)); index = rw p refl }
     go false p false q = record { said = rw (p, q) (ap refused (let e : num ≡ INDEX = said ∙ rw (p, q) refl in e)); index = rw (p, q) refl }
-    go false p true q = absurd (subst (λ (m : ℕ). T (not (eqb m 0))) (let e : num ≡ 0 = said ∙ rw (p, q) refl in e) y)
+    go false p true q = absurd (y (said ∙ rw (p, q) refl))
 
 pub rebuild-done : (ix : Index) (t : Table) → (length t ≤ slots_most) × (length ix ≡ places) → (jx : Index) → jx ≡ rebuilt t → MeetsRebuild ix t (answers calls.done) jx
 unfolding first_of rebuild_checks rebuilt_by

@@ -3,7 +3,8 @@
 use Rattle.std.specs.Prelude.{◌≡◌}
 use seplogic.Ra.Ura.{Ura}
 use prog.Model.{Model}
-use prog.Routine.{Routine}
+use mir.Syntax.{Callee}
+use prog.Wired.{Code}
 use types.Logic.{Logic}
 use contract.Lifetimes.{Lfts}
 use contract.Running.{Running}
@@ -19,6 +20,6 @@ Determines T P left =
     → P κs a r e → P κs a s f → (r ≡ s) × (left κs e ≡ left κs f)
 
 module _ {M : Type 1} {𝓤 : Ura M} (𝓛 : Logic 𝓤) (𝓜 : Model 𝓤 𝓛.H) (𝓡 : Running 𝓤 𝓛.H 𝓜) where
-  pub record Ships (T : Ended) (code : Routine) (P : Promise T) {X : Type 0} (left : (κs : Lfts T.signature.lifetimes) → AtExit T κs → X) : Type 1 where
-    pub ensures : Ensures 𝓛 𝓜 𝓡 T code P
+  pub record Ships (T : Ended) (name : Callee) (code : Code) (P : Promise T) {X : Type 0} (left : (κs : Lfts T.signature.lifetimes) → AtExit T κs → X) : Type 1 where
+    pub ensures : Ensures 𝓛 𝓜 𝓡 T name code P
     pub determines : Determines T P left
