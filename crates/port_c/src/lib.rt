@@ -34,7 +34,12 @@ pub extern "C" fn nippitsun_write_tag(frame: &[u8], number: u16, out: &mut [u8])
 
 // Send.
 #[unsafe(no_mangle)]
-pub extern "C" fn nippitsun_send(sender: &mut u16, frame: &[u8], out0: &mut [u8], out1: &mut [u8]) -> TagAnswer
+pub extern "C" fn nippitsun_send(
+    sender: &mut u16,
+    frame: &[u8],
+    out0: &mut [u8],
+    out1: &mut [u8],
+) -> TagAnswer
     ensures { SendsInC sender.old frame.now out0.old out1.old result sender.new out0.new out1.new }
 {
     port::nippitsun_send(sender, frame, out0, out1)
@@ -50,7 +55,12 @@ pub extern "C" fn nippitsun_reset_sender(sender: &mut u16)
 
 // Arrival.
 #[unsafe(no_mangle)]
-pub extern "C" fn nippitsun_arrival(table: &mut [Stream], network: u8, frame: &[u8], out: &mut [u8]) -> ArrivalAnswer
+pub extern "C" fn nippitsun_arrival(
+    table: &mut [Stream],
+    network: u8,
+    frame: &[u8],
+    out: &mut [u8],
+) -> ArrivalAnswer
     ensures { MeetsInC tell_arrival table.old (arriving network frame.now out.old) result table.new out.new }
 {
     port::nippitsun_arrival(table, network, frame, out)
@@ -66,7 +76,15 @@ pub extern "C" fn nippitsun_reset(table: &mut [Stream], slot: usize) -> u8
 
 // Open. The destination is six bytes.
 #[unsafe(no_mangle)]
-pub extern "C" fn nippitsun_open(table: &mut [Stream], index: &mut [u8], dest: &[u8; 6], vlan: u16, rule: u8, window: u16, time: u16) -> SlotAnswer
+pub extern "C" fn nippitsun_open(
+    table: &mut [Stream],
+    index: &mut [u8],
+    dest: &[u8; 6],
+    vlan: u16,
+    rule: u8,
+    window: u16,
+    time: u16,
+) -> SlotAnswer
     ensures { MeetsIndexedInC tell_opened index.old table.old (opening dest.now vlan rule window time) result table.new index.new }
 {
     port::nippitsun_open(table, index, dest, vlan, rule, window, time)

@@ -10,7 +10,12 @@ use record::Stream;
 
 // Arrival of a virtual link.
 #[unsafe(no_mangle)]
-pub extern "C" fn nippitsun_link_arrival(table: &mut [Stream], network: u8, frame: &[u8], out: &mut [u8]) -> ArrivalAnswer
+pub extern "C" fn nippitsun_link_arrival(
+    table: &mut [Stream],
+    network: u8,
+    frame: &[u8],
+    out: &mut [u8],
+) -> ArrivalAnswer
     ensures { MeetsInC tell_arrival table.old (linking network frame.now out.old) result table.new out.new }
 {
     port_link::nippitsun_link_arrival(table, network, frame, out)
