@@ -7,6 +7,7 @@ pub mod Lengths
 pub mod Filling
 pub mod Fits
 pub mod Turning
+pub mod Turned
 -- The steps of the code are the batch: what is packed, the middle of a batch, and the call.
 pub mod Packing
 pub mod Middle

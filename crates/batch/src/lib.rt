@@ -206,7 +206,7 @@ fn unreached() -> ArrivalAnswer
     }
 }
 
-// ---- the walks
+// ---- over the table and the buffers
 
 // Place i holds an answer.
 fn keep(answers: &mut [ArrivalAnswer], i: usize, e: ArrivalAnswer)

@@ -1,5 +1,5 @@
 -- Order 9: the tests that the code makes are the agreement's. Assumes nothing.
-use Prim.Native.Nat.{ℕ, zero, suc, ◌+◌, ◌-◌, ◌%◌, ◌≤◌, ◌<◌}
+use Prim.Native.Nat.{ℕ, zero, suc, ◌+◌, ◌-◌, ◌^◌, ◌%◌, ◌≤◌, ◌<◌}
 use mathlib.Core.Path.{◌≡◌, refl, ap, sym, ◌∙◌}
 use mathlib.Core.Bool.{Bool, true, false, not, ◌&&◌, ◌||◌, cond, false≢true, and-eq-true_iff}
 use native.Mathlib.Decide.{dec_lt}
@@ -40,7 +40,7 @@ module _ (ix : Index) (t : Table) (k : Key) (i : ℕ) (own : keyed k (at t i) �
       go true q = rw q (omega (arith, low))
       go false q = rw q l
 
-  sure-low : (n p : ℕ) → sure_from ix i n p ≡ true → walk ix t k n p ≤ i
+  pub sure-low : (n p : ℕ) → sure_from ix i n p ≡ true → walk ix t k n p ≤ i
   unfolding sure_from walk
   sure-low zero p h = absurd (false≢true h)
   sure-low (suc n) p h = go (eqb (get_or ix (p % places) 0) (suc i)) refl (eqb (get_or ix (p % places) 0) 0 || ltb i (get_or ix (p % places) 0)) refl h (sure-low n (suc p))
@@ -74,7 +74,7 @@ and_no false = refl
 
 -- ---- a slot
 module _ (ix : Index) (t : Table) (i : ℕ) where
-  sure-agrees : sure_in ix t i ≡ true → agrees_at ix t i ≡ true
+  pub sure-agrees : sure_in ix t i ≡ true → agrees_at ix t i ≡ true
   unfolding sure_in sure_at agrees_at follow
   sure-agrees h = go (words.yes (at t i).used) refl
     where
@@ -135,11 +135,17 @@ pub all-sure-agree : (ix : Index) (t : Table) {ok : Bool} → ok ≡ sure_all ix
 unfolding sure_all agrees
 all-sure-agree ix t e y = sym (every-gives (sure_in ix t) (agrees_at ix t) (sure-agrees ix t) (length t) (sym e ∙ y))
 
+pub slot_small : (t : Table) (i : ℕ) → i < length t → length t < 2 ^ 64 → i + 1 < 2 ^ 64
+slot_small t i l r = omega (arith, l, r)
+
 -- ---- the loop of `sure_from`: what is left from the k-th place on comes to what all comes to
 abbrev pub SureLeft : Index → (slot from k : ℕ) → Type 0
 SureLeft ix i from k = (k ≤ places) × (sure_from ix i (places - k) (from + k) ≡ sure_from ix i places from)
 
 module _ (ix : Index) (i from : ℕ) where
+  pub sure-start : SureLeft ix i from 0
+  sure-start = (omega arith, ap (sure_from ix i places) (let z : from + 0 ≡ from = omega arith in z))
+
   module _ (k : ℕ) (f : SureLeft ix i from k) where
     pub sure-out : places ≤ k → false ≡ sure_from ix i places from
     unfolding sure_from

@@ -1,6 +1,6 @@
 -- Facts on lists and counting that the proofs here share. Assumes nothing.
 use mathlib.Core.Path.{◌≡◌, refl}
-use Prim.Native.Nat.{ℕ, zero, suc, ◌+◌, ◌≤◌}
+use Prim.Native.Nat.{ℕ, zero, suc, ◌+◌, ◌-◌, ◌≤◌, ◌<◌}
 use native.Mathlib.Nat.{not-suc-le-zero, le_of_suc-le-suc}
 use native.Mathlib.Omega.{arith}
 use mathlib.Core.List.{List, [], ◌∷◌}
@@ -17,5 +17,11 @@ drop_past [] (suc i) h = refl
 drop_past (x ∷ xs) zero h = absurd (not-suc-le-zero h)
 drop_past (x ∷ xs) (suc i) h = drop_past xs i (le_of_suc-le-suc h)
 
+pub from-0 : (k : ℕ) → 0 ≤ k
+from-0 k = omega arith
+
 pub one_more : (i : ℕ) → i + 1 ≡ suc i
 one_more i = omega arith
+
+pub less : (n i : ℕ) → i < n → n - suc i < n - i
+less n i l = omega (arith, l)

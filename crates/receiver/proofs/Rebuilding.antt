@@ -4,6 +4,7 @@ use mathlib.Core.Path.{◌≡◌, refl, ap, sym, ◌∙◌, subst}
 use mathlib.Core.Bool.{Bool, true, false, not, false≢true}
 use native.Mathlib.Omega.{arith}
 use lib.ListN.{length, get_or, set, replicate}
+use Rattle.record.specs.Sizes.{slots_most}
 use Rattle.calls.specs.Table.{Table, at}
 use Rattle.index.specs.Index.{Index, places, place_of, vacant, probe, entered, built, rebuilt}
 use Rattle.receiver.specs.Seek.{entered_as, holder_of}
@@ -13,6 +14,9 @@ use Rattle.receiver.proofs.Lists.{one_more}
 -- ---- the first empty place: what is left to look at comes to what all comes to
 abbrev pub VacantLeft : Index → (from k : ℕ) → Type 0
 VacantLeft ix from k = (k ≤ places) × (probe ix (places - k) (from + k) ≡ probe ix places from)
+
+pub vacant-start : (ix : Index) (from : ℕ) → VacantLeft ix from 0
+vacant-start ix from = (omega arith, ap (probe ix places) (let e : from + 0 ≡ from = omega arith in e))
 
 probe-hit : (ix : Index) (m p : ℕ) → get_or ix (p % places) 0 ≡ 0 → probe ix (suc m) p ≡ p % places
 unfolding probe vacant
@@ -77,3 +81,6 @@ built-none t ix e = e
 pub built-all : (t : Table) (i : ℕ) (ix : Index) → i ≤ length t → length t ≤ i → ix ≡ built t i → ix ≡ rebuilt t
 unfolding rebuilt
 built-all t i ix a b e = e ∙ ap (built t) (let q : i ≡ length t = omega (arith, a, b) in q)
+
+pub slot-below : (i n : ℕ) → i < n → n ≤ slots_most → i < 255
+slot-below i n a b = omega (arith, a, b)

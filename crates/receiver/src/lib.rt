@@ -1,5 +1,5 @@
 // The table that the caller lends, a slice of stream records, and the index beside it (document 02, order 9). Each function here
-// is a thin walk; what is decided of one record is decided by value in the crates below, and of one place in `places`.
+// is thin: what is decided of one record is decided by value in the crates below, and of one place in `places`.
 #![tactic(auto)]
 
 mod places;
@@ -375,7 +375,7 @@ pub fn open(
 }
 
 // The close as without the index: 12. The slot becomes free; its other fields stay. A damaged record can be closed. (It asks for 1
-// once more, so that `reset` and it are one walk.)
+// once more, as `reset` does.)
 fn close_in(t: &mut [Stream], slot: usize) -> Done
     ensures { Meets t.old (closing slot) (record { said = said_done result; table = t.new; output = [] }) }
 {

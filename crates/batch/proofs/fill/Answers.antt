@@ -6,7 +6,7 @@ use Rattle.receiver.proofs.Closing.{unfit-none}
 use Rattle.batch.specs.Steps.{begun, filled_of}
 use Rattle.batch.specs.declared.Cursor.{Cursor}
 use Rattle.batch.proofs.Filling.{Whole, whole-begun, begun-fit, framed, filled_none}
-use Rattle.batch.proofs.Turning.{adds_fit, adds_inside, one-frame-more, whole-still, fewer-left}
+use Rattle.batch.proofs.Turned.{adds_fit, adds_inside, one-frame-more, whole-still, fewer-left}
 use Rattle.batch.proofs.fill.Goals as goal
 
 pub loop-start-init : goal.loop-start-init
