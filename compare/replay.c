@@ -1,6 +1,6 @@
-/* The archives on cases that another program writes: each with its input, and with what it should answer and leave. For a
- * machine where the archives run under an emulator only. `calls cases` of compare/ writes the cases, and `bench cases` those of
- * the benchmark's own exports, which are called where DECISIONS is defined (bench/replay.c).
+/* The archives on cases that another program writes: each with its input, and with what it should answer and leave. The archives
+ * are those that the kit leaves, and its own linker links them. `calls cases` of compare/ writes the cases, and `bench cases` those
+ * of the benchmark's own exports, which are called where DECISIONS is defined (bench/replay.c).
  *
  * The C library's functions are declared here: the kit has no headers of it (tools/x86-64). */
 #include "../bindings/c/nippitsun.h"
@@ -178,6 +178,6 @@ int main(void) {
         else call(kind);
         done++;
     }
-    printf("%lu calls of the archives themselves, under the emulator: answers, records, indexes, next numbers and output bytes equal\n", done);
+    printf("%lu calls of the archives as the kit leaves them: answers, records, indexes, next numbers and output bytes equal\n", done);
     return done ? 0 : 1;
 }

@@ -1,5 +1,5 @@
-//! Calls with what they should answer and leave, written for compare/replay.c, which gives them to the archive itself under an
-//! emulator.
+//! Calls with what they should answer and leave, written for compare/replay.c, which gives them to the archives as the kit leaves
+//! them.
 
 use crate::{Answer, Call, VlanTag};
 use nippitsun::archive::{self, BatchAnswer};
