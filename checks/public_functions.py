@@ -15,7 +15,8 @@ def public_in(sources):
     its src/, by the file's name."""
     library = sources.get("lib.rt", "")
     open_modules = set(re.findall(r"^pub mod (\w+)", library, re.M))
-    taken = set(re.findall(r"^pub use (\w+)::(\w+);", library, re.M))
+    brought = re.findall(r"^pub use (?:self::)?(\w+)::(\w+|\{[^}]*\});", library, re.M)
+    taken = {(module, name) for module, names in brought for name in re.findall(r"\w+", names)}
     for file, text in sorted(sources.items()) if library else ():
         module = pathlib.PurePath(file).stem
         for found in re.finditer(r'^ *pub (?:extern "C" )?fn (\w+)(.*?)(?:^ *\{|\{$)', text, re.M | re.S):

@@ -16,9 +16,9 @@ def size(name):
     return int(re.search(rf"^{name} = (\d+)$", _sizes, re.M).group(1))
 
 
-WINDOW_LEAST, WINDOW_MOST = size("windowLeast"), size("windowMost")
-TIME_LEAST, TIME_MOST = size("timeLeast"), size("timeMost")
-FRAME_MOST = size("frameMost")
+WINDOW_LEAST, WINDOW_MOST = size("window_least"), size("window_most")
+TIME_LEAST, TIME_MOST = size("time_least"), size("time_most")
+FRAME_MOST = size("frame_most")
 NUMBERS = 65536
 
 

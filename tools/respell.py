@@ -9,6 +9,8 @@ import os
 import re
 import sys
 
+import ends_quietly  # when its reader has gone
+
 # A name that would fall together with another one in a file that has both.
 EXCEPT = {"atFirst": "sender_at_first"}
 # Lemmas that port.py respelled (a library had their spelling), in files where a definition has that name now.
@@ -99,8 +101,11 @@ def own_choice_to_std(path, text):
 
 
 def main(argv):
-    if len(argv) != 1:
-        print(__doc__)
+    if argv == ["--help"]:
+        print(__doc__.strip())
+        return 0
+    if len(argv) != 1 or not os.path.isdir(argv[0]):
+        print(__doc__.strip(), file=sys.stderr)
         return 2
     words = {}
     for path in own_texts((".antt", ".rt")):
