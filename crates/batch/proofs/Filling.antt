@@ -4,9 +4,9 @@ use mathlib.Core.Path.{◌≡◌, refl, sym, ap, ◌∙◌}
 use mathlib.Core.Bool.{Bool, true, false, not, cond, ◌||◌}
 use mathlib.Core.List.{List}
 use native.Mathlib.Omega.{arith}
-use lib.Dec.{T, eqb, ltb, leb}
+use lib.Dec.{eqb, ltb, leb}
 use lib.ListN.{length, take, drop}
-use borrow.Author.Tests.{eqb-false, leb-true, ltb-false}
+use borrow.Author.Tests.{eqb-true, eqb-false, leb-true, ltb-false}
 use Rattle.refusal.specs.Numbers.{NETWORK, BATCH}
 use Rattle.frame.specs.Bytes.{word}
 use Rattle.calls.specs.Table.{Table}
@@ -49,12 +49,12 @@ module _ (unfit network count : ℕ) (s : List ℕ) where
       go true false false false e f = starts count 0 (ltb-false frames_most count e) f
 
   -- a batch that has frames to come was refused with neither 1 nor 18
-  pub begun-fit : 0 < (begun unfit network count s).left → T (not (not (eqb unfit 0)))
+  pub begun-fit : 0 < (begun unfit network count s).left → unfit ≡ 0
   unfolding begun
   begun-fit h = go (eqb unfit 0) refl h
     where
-      go : (a : Bool) → eqb unfit 0 ≡ a → 0 < (begun unfit network count s).left → T (not (not (eqb unfit 0)))
-      go true e h = rw e tt
+      go : (a : Bool) → eqb unfit 0 ≡ a → 0 < (begun unfit network count s).left → unfit ≡ 0
+      go true e h = eqb-true unfit 0 e
       go false e h = absurd (let l : 0 < 0 = rw e at h in omega (arith, l))
 
 -- ---- the next frame

@@ -1,4 +1,4 @@
--- What ends the walks of the calls on a table: a call that meets the documents is told. And that two outcomes coincide. Assumes nothing.
+-- A call on a table that meets the documents is told, and two outcomes coincide. Assumes nothing.
 use mathlib.Core.Path.{◌≡◌, ap, sym, ◌∙◌}
 use Prim.Native.Nat.{ℕ}
 use mathlib.Core.List.{List}

@@ -86,12 +86,7 @@ fn tell_sent(a: Sent) -> TagAnswer
 }
 
 // Send.
-pub fn nippitsun_send(
-    sender: &mut u16,
-    frame: &[u8],
-    out0: &mut [u8],
-    out1: &mut [u8],
-) -> TagAnswer
+pub fn nippitsun_send(sender: &mut u16, frame: &[u8], out0: &mut [u8], out1: &mut [u8]) -> TagAnswer
     ensures { SendsInC sender.old frame.now out0.old out1.old result sender.new out0.new out1.new }
 {
     let s = Sender { next: *sender };

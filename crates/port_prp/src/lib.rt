@@ -37,6 +37,7 @@ fn tell_turned(a: Turned) -> PrpAnswer
 }
 
 // The line's setting: every byte is one of the two kinds.
+#[tactic(auto, unfolding(crate::specs::Lines::line_of))]
 fn kind_of(setting: u8) -> Kind
     ensures { trailer_of result ≡ line_of setting }
 {
