@@ -15,14 +15,14 @@ use Rattle.refusal.specs.Numbers.{TABLE, NETWORK}
 use Rattle.refusal.proofs.Checks.{Positive, first-positive}
 use Rattle.record.specs.Sizes.{slots_most}
 use Rattle.frame.specs.declared.Rank.{Rank}
-use Rattle.calls.specs.Table.{Table, at}
+use Rattle.calls.specs.Table.{Table}
 use Rattle.calls.specs.Calls.{Act, refuse, arrive, opens, closes, resets, ticks, Answer, Verdict, arrived, handed_up, duplicate, rogue, arriving, act, answer}
 use Rattle.calls.specs.Told.{tell_arrival}
 use Rattle.calls.specs.Refusals.{checks_of}
 use Rattle.calls.specs.declared.ArrivalAnswer.{ArrivalAnswer}
 use Rattle.calls.proofs.Exactly.{no-network, refused-exactly}
 use Rattle.batch.specs.Batch.{Batch, frames_most, Turn, answers_of, batch_of}
-use Rattle.batch.specs.Told.{mark, tell_each, frames_told, refusal_told, tell_batch}
+use Rattle.batch.specs.Told.{tell_each, frames_told, refusal_told, tell_batch}
 use Rattle.batch.specs.Refusals.{batch_checks}
 use Rattle.batch.specs.Laws.{NeverOneOrTwo, EachTold}
 use Rattle.batch.specs.declared.Batched.{Batched}

@@ -3,7 +3,6 @@
 -- `delays` has two more. Assumes nothing.
 use Rattle.std.specs.Prelude.{ℕ, zero, suc, ◌+◌, ◌-◌, ◌*◌, ◌/◌, ◌≤◌, ◌<◌, ◌≡◌, true, drop, replicate}
 use mathlib.Core.List.{List, [], ◌∷◌, ◌++◌, map, flat_map}
-use Rattle.stream.specs.Record.{lawful}
 use Rattle.stream.specs.Decisions.{Verdict, up, duplicate, rogue}
 use Rattle.calls.specs.Table.{Table, at}
 use Rattle.batch.specs.Laws.{preceded}

@@ -197,7 +197,15 @@ fn after_read(got: isize) -> Stand
 }
 
 // One turn: answers what can be answered and writes the lines; then, if no whole record is left, reads a piece more.
-fn go_on<R: Reads>(reader: &mut R, from: i32, onto: i32, h: Held, input: &mut [u8], lines: &mut [u8], out: &mut [u8]) -> Turn
+fn go_on<R: Reads>(
+    reader: &mut R,
+    from: i32,
+    onto: i32,
+    h: Held,
+    input: &mut [u8],
+    lines: &mut [u8],
+    out: &mut [u8],
+) -> Turn
     requires in_bounds { (65537 ≤ length input.old) × (length out.old ≡ frame_most) × (line_most ≤ length lines.old) }
     requires at_le_to { (h.at ≤ h.to) × (h.to ≤ length input.old) }
     ensures turned { Turned from onto h input.old input.new lines.new result }
@@ -336,7 +344,15 @@ fn going(stand: Stand) -> bool
 }
 
 // A proved loop has to end, and nothing says that an input does: turns are counted down from a number that no run uses up.
-fn turns<R: Reads>(reader: &mut R, from: i32, onto: i32, h: Held, input: &mut [u8], lines: &mut [u8], out: &mut [u8]) -> Over
+fn turns<R: Reads>(
+    reader: &mut R,
+    from: i32,
+    onto: i32,
+    h: Held,
+    input: &mut [u8],
+    lines: &mut [u8],
+    out: &mut [u8],
+) -> Over
     requires in_bounds { (65537 ≤ length input.old) × (length out.old ≡ frame_most) × (line_most ≤ length lines.old) }
     requires at_le_to { (h.at ≤ h.to) × (h.to ≤ length input.old) }
     ensures { Ran from onto h input.old input.new lines.new result }
@@ -357,7 +373,14 @@ fn turns<R: Reads>(reader: &mut R, from: i32, onto: i32, h: Held, input: &mut [u
 }
 
 // Reads a first piece, and goes on where it starts with the version byte.
-fn serve<R: Reads>(reader: &mut R, from: i32, onto: i32, input: &mut [u8], lines: &mut [u8], out: &mut [u8]) -> Over
+fn serve<R: Reads>(
+    reader: &mut R,
+    from: i32,
+    onto: i32,
+    input: &mut [u8],
+    lines: &mut [u8],
+    out: &mut [u8],
+) -> Over
     requires { (65537 ≤ length input.old) × (length out.old ≡ frame_most) × (line_most ≤ length lines.old) }
     ensures { Served from onto input.new lines.new result }
 {

@@ -1,5 +1,5 @@
 -- `tag::main` is safe: what the writer answers fits into the output. Assumes nothing.
-use Rattle.std.proofs.Common.{◌≤◌, sym, ap, ◌∙◌, arith, length, length-take}
+use Rattle.std.proofs.Common.{◌≤◌, sym, ap, ◌∙◌, arith, length-take}
 use Rattle.frame.specs.TagCalls.{said_written}
 use Rattle.frame.proofs.Writes.{written-fits}
 use Rattle.tag.proofs.main.Goals as goal

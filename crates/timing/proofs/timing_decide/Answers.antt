@@ -1,7 +1,4 @@
 -- `timing::timing_decide` meets its contract: the two steps of the decision, one after the other. Assumes nothing.
-use Rattle.std.proofs.Common.{◌≡◌, ap, ◌∙◌}
-use Rattle.stream.specs.Steps.{weighed, record_after}
-use Rattle.timing.specs.Decided.{tell}
 use Rattle.timing.proofs.timing_decide.Goals as goal
 
 pub returns : goal.returns
