@@ -77,7 +77,7 @@ fn frame_at(start: usize) -> usize
     start + 2
 }
 
-// What is told of each call's answer: covered functions, which keep the walk of `handle` short.
+// What is told of each call's answer.
 fn tell_open(a: Opened) -> Told
     ensures { result ≡ Told.Answered (Reply.Open a) }
 {
@@ -111,7 +111,7 @@ fn tell_tick(a: Swept) -> Told
 // ---- open and close without an index, which document 01 does not know (document 02, order 9)
 // Each makes an index of its own, which is rebuilt from the table before the call: so 18 is never given. What the rebuild
 // answers is not looked at, since the call gives 1 by itself. `.._here` has the index and lends it once, `.._with` makes
-// the two calls: so each walk is short.
+// the two calls.
 
 fn open_with(
     table: &mut [Stream],
@@ -163,7 +163,7 @@ fn close_here(table: &mut [Stream], slot: usize) -> Done
 }
 
 // The call that the body asks for is made with the table, and its answer is told. Each arm returns by itself, so that the
-// walk of one needs nothing of the others.
+// proof of one needs nothing of the others.
 fn handle(table: &mut [Stream], input: &[u8], start: usize, end: usize, out: &mut [u8]) -> Told
     requires { (start ≤ end) × (end ≤ length input.now) }
     ensures { Handled table.old (take (end - start) (drop start input.now)) out.old table.new result out.new }
@@ -221,7 +221,7 @@ pub struct Round {
     pub place: Place,
 }
 
-// `drain` with a table of 8 by value, which is lent once for a whole buffer: so a caller needs no walk.
+// `drain` with a table of 8 by value, which is lent once for a whole buffer.
 pub fn drain8(table: [Stream; 8], p: Place, input: &[u8], lines: &mut [u8], out: &mut [u8]) -> Round
     ensures { Drains table p input.now lines.old out.old result.table result.place lines.new out.new }
 {
