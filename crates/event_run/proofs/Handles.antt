@@ -1,4 +1,4 @@
--- What ends the walk of `handle`: a call that meets document 01 is the answer of its record. Assumes nothing.
+-- What ends the proof of `handle`: a call that meets document 01 is the answer of its record. Assumes nothing.
 use Rattle.std.proofs.Common.{◌≡◌, ℕ, zero, suc, ◌+◌, ◌-◌, ◌≤◌, Bool, true, false, ◌&&◌, eqb, leb, List, [], ◌∷◌, length, get_or, take, drop, sym, refl, ap, ◌∙◌, arith, length-take, drop-drop, leb-true}
 use native.Mathlib.Numerals.{unary_clauses}
 use lib.Seq.{take-nil}

@@ -77,7 +77,7 @@ fn frame_at(start: usize) -> usize
     start + 2
 }
 
-// What is told of each call's answer: functions of their own, which keep `handle` short.
+// What is told of each call's answer.
 fn tell_open(a: Opened) -> Told
     ensures { result ≡ Told.Answered (Reply.Open a) }
 {
@@ -221,7 +221,7 @@ pub struct Round {
     pub place: Place,
 }
 
-// `drain` with a table of 8 by value, which is lent once for a whole buffer: so a caller lends nothing.
+// `drain` with a table of 8 by value, which is lent once for a whole buffer.
 pub fn drain8(table: [Stream; 8], p: Place, input: &[u8], lines: &mut [u8], out: &mut [u8]) -> Round
     ensures { Drains table p input.now lines.old out.old result.table result.place lines.new out.new }
 {

@@ -95,8 +95,8 @@ fn read<R: Reads>(reader: &mut R, buf: &mut [u8]) -> isize
     }
 }
 
-// Reads a piece behind the bytes that are left, by the reader of a descriptor. There is room for one, so that no byte read means
-// the end of the input.
+// Reads a piece behind the bytes that are left, by the reader of a descriptor. There is room for one, so that no byte read
+// means the end of the input.
 fn fill<R: Reads>(reader: &mut R, from: i32, input: &mut [u8], left: usize) -> Piece
     requires { left < length input.old }
     ensures { Filled from left input.old input.new result }

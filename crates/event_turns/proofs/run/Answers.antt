@@ -1,10 +1,14 @@
 -- `event_turns::run` meets its contract: the buffers are long enough, and the run is from the number that the reader gave.
-use Rattle.std.proofs.Common.{ℤ, ◌≡◌, refl, ◌∙◌, to_z, of_z, w32, SFits, rules}
+use Rattle.std.proofs.Common.{ℤ, ◌≡◌, refl, ◌∙◌, to_z, of_z, w32, SFits, arith, rules}
 use Rattle.std.proofs.Math.Facts.{to_z-of_z}
 use Rattle.std.proofs.lemmas.Option.{IfSome_then}
 use Rattle.event_turns.specs.Turns.{Runs}
 use Rattle.event_turns.proofs.Running.{served-as}
 use Rattle.event_turns.proofs.run.Goals as goal
+
+-- a record fits in the one buffer, and a line in the other
+pub serve-requires : goal.serve-requires
+serve-requires g c = (omega arith, refl, omega arith)
 
 pub returns-clause-runs : goal.returns-clause-runs
 returns-clause-runs g c = (
