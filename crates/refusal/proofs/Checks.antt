@@ -7,7 +7,8 @@ use mathlib.Core.Bool.{Bool, true, false, cond}
 use mathlib.Core.List.{List, [], ◌∷◌}
 use native.Mathlib.Omega.{arith}
 use Rattle.std.specs.Prelude.{Result, Ok, Err}
-use Rattle.refusal.specs.Checks.{Said, Check, First, first_of, FirstExactly, said, SaidTells}
+use Rattle.std.specs.Result.{IsErrAnd}
+use Rattle.refusal.specs.Checks.{Said, Check, First, first_of, FirstExactly, SaidTells}
 use Rattle.refusal.specs.Checks.Said.{refused, answers}
 use Rattle.refusal.specs.Numbers.{number_of}
 use Rattle.refusal.specs.declared.Refusal.{Refusal}
@@ -109,3 +110,8 @@ said-tells A (Ok a) (Ok b) e = ap Ok (same-value e)
 said-tells A (Ok a) (Err q) e = absurd (let z : ◌≡◌ {A = ℕ} 0 1 = cc in omega arith)
 said-tells A (Err p) (Ok b) e = absurd (let z : ◌≡◌ {A = ℕ} 0 1 = cc in omega arith)
 said-tells A (Err p) (Err q) e = ap Err (sym (numbered p) ∙ ap refusal_at (ap (number_or 0) e) ∙ numbered q)
+
+-- what a `?` passes on is the refusal that it met
+pub passed-on : {A : Type 0} (r : Result A Refusal) {refusal : Refusal} → IsErrAnd r (λ x. x ≡ refusal) → r ≡ Err refusal
+passed-on (Ok a) h = absurd h
+passed-on (Err x) h = ap Err h
