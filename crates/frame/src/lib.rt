@@ -151,13 +151,18 @@ pub fn read_tag(frame: &[u8]) -> Result<Tag, Refusal>
     Ok(Tag { header, number })
 }
 
-// Copies src to the start of dst.
+// Copies src to the start of dst, through a room of its own: so the compiler knows that src and dst do not overlap, leaves the
+// room out and calls memmove once.
 #[tactic(auto, unfolding(crate::specs::Bytes::overlay))]
 fn copy(src: &[u8], dst: &mut [u8])
-    requires { length src.now ≤ length dst.old }
+    requires src_len_bound { length src.now ≤ frame_most }
+    requires src_in_bounds { length src.now ≤ length dst.old }
     ensures { dst.new ≡ overlay src.now dst.old }
 {
-    dst[..src.len()].copy_from_slice(src);
+    let n = src.len();
+    let mut room = [0u8; Stream::FRAME_MOST];
+    room[..n].copy_from_slice(src);
+    dst[..n].copy_from_slice(&room[..n]);
 }
 
 // The six bytes of a tag, at the start of dst.
@@ -173,6 +178,7 @@ fn write_six(number: u16, dst: &mut [u8])
 // The frame without the six bytes at a place, at the start of out.
 fn cut_at(frame: &[u8], at: usize, out: &mut [u8])
     requires at_in_bounds { at + 6 ≤ length frame.now }
+    requires frame_len_bound { length frame.now ≤ frame_most }
     requires frame_in_bounds { length frame.now ≤ length out.old + 6 }
     ensures { out.new ≡ overlay (cut_at frame.now at) out.old }
 {
@@ -183,6 +189,7 @@ fn cut_at(frame: &[u8], at: usize, out: &mut [u8])
 // The frame with a tag put in at a place, at the start of out.
 fn tag_at(frame: &[u8], at: usize, number: u16, out: &mut [u8])
     requires at_in_bounds { at ≤ length frame.now }
+    requires frame_len_bound { length frame.now ≤ frame_most }
     requires frame_in_bounds { length frame.now + 6 ≤ length out.old }
     ensures { out.new ≡ overlay (tag_at frame.now at number) out.old }
 {
