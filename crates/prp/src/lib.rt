@@ -2,13 +2,13 @@
 #![tactic(auto)]
 
 ghost use Rattle.std.specs.Prelude.{◌≡◌, ◌+◌, ◌≤◌, ◌<◌, length, drop};
-ghost use Rattle.frame.specs.Bytes.{word, overlay};
+ghost use Rattle.frame.specs.Bytes.{overlay};
 ghost use Rattle.frame.specs.Frame.{type_at, cut_at};
 ghost use Rattle.prp.specs.Prp.{trailer_of, width_of, end_at, same, is_lan, wears, lan_of, two_words, trailer_bytes, from_prp, to_prp, said_turned};
 ghost use Rattle.prp.specs.Steps.{Headed, HasTag};
 
-use frame::{Head, TagRead};
 use record::Stream;
+use refusal::Refusal;
 
 // A line's kind of trailer: the first edition's, or that of 2012.
 #[derive(Clone, Copy, Debug, PartialEq, Eq)]
@@ -17,8 +17,16 @@ pub enum Kind {
     Of2012,
 }
 
+// A turn: network, number, and how many bytes were written.
+#[derive(Clone, Copy, Debug, PartialEq, Eq)]
+pub struct Turned {
+    pub network: u8,
+    pub number: u16,
+    pub length: usize,
+}
+
 impl Kind {
-    // The last bytes of a trailer, those behind number, LAN and size: in these alone the kinds differ.
+    // The last bytes of a trailer, those behind number, LAN and size. Nothing else differs between the kinds.
     fn last(self) -> &'static [u8]
         ensures { result.now ≡ (trailer_of self).last }
     {
@@ -29,6 +37,7 @@ impl Kind {
     }
 
     // How many bytes a trailer has.
+    #[tactic(auto, unfolding(crate::specs::Prp::width_of))]
     fn width(self) -> usize
         ensures { result ≡ width_of (trailer_of self) }
     {
@@ -43,24 +52,21 @@ impl Kind {
         frame.ends_with(self.last())
     }
 
-    // The last bytes, at the start of dst.
+    // The last bytes, at the start of dst. Byte by byte, which the compiler makes one move; copy_from_slice of bytes whose number it
+    // does not know would be a call.
     fn write_last(self, dst: &mut [u8])
         requires { length (trailer_of self).last ≤ length dst.old }
         ensures { dst.new ≡ overlay (trailer_of self).last dst.old }
     {
         let last = self.last();
-        dst[..last.len()].copy_from_slice(last);
+        for (i, byte) in last.iter().enumerate() {
+            dst[i] = *byte;
+        }
     }
 }
 
-// A turn: network, number, and how many bytes were written. Or the number of its refusal.
-#[derive(Clone, Copy)]
-pub enum Turned {
-    Refused(u8),
-    Out(u8, u16, usize),
-}
-
 // Is this LAN A or B?
+#[tactic(auto, unfolding(crate::specs::Prp::is_lan))]
 fn is_lan(lan: u16) -> bool
     ensures { result ≡ is_lan lan }
 {
@@ -68,6 +74,7 @@ fn is_lan(lan: u16) -> bool
 }
 
 // Does a frame with its type field at a place have a trailer of this kind at its end, with a fitting size and a LAN of A or B?
+#[tactic(auto, using(crate::proofs::Trailers::width_is))]
 fn has_trailer(frame: &[u8], at: usize, end: usize, kind: Kind) -> bool
     requires at_value { at ≡ type_at frame.now }
     requires kind_in_bounds { at + 2 + width_of (trailer_of kind) ≤ length frame.now }
@@ -86,49 +93,69 @@ fn has_trailer(frame: &[u8], at: usize, end: usize, kind: Kind) -> bool
 
 // A frame whose header has no tag and whose type field is at a place: its trailer is looked at, and the tagged frame written to the
 // start of out. The place, 12 or 16 behind a VLAN tag, is a constant, so that the front is one or two moves.
-fn from_at<const AT: usize>(frame: &[u8], end: usize, kind: Kind, out: &mut [u8]) -> Turned
+#[tactic(auto, using(crate::proofs::Trailers::width_is))]
+fn from_at<const AT: usize>(
+    frame: &[u8],
+    end: usize,
+    kind: Kind,
+    out: &mut [u8],
+) -> Result<Turned, Refusal>
     requires { Headed (trailer_of kind) frame.now AT end }
     ensures result_value { said_turned result ≡ (from_prp (trailer_of kind) frame.now out.old).said }
     ensures out_after { out.new ≡ (from_prp (trailer_of kind) frame.now out.old).bytes }
 {
     if !has_trailer(frame, AT, end, kind) {
-        return Turned::Refused(refusal::TRAILER);
+        return Err(Refusal::Trailer);
     }
-    let len = end + 6;
-    if out.len() < len {
-        return Turned::Refused(refusal::ROOM);
+    let length = end + 6;
+    if out.len() < length {
+        return Err(Refusal::Room);
     }
     let number = u16::from_be_bytes([frame[end], frame[end + 1]]);
     let both = u16::from_be_bytes([frame[end + 2], frame[end + 3]]);
     let network = (both / 4096 - 0xA) as u8;
     frame::write_with(&frame[..end], AT, number, out);
-    Turned::Out(network, number, len)
+    Ok(Turned {
+        network,
+        number,
+        length,
+    })
 }
 
 // From PRP: the tagged frame, at the start of out. No frame is both short and too long, so that the order of the first two tests
 // is open: like this the compiler knows the frame's length where it is written.
-pub fn from_prp(frame: &[u8], kind: Kind, out: &mut [u8]) -> Turned
+pub fn from_prp(frame: &[u8], kind: Kind, out: &mut [u8]) -> Result<Turned, Refusal>
     ensures result_value { said_turned result ≡ (from_prp (trailer_of kind) frame.now out.old).said }
     ensures out_after { out.new ≡ (from_prp (trailer_of kind) frame.now out.old).bytes }
 {
     let width = kind.width();
     if frame.len() < 14 + width {
-        return Turned::Refused(refusal::SHORT);
+        return Err(Refusal::Short);
     }
     let end = frame.len() - width;
     if end > Stream::UNTAGGED_MOST {
-        return Turned::Refused(refusal::LONG);
+        return Err(Refusal::Long);
     }
-    let Head::Whole(h) = frame::read_head(&frame[..end]) else {
-        return Turned::Refused(refusal::SHORT);
+    let Some(header) = frame::read_head(&frame[..end]) else {
+        return Err(Refusal::Short);
     };
-    if h.tagged {
-        return Turned::Refused(refusal::TAGGED);
+    if header.tagged {
+        return Err(Refusal::Tagged);
     }
-    if h.at == 12 {
+    if header.at == 12 {
         return from_at::<12>(frame, end, kind, out);
     }
     from_at::<16>(frame, end, kind, out)
+}
+
+// The four bytes before the last ones: the number, then LAN and size.
+#[tactic(auto, unfolding(frame::specs::Bytes::overlay))]
+fn write_words(number: u16, both: u16, dst: &mut [u8])
+    requires { 4 ≤ length dst.old }
+    ensures { dst.new ≡ overlay (two_words number both) dst.old }
+{
+    dst[..2].copy_from_slice(&number.to_be_bytes());
+    dst[2..4].copy_from_slice(&both.to_be_bytes());
 }
 
 // A trailer, at the start of dst.
@@ -139,8 +166,7 @@ fn write_trailer(kind: Kind, number: u16, network: u8, size: u16, dst: &mut [u8]
     ensures { dst.new ≡ overlay (trailer_bytes (trailer_of kind) number (lan_of network) size) dst.old }
 {
     let both = (0xA + u16::from(network)) * 4096 + size;
-    dst[..2].copy_from_slice(&number.to_be_bytes());
-    dst[2..4].copy_from_slice(&both.to_be_bytes());
+    write_words(number, both, dst);
     kind.write_last(&mut dst[4..]);
 }
 
@@ -158,8 +184,14 @@ fn type_without(frame: &[u8], at: usize) -> usize
 }
 
 // The frame without the tag at a place and with a trailer, at the start of out. The trailer is written first: so less has to be
-// kept while the frame is copied.
-fn to_at<const AT: usize>(frame: &[u8], number: u16, network: u8, kind: Kind, out: &mut [u8]) -> Turned
+// kept while the frame is copied. The place is a constant, as above.
+fn to_at<const AT: usize>(
+    frame: &[u8],
+    number: u16,
+    network: u8,
+    kind: Kind,
+    out: &mut [u8],
+) -> Result<Turned, Refusal>
     requires { HasTag frame.now AT number network }
     ensures result_value { said_turned result ≡ (to_prp (trailer_of kind) network frame.now out.old).said }
     ensures out_after { out.new ≡ (to_prp (trailer_of kind) network frame.now out.old).bytes }
@@ -167,31 +199,38 @@ fn to_at<const AT: usize>(frame: &[u8], number: u16, network: u8, kind: Kind, ou
     let bare = frame.len() - 6;
     let head = type_without(frame, AT) + 2;
     if bare < head {
-        return Turned::Refused(refusal::SHORT);
+        return Err(Refusal::Short);
     }
-    let len = bare + kind.width();
-    if out.len() < len {
-        return Turned::Refused(refusal::ROOM);
+    let length = bare + kind.width();
+    if out.len() < length {
+        return Err(Refusal::Room);
     }
-    write_trailer(kind, number, network, (len - head) as u16, &mut out[bare..]);
+    write_trailer(
+        kind,
+        number,
+        network,
+        (length - head) as u16,
+        &mut out[bare..],
+    );
     frame::write_without(frame, AT, out);
-    Turned::Out(network, number, len)
+    Ok(Turned {
+        network,
+        number,
+        length,
+    })
 }
 
 // To PRP: the frame without its tag and with a trailer, at the start of out.
-pub fn to_prp(frame: &[u8], network: u8, kind: Kind, out: &mut [u8]) -> Turned
+pub fn to_prp(frame: &[u8], network: u8, kind: Kind, out: &mut [u8]) -> Result<Turned, Refusal>
     ensures result_value { said_turned result ≡ (to_prp (trailer_of kind) network frame.now out.old).said }
     ensures out_after { out.new ≡ (to_prp (trailer_of kind) network frame.now out.old).bytes }
 {
     if network > 1 {
-        return Turned::Refused(refusal::NETWORK);
+        return Err(Refusal::Network);
     }
-    let got = frame::read_tag(frame);
-    let TagRead::Tagged(h, number) = got else {
-        return Turned::Refused(frame::refusal_of(got));
-    };
-    if h.at == 12 {
-        return to_at::<12>(frame, number, network, kind, out);
+    let tag = frame::read_tag(frame)?;
+    if tag.header.at == 12 {
+        return to_at::<12>(frame, tag.number, network, kind, out);
     }
-    to_at::<16>(frame, number, network, kind, out)
+    to_at::<16>(frame, tag.number, network, kind, out)
 }
