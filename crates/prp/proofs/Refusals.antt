@@ -12,15 +12,17 @@ use borrow.Author.Tests.{lt-ltb, le-ltb, ltb-false, ltb-true}
 use Rattle.refusal.specs.Checks.{Said, First, first_of}
 use Rattle.refusal.specs.Checks.Said.{refused, answers}
 use Rattle.refusal.specs.Numbers.{NETWORK, LONG, SHORT, UNTAGGED, ROOM, TAGGED, GROUP, TRAILER}
-use Rattle.refusal.proofs.Checks.{first-exactly, same-value}
+use Rattle.refusal.proofs.Checks.{first-exactly, said-tells}
+use Rattle.refusal.specs.declared.Refusal.{Refusal}
+use Rattle.std.specs.Prelude.{Result}
 use Rattle.record.specs.Sizes.{frame_most}
 use Rattle.frame.specs.Bytes.{overlay}
-use Rattle.frame.specs.Frame.{Tag, type_at, has_vlan, is_tagged, head_short, tag_short, header_of, number_in, read_of, untagged, tagged}
+use Rattle.frame.specs.declared.Tag.{Tag}
+use Rattle.frame.specs.Frame.{type_at, has_vlan, is_tagged, head_short, tag_short, header_of, number_in, read_of, untagged, tagged}
 use Rattle.frame.proofs.Laws.{coincide}
 use Rattle.frame.proofs.TakeThenPut.{cut-length}
 use Rattle.frame.proofs.Writes.{picks-said, picks-keeps}
 use Rattle.prp.specs.declared.Turned.{Turned}
-use Rattle.prp.specs.declared.Turned.TheVariants as cases
 use Rattle.prp.specs.Prp.{Trailer, Turn, Told, said_turned, width_of, end_at, number_at, lan_at, network_of, wears, body_of, from_of, trailed, to_as_read, to_of, turn_into, from_prp, to_prp}
 use Rattle.prp.specs.Refusals.{prp_short, from_checks, to_checks, FromRefusedExactly, ToRefusedExactly, FromRefusedKeeps, ToRefusedKeeps, TurnsCoincide, NeverGroup}
 use Rattle.prp.proofs.Turns.{from_turn, to_turn, from-length, trailed-length}
@@ -128,14 +130,8 @@ to-refused-keeps k w f out n e = keeps out (to_of k w f) n e
 
 -- ---- the cases of the answer say different things
 
-tells : (r s : Turned) → said_turned r ≡ said_turned s → r ≡ s
-tells (cases.Refused n) (cases.Refused m) e = cc
-tells (cases.Refused n) (cases.Out w m l) e = cc
-tells (cases.Out w n l) (cases.Refused m) e = cc
-tells (cases.Out w n l) (cases.Out v m j) e = let t = same-value e in λ i. cases.Out (t i).network (t i).number (t i).length
-
 pub turns-coincide : TurnsCoincide
-turns-coincide = coincide Turned Told said_turned tells
+turns-coincide = coincide (Result Turned Refusal) Told said_turned (said-tells Turned)
 
 -- ---- 14 is not among the numbers
 

@@ -15,7 +15,8 @@ use Rattle.refusal.proofs.Checks.{passed, same-value}
 use Rattle.std.specs.Prelude.{if◌then◌else◌}
 use Rattle.record.specs.Sizes.{frame_most}
 use Rattle.frame.specs.Bytes.{word}
-use Rattle.frame.specs.Frame.{Tag, type_at, is_tagged, head_short, read_of, untagged, tagged}
+use Rattle.frame.specs.declared.Tag.{Tag}
+use Rattle.frame.specs.Frame.{type_at, is_tagged, head_short, read_of, untagged, tagged}
 use Rattle.frame.proofs.Heads.{type-least, head-room, tag_of}
 use Rattle.frame.proofs.Words.{word-behind}
 use Rattle.frame.proofs.TakeThenPut.{cut-length, kept, tag-then, again, again-only}

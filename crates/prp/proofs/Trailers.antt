@@ -7,7 +7,9 @@ use mathlib.Core.List.{List, [], ◌∷◌}
 use lib.ListN.{length, get_or, set, drop, length-drop, drop_of_length-le}
 use lib.Seq.{get_or-drop, sets-eq}
 use lib.Dec.{eqb}
-use borrow.Author.Tests.{eq-eqb, ne_eqb, eqb-true}
+use lib.Pointwise.{pointwise}
+use Rattle.std.specs.List.{ends_with}
+use borrow.Author.Tests.{eq-eqb, ne_eqb, eqb-true, eqb-false}
 use borrow.Rule.Slice.PartMut.{mid_of, put_mid}
 use Rattle.frame.specs.Bytes.{word, overlay}
 use Rattle.frame.specs.Frame.{type_at, cut_at}
@@ -50,6 +52,28 @@ two (a ∷ b ∷ d ∷ l) e = absurd (omega arith)
 abbrev pub EndsSo : (k : Trailer) (f : List ℕ) → Bool
 EndsSo k f = same (drop (end_at k f + 4) f) k.last
 
+-- which is what std's comparison with them says,
+swapped : (x y : ℕ) → eqb x y ≡ eqb y x
+swapped x y = go (eqb x y) refl
+  where
+    go : (b : Bool) → eqb x y ≡ b → eqb x y ≡ eqb y x
+    go true e = e ∙ sym (eq-eqb y x (sym (eqb-true x y e)))
+    go false e = e ∙ sym (ne_eqb y x (λ z. eqb-false x y e (sym z)))
+
+compared : (xs ys : List ℕ) → pointwise eqb ys xs ≡ same xs ys
+unfolding same
+compared [] [] = refl
+compared [] (y ∷ ys) = refl
+compared (x ∷ xs) [] = refl
+compared (x ∷ xs) (y ∷ ys) = rw (swapped y x, compared xs ys) refl
+
+pub ends-compared : (k : Trailer) (f : List ℕ) {l : List ℕ} {b : Bool} → l ≡ k.last → width_of k ≤ length f → b ≡ ends_with eqb f l → b ≡ EndsSo k f
+unfolding width_of
+ends-compared k f p h e =
+    let o : length f - length k.last ≡ end_at k f + 4 = omega arith in
+    e ∙ ap (ends_with eqb f) p ∙ compared _ k.last ∙ ap (λ (i : ℕ). same (drop i f) k.last) o
+
+-- and what the bytes at its end say.
 none_left : (f : List ℕ) → 4 ≤ length f → true ≡ EndsSo first f
 unfolding width_of same
 none_left f h =

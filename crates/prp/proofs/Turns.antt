@@ -11,14 +11,15 @@ use borrow.Author.Tests.{lt-ltb, le-ltb, ltb-true}
 use borrow.Rule.Slice.PartMut.{mid_of, put_mid}
 use Rattle.refusal.specs.Checks.{Said}
 use Rattle.refusal.specs.Checks.Said.{refused, answers}
-use Rattle.refusal.specs.Numbers.{NETWORK, LONG, SHORT, ROOM, TAGGED, TRAILER}
+use Rattle.refusal.specs.declared.Refusal.{Refusal}
+use Rattle.std.specs.Prelude.{Result, Ok, Err}
+use Rattle.refusal.specs.Numbers.{number_of, NETWORK, LONG, SHORT, ROOM, TAGGED, TRAILER}
 use Rattle.record.specs.Sizes.{frame_most}
 use Rattle.frame.specs.Bytes.{overlay}
+use Rattle.frame.specs.declared.Tag.{Tag}
 use Rattle.frame.specs.Frame.{type_at, has_vlan, is_tagged, head_short, read_of, cut_at, untagged, tag_at, tagged}
-use Rattle.frame.specs.TagCalls.{said_read, refusal_of, written_with, written_without}
+use Rattle.frame.specs.TagCalls.{said_read, written_with, written_without}
 use Rattle.frame.specs.declared.Header.{Header}
-use Rattle.frame.specs.declared.TagRead.{TagRead}
-use Rattle.frame.specs.declared.TagRead.TheVariants.{Refused, Tagged}
 use Rattle.frame.proofs.Bytes.{tail-over}
 use Rattle.frame.proofs.Heads.{type-least, head-short, head-cut, head-whole, HeadIs, TagIs, tag_is}
 use Rattle.frame.proofs.Words.{word-take, Place, plain, vlan, place}
@@ -177,13 +178,13 @@ module _ (k : Trailer) (w : ℕ) (f : List ℕ) where
   to-network h = simp (lt-ltb _ _ h)
 
   module _ (known : w ≤ 1) where
-    pub to-refused : {r : TagRead} {n m : ℕ} → said_read r ≡ read_of f → r ≡ Refused m → n ≡ refusal_of r → to_of k w f ≡ refused n
+    pub to-refused : {r : Result Tag Refusal} {refusal : Refusal} → said_read r ≡ read_of f → r ≡ Err refusal → to_of k w f ≡ refused (number_of refusal)
     unfolding to_of to_as_read
-    to-refused p q e = rw (sym p ∙ ap said_read q, e ∙ ap refusal_of q) (simp (le-ltb _ _ known))
+    to-refused p q = rw (sym p ∙ ap said_read q) (simp (le-ltb _ _ known))
 
-    module _ {r : TagRead} (h : Header) (n : ℕ) (p : said_read r ≡ read_of f) (q : r ≡ Tagged h n) where
-      is : TagIs f h n
-      is = tag_is f h n p q
+    module _ {r : Result Tag Refusal} (t : Tag) (p : said_read r ≡ read_of f) (q : r ≡ Ok t) where
+      is : TagIs f t.header t.number
+      is = tag_is f t p q
 
       pub bare-length : length (untagged f) ≡ length f - 6
       bare-length = let i = is in cut-length f (type_at f) (omega arith)
@@ -193,29 +194,29 @@ module _ (k : Trailer) (w : ℕ) (f : List ℕ) where
       to-short s = rw (sym p ∙ ap said_read q) (simp (le-ltb _ _ known, head-cut (untagged f) (omega (arith, bare-length))))
 
       module _ (room : type_at (untagged f) + 2 ≤ length f - 6) where
-        pub to_is : to_of k w f ≡ answers (to_turn k w n f)
+        pub to_is : to_of k w f ≡ answers (to_turn k w t.number f)
         unfolding to_of to_as_read
         to_is = rw (sym p ∙ ap said_read q) (simp (le-ltb _ _ known, head-whole (untagged f) (omega (arith, bare-length))))
 
-        pub to-length : length (trailed k w n (untagged f)) ≡ length f - 6 + width_of k
-        to-length = trailed-length k w n (untagged f) ∙ ap (λ (l : ℕ). l + width_of k) bare-length
+        pub to-length : length (trailed k w t.number (untagged f)) ≡ length f - 6 + width_of k
+        to-length = trailed-length k w t.number (untagged f) ∙ ap (λ (l : ℕ). l + width_of k) bare-length
 
         -- the trailer is written behind the room for the bare frame, then the frame before it
-        pub to-written : {o s b : ℕ} (out : List ℕ) {y z : List ℕ} → o ≡ h.at → b ≡ length f - 6 → s ≡ length f - 6 + width_of k - (type_at (untagged f) + 2) → length f - 6 + width_of k ≤ length out
-            → y ≡ overlay (trailer_bytes k n (lan_of w) s) (mid_of b (length out - b) out) → z ≡ written_without f o (put_mid b (length out - b) out y)
-            → z ≡ overlay (trailed k w n (untagged f)) out
+        pub to-written : {o s b : ℕ} (out : List ℕ) {y z : List ℕ} → o ≡ t.header.at → b ≡ length f - 6 → s ≡ length f - 6 + width_of k - (type_at (untagged f) + 2) → length f - 6 + width_of k ≤ length out
+            → y ≡ overlay (trailer_bytes k t.number (lan_of w) s) (mid_of b (length out - b) out) → z ≡ written_without f o (put_mid b (length out - b) out y)
+            → z ≡ overlay (trailed k w t.number (untagged f)) out
         unfolding trailed after_type overlay
         to-written {o} {s} {b} out {y} {z} at len size fits g e =
             let i = is in
-            let tr : List ℕ = trailer_bytes k n (lan_of w) (length (untagged f) - (type_at (untagged f) + 2) + width_of k) in
+            let tr : List ℕ = trailer_bytes k t.number (lan_of w) (length (untagged f) - (type_at (untagged f) + 2) + width_of k) in
             let x : List ℕ = put_mid b (length out - b) out y in
             let p : length (take b out) ≡ b = length-take-le b out (omega arith) in
             let q : s ≡ length (untagged f) - (type_at (untagged f) + 2) + width_of k = omega (arith, bare-length) in
             let d : out ≡ overlay (take b out) out = sym (rw p (take-append-drop b out)) in
-            let t : x ≡ overlay (take b out ++ tr) out = tail-over b (take b out) tr out p d (g ∙ ap (λ (m : ℕ). overlay (trailer_bytes k n (lan_of w) m) (mid_of b (length out - b) out)) q) in
-            let l : length x ≡ length out = ap length t ∙ simp (length-append, length-drop) (omega (arith, p, trailer-length k n (lan_of w) (length (untagged f) - (type_at (untagged f) + 2) + width_of k))) in
+            let over : x ≡ overlay (take b out ++ tr) out = tail-over b (take b out) tr out p d (g ∙ ap (λ (m : ℕ). overlay (trailer_bytes k t.number (lan_of w) m) (mid_of b (length out - b) out)) q) in
+            let l : length x ≡ length out = ap length over ∙ simp (length-append, length-drop) (omega (arith, p, trailer-length k t.number (lan_of w) (length (untagged f) - (type_at (untagged f) + 2) + width_of k))) in
             let u : written_without f (type_at f) x ≡ overlay (cut_at f (type_at f)) x = without-fits f (type_at f) x (type-place f) (omega arith) i.few (omega arith) in
-            e ∙ ap (λ (m : ℕ). written_without f m x) (at ∙ i.at) ∙ u ∙ ap (overlay (untagged f)) t ∙ over-front (untagged f) (take b out) tr out (bare-length ∙ sym len ∙ sym p)
+            e ∙ ap (λ (m : ℕ). written_without f m x) (at ∙ i.at) ∙ u ∙ ap (overlay (untagged f)) over ∙ over-front (untagged f) (take b out) tr out (bare-length ∙ sym len ∙ sym p)
 
 module _ (k : Trailer) (w : ℕ) (f out : List ℕ) where
   pub to-refuses : (n : ℕ) → to_of k w f ≡ refused n → (refused n ≡ (to_prp k w f out).said) × (out ≡ (to_prp k w f out).bytes)

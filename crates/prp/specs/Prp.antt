@@ -1,18 +1,19 @@
 -- Document 02, order 7: the trailer of a PRP frame, and what it is to turn a frame from PRP and to PRP. What a tag is, and how it
 -- is read, is `frame`'s. What hangs on the kind of trailer takes it as a parameter. Assumes nothing.
-use Rattle.std.specs.Prelude.{ℕ, ◌+◌, ◌-◌, ◌*◌, ◌/◌, ◌%◌, Bool, true, false, ◌&&◌, ◌||◌, not, List, [], ◌∷◌, ◌++◌, length, take, drop, ltb, eqb}
-use Rattle.refusal.specs.Checks.{Said}
+use Rattle.std.specs.Prelude.{ℕ, ◌+◌, ◌-◌, ◌*◌, ◌/◌, ◌%◌, Bool, true, false, ◌&&◌, ◌||◌, not, List, [], ◌∷◌, ◌++◌, length, take, drop, ltb, eqb, Result}
+use Rattle.refusal.specs.Checks.{Said, said}
+use Rattle.refusal.specs.declared.Refusal.{Refusal}
 use Rattle.refusal.specs.Checks.Said.{refused, answers}
 use Rattle.refusal.specs.Numbers.{NETWORK, LONG, SHORT, ROOM, TAGGED, TRAILER}
 use Rattle.std.specs.Prelude.{if◌then◌else◌}
 use Rattle.record.specs.Sizes.{frame_most}
 use Rattle.frame.specs.Bytes.{word, overlay}
-use Rattle.frame.specs.Frame.{Tag, type_at, is_tagged, head_short, read_of, untagged, tagged}
+use Rattle.frame.specs.declared.Tag.{Tag}
+use Rattle.frame.specs.Frame.{type_at, is_tagged, head_short, read_of, untagged, tagged}
 use Rattle.frame.specs.TagCalls.{Outcome}
 use Rattle.prp.specs.declared.Kind.{Kind}
 use Rattle.prp.specs.declared.Kind.TheVariants as kinds
 use Rattle.prp.specs.declared.Turned.{Turned}
-use Rattle.prp.specs.declared.Turned.TheVariants as cases
 
 -- ---- the trailer
 
@@ -127,10 +128,8 @@ to_of k w f = if ltb 1 w then refused NETWORK else to_as_read k w f (read_of f)
 -- ---- the two calls
 
 -- A call tells network, number, and how many bytes it wrote.
-pub record Told : Type 0 where
-  pub network : ℕ
-  pub number : ℕ
-  pub length : ℕ
+abbrev pub Told : Type 0
+Told = Turned
 
 -- 8: "output below the result". "Bytes of the output behind the result keep their values." A refusal changes no byte.
 unfoldable pub turn_into : (out : List ℕ) → Said Turn → Outcome Told
@@ -148,7 +147,6 @@ from_prp k f out = turn_into out (from_of k f)
 unfoldable pub to_prp : Trailer → (network : ℕ) (f out : List ℕ) → Outcome Told
 to_prp k w f out = turn_into out (to_of k w f)
 
--- What each case of the answer says.
-abbrev pub said_turned : Turned → Said Told
-said_turned (cases.Refused n) = refused n
-said_turned (cases.Out w n l) = answers (record { network = w; number = n; length = l })
+-- What each case of the answer says: the paper's number, or what the call tells.
+abbrev pub said_turned : Result Turned Refusal → Said Told
+said_turned = said

@@ -1,7 +1,8 @@
 -- Document 02, order 7: the condition of each refusal number of the two calls, in the order's words, and each call's list of
 -- numbers in its order. They do not mention the calls. Assumes nothing.
-use Rattle.std.specs.Prelude.{ℕ, ◌+◌, ◌-◌, ◌≤◌, ◌<◌, ◌≡◌, ◌↔◌, Bool, true, ◌&&◌, ◌||◌, not, List, [], ◌∷◌, ◌++◌, length, ltb}
+use Rattle.std.specs.Prelude.{ℕ, ◌+◌, ◌-◌, ◌≤◌, ◌<◌, ◌≡◌, ◌↔◌, Bool, true, ◌&&◌, ◌||◌, not, List, [], ◌∷◌, ◌++◌, length, ltb, Result}
 use Rattle.refusal.specs.Checks.{Check, First}
+use Rattle.refusal.specs.declared.Refusal.{Refusal}
 use Rattle.refusal.specs.Checks.Said.{refused}
 use Rattle.refusal.specs.Numbers.{NETWORK, LONG, SHORT, UNTAGGED, ROOM, TAGGED, GROUP, TRAILER}
 use Rattle.record.specs.Sizes.{frame_most}
@@ -66,7 +67,7 @@ ToRefusedKeeps = (k : Trailer) (network : ℕ) (f out : List ℕ) (n : ℕ) → 
 -- Two outcomes that meet a contract coincide: answer and output bytes.
 abbrev pub TurnsCoincide : Type 0
 TurnsCoincide =
-    (o : Outcome Told) (r s : Turned) (x y : List ℕ)
+    (o : Outcome Told) (r s : Result Turned Refusal) (x y : List ℕ)
     → (said_turned r ≡ o.said) × (x ≡ o.bytes) → (said_turned s ≡ o.said) × (y ≡ o.bytes) → (r ≡ s) × (x ≡ y)
 
 -- 14 is in neither list: a group source passes both ways.

@@ -10,7 +10,7 @@ use lib.Dec.{ltb}
 use Rattle.refusal.specs.Checks.{Said, first_of}
 use Rattle.refusal.specs.Checks.Said.{refused, answers}
 use Rattle.refusal.specs.Numbers.{LONG, SHORT, ROOM, TAGGED, GROUP}
-use Rattle.refusal.proofs.Checks.{first-exactly, same-value}
+use Rattle.refusal.proofs.Checks.{first-exactly, same-value, said-tells}
 use Rattle.record.specs.Sizes.{untagged_most}
 use Rattle.frame.specs.Bytes.{overlay}
 use Rattle.frame.specs.Frame.{type_at, group_source, is_tagged, head_short, tagged, put_at, place_of, write_of}
@@ -18,7 +18,7 @@ use Rattle.frame.specs.TagCalls.{Outcome, write_into, write_tag}
 use Rattle.frame.proofs.Heads.{head-room}
 use Rattle.frame.proofs.Writes.{tag-length}
 use Rattle.sender.specs.declared.Sender.{Sender}
-use Rattle.sender.specs.declared.Sent.TheVariants.{Refused, Out}
+use Rattle.sender.specs.declared.Sent.{Sent}
 use Rattle.sender.specs.Sender.{Numbered, Sends, following, refuses, send_into, send_of}
 use Rattle.sender.specs.Refusals.{send_checks, SendRefusedExactly}
 use Rattle.sender.specs.Laws.{RefusedKeeps, SendIsTwoWrites, SentTells, Coincide}
@@ -123,10 +123,7 @@ send-is-two-writes s f out0 out1 a e =
 -- ---- two outcomes coincide
 
 pub sent-tells : SentTells
-sent-tells (Refused n) (Refused m) e = cc
-sent-tells (Refused n) (Out m l) e = cc
-sent-tells (Out n k) (Refused m) e = cc
-sent-tells (Out n k) (Out m l) e = let t = same-value e in ap₂ Out (ap (λ x. x.number) t) (ap (λ x. x.length) t)
+sent-tells = said-tells Sent
 
 pub coincide : Coincide
 coincide o r s x0 x1 y0 y1 p q =

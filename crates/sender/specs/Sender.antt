@@ -1,7 +1,8 @@
 -- Document 02, order 6: a sender stream, the call that sends a frame, and the reset. What the tag is, and where it is put, is
 -- `write_of` of `frame`. Assumes nothing.
-use Rattle.std.specs.Prelude.{ℕ, ◌+◌, ◌||◌, List, length, ltb, eqb}
-use Rattle.refusal.specs.Checks.{Said}
+use Rattle.std.specs.Prelude.{ℕ, ◌+◌, ◌||◌, List, length, ltb, eqb, Result}
+use Rattle.refusal.specs.Checks.{Said, said}
+use Rattle.refusal.specs.declared.Refusal.{Refusal}
 use Rattle.refusal.specs.Checks.Said.{refused, answers}
 use Rattle.refusal.specs.Numbers.{ROOM}
 use Rattle.std.specs.Prelude.{if◌then◌else◌}
@@ -10,7 +11,6 @@ use Rattle.frame.specs.Frame.{write_of}
 use Rattle.sender.specs.declared.Sender.{Sender}
 use Rattle.sender.specs.declared.Sending.{Sending}
 use Rattle.sender.specs.declared.Sent.{Sent}
-use Rattle.sender.specs.declared.Sent.TheVariants as cases
 
 -- "A sender stream has a next number, 0 at first
 abbrev pub sender_at_first : Sender
@@ -25,9 +25,8 @@ unfoldable pub following : (number : ℕ) → ℕ
 following n = if eqb n 65535 then 0 else n + 1
 
 -- A send answers the number that the frame got, and the length of the tagged frame.
-pub record Numbered : Type 0 where
-  pub number : ℕ
-  pub length : ℕ
+abbrev pub Numbered : Type 0
+Numbered = Sent
 
 -- It comes to this: what it says, the sender then, and what the two outputs then hold.
 pub record Sends : Type 0 where
@@ -57,9 +56,8 @@ unfoldable pub send_of : Sender → (f out0 out1 : List ℕ) → Sends
 send_of s f out0 out1 = send_into s out0 out1 (write_of f s.next)
 
 -- What each case of the answer says: the paper's number, or the values;
-abbrev pub said_sent : Sent → Said Numbered
-said_sent (cases.Refused n) = refused n
-said_sent (cases.Out n l) = answers (record { number = n; length = l })
+abbrev pub said_sent : Result Sent Refusal → Said Numbered
+said_sent = said
 
 -- and what the code's call comes to.
 abbrev pub comes_to : Sending → (out0 out1 : List ℕ) → Sends

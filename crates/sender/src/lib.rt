@@ -3,29 +3,29 @@
 #![tactic(auto)]
 
 ghost use Rattle.std.specs.Prelude.{◌≡◌};
-ghost use Rattle.sender.specs.Sender.{sender_at_first, following, reset_of, send_of, comes_to};
+ghost use Rattle.sender.specs.Sender.{sender_at_first, following, reset_of, send_of, said_sent, comes_to};
 
-use frame::TagPlace;
+use refusal::Refusal;
 
 // A sender stream. Every value is a sender: the number that the next frame gets.
 #[repr(C)]
-#[derive(Clone, Copy)]
+#[derive(Clone, Copy, Debug, PartialEq, Eq)]
 pub struct Sender {
     pub next: u16,
 }
 
-// What a send answers: the number of its refusal, or the number that the frame got and the length of the tagged frame.
-#[derive(Clone, Copy)]
-pub enum Sent {
-    Refused(u8),
-    Out(u16, usize),
+// What a send that is not refused answers: the number that the frame got, and the length of the tagged frame.
+#[derive(Clone, Copy, Debug, PartialEq, Eq)]
+pub struct Sent {
+    pub number: u16,
+    pub length: usize,
 }
 
 // What a send leaves: the sender as it is then, and the answer.
-#[derive(Clone, Copy)]
+#[derive(Clone, Copy, Debug, PartialEq, Eq)]
 pub struct Sending {
     pub sender: Sender,
-    pub answer: Sent,
+    pub answer: Result<Sent, Refusal>,
 }
 
 // A sender at first.
@@ -43,46 +43,49 @@ pub fn reset(sender: Sender) -> Sender
 }
 
 // The number that comes after another.
+#[tactic(auto, unfolding(crate::specs::Sender::following))]
 fn after(number: u16) -> u16
     ensures { result ≡ following number }
 {
-    if number == 65535 {
-        return 0;
-    }
-    number + 1
+    number.wrapping_add(1)
 }
 
-// A sender with its answer.
-fn told(next: u16, answer: Sent) -> Sending
-    ensures { result ≡ record { sender = record { next = next }; answer = answer } }
+// The frame with a tag put in, at the start of both outputs or of neither. The room of both is known before a byte of either is
+// written.
+fn write_both(
+    sender: Sender,
+    frame: &[u8],
+    out0: &mut [u8],
+    out1: &mut [u8],
+) -> Result<Sent, Refusal>
+    ensures said { said_sent result ≡ (send_of sender frame.now out0.old out1.old).said }
+    ensures out0_after { out0.new ≡ (send_of sender frame.now out0.old out1.old).out0 }
+    ensures out1_after { out1.new ≡ (send_of sender frame.now out0.old out1.old).out1 }
 {
-    Sending {
-        sender: Sender { next },
-        answer,
+    let at = frame::place_of(frame)?;
+    let length = frame.len() + 6;
+    if out0.len() < length {
+        return Err(Refusal::Room);
     }
+    if out1.len() < length {
+        return Err(Refusal::Room);
+    }
+    let number = sender.next;
+    frame::write_with(frame, at, number, out0);
+    frame::write_with(frame, at, number, out1);
+    Ok(Sent { number, length })
 }
 
-// Send: the frame with a tag put in, at the start of both outputs or of neither. The room of both is known before a byte of
-// either is written.
+// Send: what is written, and the sender then. A refused frame uses up no number.
 pub fn send(sender: Sender, frame: &[u8], out0: &mut [u8], out1: &mut [u8]) -> Sending
     ensures { comes_to result out0.new out1.new ≡ send_of sender frame.now out0.old out1.old }
 {
-    let number = sender.next;
-    let next = after(number);
-    let place = frame::place_of(frame);
-    match place {
-        TagPlace::Refused(n) => told(number, Sent::Refused(n)),
-        TagPlace::At(at) => {
-            let length = frame.len() + 6;
-            if out0.len() < length {
-                return told(number, Sent::Refused(refusal::ROOM));
-            }
-            if out1.len() < length {
-                return told(number, Sent::Refused(refusal::ROOM));
-            }
-            frame::write_with(frame, at, number, out0);
-            frame::write_with(frame, at, number, out1);
-            told(next, Sent::Out(number, length))
-        }
-    }
+    let answer = write_both(sender, frame, out0, out1);
+    let sender = match answer {
+        Ok(_) => Sender {
+            next: after(sender.next),
+        },
+        Err(_) => sender,
+    };
+    Sending { sender, answer }
 }
