@@ -21,7 +21,7 @@ use Rattle.stream.specs.Steps.{weighed, record_after}
 use Rattle.stream.specs.declared.Weighed.{Weighed}
 use Rattle.stream.specs.declared.Weighed.TheVariants as weighs
 use Rattle.frame.specs.declared.Rank.{Rank}
-use Rattle.calls.specs.Calls.{admitted, Answer, arrived, handed_up, duplicate, rogue}
+use Rattle.calls.specs.Calls.{admitted, Answer, Verdict, arrived, handed_up, duplicate, rogue}
 
 -- ---- an arrival
 
@@ -64,12 +64,15 @@ weighed_in j = result_ok j
 abbrev pub record_of : Stream → (network : ℕ) → Result Weighed Refusal → Stream
 record_of s network j = record_after s network (weighed_in j)
 
--- The answer.
+-- The answer, with the verdict that it tells of a frame of which so many bytes are handed up.
+abbrev pub verdict_told : Weighed → (length : ℕ) → Verdict
+verdict_told (weighs.HandedUp m) l = handed_up l
+verdict_told weighs.Duplicate l = duplicate
+verdict_told weighs.Rogue l = rogue
+
 abbrev pub finished : Result Weighed Refusal → (slot number : ℕ) → Rank → (length : ℕ) → Said Answer
 finished (Err refusal) slot number rank l = refused (number_of refusal)
-finished (Ok (weighs.HandedUp m)) slot number rank l = answers (arrived slot number rank (handed_up l))
-finished (Ok weighs.Duplicate) slot number rank l = answers (arrived slot number rank duplicate)
-finished (Ok weighs.Rogue) slot number rank l = answers (arrived slot number rank rogue)
+finished (Ok w) slot number rank l = answers (arrived slot number rank (verdict_told w l))
 
 -- The output bytes: those that handed up leaves, and nothing else writes.
 abbrev pub bytes_of : Result Weighed Refusal → (written out : List ℕ) → List ℕ
