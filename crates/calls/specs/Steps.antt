@@ -6,7 +6,7 @@ use Rattle.refusal.specs.Checks.{Said, said}
 use Rattle.refusal.specs.Checks.Said.{refused, answers}
 use Rattle.refusal.specs.Numbers.{TABLE, NETWORK, number_of}
 use Rattle.refusal.specs.declared.Refusal.{Refusal}
-use Rattle.refusal.specs.declared.Refusal.TheVariants.{Damaged, Room, Taken, Full, Slot}
+use Rattle.refusal.specs.declared.Refusal.TheVariants.{Table, Network, Damaged, Room, Taken, Full, Slot}
 use Rattle.std.specs.Prelude.{Option, is_some, ok_or, Result, Ok, Err}
 use Rattle.std.specs.Result.{result_ok}
 use Rattle.record.specs.declared.Stream.{Stream}
@@ -25,7 +25,11 @@ use Rattle.calls.specs.Calls.{admitted, Answer, Verdict, arrived, handed_up, dup
 
 -- ---- an arrival
 
--- 1 to 5 and 14, from the number of slots, the network and the frame.
+-- 1 and 2, from the number of slots and the network;
+unfoldable pub begun : (slots network : ℕ) → Result Unit Refusal
+begun slots network = if ltb slots_most slots then Err Table else if ltb 1 network then Err Network else Ok tt
+
+-- 1 to 5 and 14, from these and the frame.
 unfoldable pub asked : (slots network : ℕ) (frame : List ℕ) → Said Tag
 asked slots network f =
     if ltb slots_most slots then refused TABLE

@@ -3,7 +3,7 @@
 ghost use Rattle.std.specs.Prelude.{◌≡◌, ◌-◌, Ok, length};
 ghost use Rattle.frame.specs.TagCalls.{written_without};
 ghost use Rattle.calls.specs.Said.{said_verdict, said_arrival};
-ghost use Rattle.calls.specs.Steps.{said_asked, asked, has_room, judged, verdict_told, finished, bytes_of};
+ghost use Rattle.calls.specs.Steps.{begun, said_asked, asked, has_room, judged, verdict_told, finished, bytes_of};
 
 use super::{Arrived, Verdict};
 use frame::Tag;
@@ -11,9 +11,9 @@ use record::Stream;
 use refusal::Refusal;
 use stream::Weighed;
 
-// Arrival: 1 and 2, then 3, 4 and 5 as the frame's reader gives them, then 14.
-pub fn ask(slots: usize, network: u8, frame: &[u8]) -> Result<Tag, Refusal>
-    ensures { said_asked result ≡ asked slots network frame.now }
+// Arrival, of a virtual link too: 1 and 2.
+pub fn begin(slots: usize, network: u8) -> Result<(), Refusal>
+    ensures { result ≡ begun slots network }
 {
     if slots > Stream::SLOTS_MOST {
         return Err(Refusal::Table);
@@ -21,6 +21,14 @@ pub fn ask(slots: usize, network: u8, frame: &[u8]) -> Result<Tag, Refusal>
     if network > 1 {
         return Err(Refusal::Network);
     }
+    Ok(())
+}
+
+// Arrival: 1 and 2, then 3, 4 and 5 as the frame's reader gives them, then 14.
+pub fn ask(slots: usize, network: u8, frame: &[u8]) -> Result<Tag, Refusal>
+    ensures { said_asked result ≡ asked slots network frame.now }
+{
+    begin(slots, network)?;
     let tag = frame::read_tag(frame)?;
     if frame::group_source(frame) {
         return Err(Refusal::Group);

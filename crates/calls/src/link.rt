@@ -8,7 +8,7 @@ ghost use Rattle.calls.specs.Table.{hears};
 ghost use Rattle.calls.specs.Steps.{link_asked, has_room, finished, bytes_of};
 
 use super::Arrived;
-use super::arrival::told;
+use super::arrival::{begin, told};
 use frame::{LinkTag, Rank};
 use record::Stream;
 use refusal::Refusal;
@@ -34,12 +34,7 @@ pub fn hears_links(s: Stream, dest: u64, vlan: u16) -> bool
 pub fn ask_link(slots: usize, network: u8, frame: &[u8]) -> Result<LinkTag, Refusal>
     ensures { said_link result ≡ link_asked slots network frame.now }
 {
-    if slots > Stream::SLOTS_MOST {
-        return Err(Refusal::Table);
-    }
-    if network > 1 {
-        return Err(Refusal::Network);
-    }
+    begin(slots, network)?;
     frame::read_link(frame)
 }
 
