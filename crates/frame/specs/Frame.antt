@@ -9,7 +9,7 @@ use Rattle.record.specs.Sizes.{frame_most, untagged_most}
 use Rattle.frame.specs.Bytes.{word}
 use Rattle.frame.specs.declared.Header.{Header}
 use Rattle.frame.specs.declared.Rank.{Rank}
-pub use Rattle.frame.specs.declared.Tag.{Tag}
+use Rattle.frame.specs.declared.Tag as declared
 
 -- Destination 6 bytes: as one number, high byte first.
 abbrev pub dest_of : List ℕ → ℕ
@@ -67,9 +67,13 @@ unranked = record { priority = 0; vlantag = 0 }
 unfoldable pub rank_of : List ℕ → Rank
 rank_of f = if has_vlan f then record { priority = word f 14 / 8192; vlantag = 1 } else unranked
 
--- What the reader finds before a frame's data; `Tag` has beside it the number of a tagged frame.
+-- What the reader finds before a frame's data,
 unfoldable pub header_of : List ℕ → Header
 header_of f = record { dest = dest_of f; vlan = vlan_of f; at = type_at f; tagged = is_tagged f; rank = rank_of f }
+
+-- and with the tag of a tagged frame, the number too.
+abbrev pub Tag : Type 0
+Tag = declared.Tag
 
 -- The header of a frame that is long enough to have one.
 unfoldable pub head_of : List ℕ → Said Header

@@ -10,7 +10,7 @@ use Rattle.record.specs.Sizes.{frame_most, untagged_most}
 use Rattle.frame.specs.Bytes.{overlay}
 use Rattle.frame.specs.Frame.{Tag, read_of, write_of, cut_at, tag_at, untagged}
 use Rattle.frame.specs.declared.Header.{Header}
-pub use Rattle.frame.specs.declared.Bare.{Bare}
+use Rattle.frame.specs.declared.Bare as declared
 
 -- A call on one frame comes to this: what it says, and what its output buffer holds then.
 pub record Outcome (A : Type 0) : Type 0 where
@@ -19,6 +19,9 @@ pub record Outcome (A : Type 0) : Type 0 where
 
 -- Take a tag out: it answers number and length. The frame without its tag stands at the start of the output; bytes
 -- behind it keep their values. A refusal changes no byte.
+abbrev pub Bare : Type 0
+Bare = declared.Bare
+
 unfoldable pub take_from : (f out : List ℕ) → Said Tag → Outcome Bare
 take_from f out (refused n) = record { said = refused n; bytes = out }
 take_from f out (answers t) =

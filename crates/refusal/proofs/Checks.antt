@@ -104,12 +104,16 @@ numbered Batch = refl
 numbered Trailer = refl
 numbered Index = refl
 
+-- equal numbers mean equal refusals
+pub numbers-tell : (p q : Refusal) → number_of p ≡ number_of q → p ≡ q
+numbers-tell p q e = sym (numbered p) ∙ ap refusal_at e ∙ numbered q
+
 -- equal `said` means equal answers
 pub said-tells : SaidTells
 said-tells A (Ok a) (Ok b) e = ap Ok (same-value e)
 said-tells A (Ok a) (Err q) e = absurd (let z : ◌≡◌ {A = ℕ} 0 1 = cc in omega arith)
 said-tells A (Err p) (Ok b) e = absurd (let z : ◌≡◌ {A = ℕ} 0 1 = cc in omega arith)
-said-tells A (Err p) (Err q) e = ap Err (sym (numbered p) ∙ ap refusal_at (ap (number_or 0) e) ∙ numbered q)
+said-tells A (Err p) (Err q) e = ap Err (numbers-tell p q (ap (number_or 0) e))
 
 -- what a `?` passes on is the refusal that it met
 pub passed-on : {A : Type 0} (r : Result A Refusal) {refusal : Refusal} → IsErrAnd r (λ x. x ≡ refusal) → r ≡ Err refusal
