@@ -15,7 +15,7 @@ use record::Stream;
 use std::io::Read as Reads;
 use std::os::fd::AsRawFd;
 
-// The descriptor of standard error.
+// The descriptor of standard error. A number, since no handle comes this far: `run` takes a reader and a number.
 const STDERR_FILENO: i32 = 2;
 
 // Bytes of the input buffer (a record and its length bytes fit, 65537, and a read brings a large piece), and of the lines (a
@@ -115,7 +115,8 @@ fn fill<R: Reads>(reader: &mut R, from: i32, input: &mut [u8; INPUT], left: usiz
 }
 
 // Where a run is between two turns: the table, the next record's number, and the part of the input buffer, from a place up
-// to another, that is still to be answered.
+// to another, that is still to be answered. The functions ask that the two places are in order, and the type does not hold it:
+// `start_of` and `RunsPrint` of specs/Turns.antt speak of a run that starts at 1, up to whatever place.
 #[derive(Clone, Copy)]
 struct Held {
     table: [Stream; 8],
@@ -145,7 +146,8 @@ struct Turn {
     stand: Stand,
 }
 
-// The records that can be answered, of the part of the input buffer that is held.
+// The records that can be answered, of the part of the input buffer that is held. (Of two fields that it lends at once a
+// caller is not told that they keep the length of their type: the last clause says it.)
 fn drain_to(
     h: Held,
     input: &[u8; INPUT],
@@ -301,7 +303,7 @@ fn say_version(lines: &mut [u8; LINES]) -> usize
     line.len()
 }
 
-// A proved loop has to end, and nothing says that an input does: there are as many turns as no run uses up.
+// A proved loop has to end, and nothing says that an input does: there are more turns than any run uses up.
 fn turns<R: Reads>(reader: &mut R, ends: Ends, h: Held, b: &mut Buffers) -> Over
     requires { (h.at ≤ h.to) × (h.to ≤ length b.old.input) }
     ensures { Ran ends.from ends.onto h b.old.input b.new.input b.new.lines result }
