@@ -32,7 +32,8 @@ struct Buffers {
     out: [u8; Stream::FRAME_MOST],
 }
 
-// The descriptors of a run: the one that its reader names, and the one onto which its lines go.
+// The descriptors of a run: the one that its reader names, and the one onto which its lines go. The reader and the buffers
+// are lent beside it: in one struct with them, each contract would have to say that the two numbers stay.
 #[derive(Clone, Copy)]
 struct Ends {
     from: i32,
@@ -136,7 +137,8 @@ enum Stand {
 }
 
 // What a turn came to: where the run is then, what of the first bytes of the lines was handed over to be written, the
-// descriptor that it reads from and what the read answered (0 where it did not read), and how the run stands.
+// descriptor that it reads from and what the read answered (0 where it did not read, as `Turned` says), and how the run
+// stands.
 #[derive(Clone, Copy)]
 struct Turn {
     held: Held,
@@ -199,27 +201,27 @@ fn after_read(got: std::io::Result<usize>) -> Stand
 }
 
 // One turn: answers what can be answered and writes the lines; then, if no whole record is left, reads a piece more.
-fn go_on<R: Reads>(reader: &mut R, ends: Ends, h: Held, b: &mut Buffers) -> Turn
-    requires { (h.at ≤ h.to) × (h.to ≤ length b.old.input) }
-    ensures turned { Turned ends.from ends.onto h b.old.input b.new.input b.new.lines result }
-    ensures at_le_to { (result.held.at ≤ result.held.to) × (result.held.to ≤ length b.new.input) }
+fn go_on<R: Reads>(reader: &mut R, ends: Ends, h: Held, buffers: &mut Buffers) -> Turn
+    requires { (h.at ≤ h.to) × (h.to ≤ length buffers.old.input) }
+    ensures turned { Turned ends.from ends.onto h buffers.old.input buffers.new.input buffers.new.lines result }
+    ensures at_le_to { (result.held.at ≤ result.held.to) × (result.held.to ≤ length buffers.new.input) }
 {
-    let Round { table, place } = drain_to(h, &b.input, &mut b.lines, &mut b.out);
+    let Round { table, place } = drain_to(h, &buffers.input, &mut buffers.lines, &mut buffers.out);
     let held = Held {
         table,
         number: place.number,
         at: place.at,
         to: h.to,
     };
-    let sent = hand_over(ends.onto, &b.lines[..place.used]);
+    let sent = hand_over(ends.onto, &buffers.lines[..place.used]);
     if !sent.out {
         return stay(held, sent, ends.from, Stand::Failed);
     }
-    if whole(&b.input[..held.to], held.at) {
+    if whole(&buffers.input[..held.to], held.at) {
         return stay(held, sent, ends.from, after_whole(held.number));
     }
-    let left = shift(&mut b.input, held.at, held.to);
-    let p = fill(reader, ends.from, &mut b.input, left);
+    let left = shift(&mut buffers.input, held.at, held.to);
+    let p = fill(reader, ends.from, &mut buffers.input, left);
     Turn {
         held: Held {
             at: 0,
@@ -247,7 +249,8 @@ fn stay(held: Held, sent: Sent, from: i32, stand: Stand) -> Turn
 }
 
 // What a run came to: the input has ended and the last line was handed over; the version byte is absent or different, and
-// `version` was; a read or a write before these has failed; or the numbers for records, or the turns, are used up.
+// `version` was; a read or a write before these has failed; or the numbers for records, or the turns, are used up. One enum
+// and no `Result`: `Stops` and `Served` of specs/Turns.antt name the five, and `main` ends alike after each.
 #[derive(Clone, Copy, Debug, PartialEq, Eq)]
 pub enum Over {
     Printed(Sent),
@@ -304,34 +307,34 @@ fn say_version(lines: &mut [u8; LINES]) -> usize
 }
 
 // A proved loop has to end, and nothing says that an input does: there are more turns than any run uses up.
-fn turns<R: Reads>(reader: &mut R, ends: Ends, h: Held, b: &mut Buffers) -> Over
-    requires { (h.at ≤ h.to) × (h.to ≤ length b.old.input) }
-    ensures { Ran ends.from ends.onto h b.old.input b.new.input b.new.lines result }
+fn turns<R: Reads>(reader: &mut R, ends: Ends, h: Held, buffers: &mut Buffers) -> Over
+    requires { (h.at ≤ h.to) × (h.to ≤ length buffers.old.input) }
+    ensures { Ran ends.from ends.onto h buffers.old.input buffers.new.input buffers.new.lines result }
 {
     let mut held = h;
     for _turn in 0..u64::MAX {
-        let t = go_on(reader, ends, held, b);
+        let t = go_on(reader, ends, held, buffers);
         if t.stand != Stand::Going {
-            return finish(ends.onto, t.held, t.stand, &mut b.lines);
+            return finish(ends.onto, t.held, t.stand, &mut buffers.lines);
         }
         held = t.held;
     }
-    finish(ends.onto, held, Stand::Going, &mut b.lines)
+    finish(ends.onto, held, Stand::Going, &mut buffers.lines)
 }
 
 // Reads a first piece, and goes on where it starts with the version byte.
-fn serve<R: Reads>(reader: &mut R, ends: Ends, b: &mut Buffers) -> Over
-    ensures { Served ends.from ends.onto b.new.input b.new.lines result }
+fn serve<R: Reads>(reader: &mut R, ends: Ends, buffers: &mut Buffers) -> Over
+    ensures { Served ends.from ends.onto buffers.new.input buffers.new.lines result }
 {
-    let p = fill(reader, ends.from, &mut b.input, 0);
+    let p = fill(reader, ends.from, &mut buffers.input, 0);
     if p.got.is_err() {
         return Over::Stopped;
     }
-    if !versioned(&b.input[..p.to]) {
-        let used = say_version(&mut b.lines);
-        return Over::Version(hand_over(ends.onto, &b.lines[..used]));
+    if !versioned(&buffers.input[..p.to]) {
+        let used = say_version(&mut buffers.lines);
+        return Over::Version(hand_over(ends.onto, &buffers.lines[..used]));
     }
-    turns(reader, ends, start(p.to), b)
+    turns(reader, ends, start(p.to), buffers)
 }
 
 // Runs the event file that the reader of a descriptor gives, and writes the lines onto another. No contract can say that the

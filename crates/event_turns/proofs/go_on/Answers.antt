@@ -14,7 +14,7 @@ returns-then-not-sent-clause-turned g c =
     let d = c.drain_to in
     let n : f.result.wrote ≡ d.result.place.used = f.ensures.1 ∙ length-take-le _ _ d.ensures.at_le_to.1 in
     let o : f.result.out ≡ false = search rules in
-    let out : length c.args.b.now.out ≡ 2000 = search rules in
+    let out : length c.args.buffers.now.out ≡ 2000 = search rules in
     rw c.stay.ensures
     (stay-turned _ _ _ _ _ _ _ _ (d.ensures.drained.kept out) f.result (f.ensures.0 ∙ to_z-of_z onto, n) d.ensures.at_le_to.0 d.ensures.drained.none
     (omega (arith, d.ensures.room)) _ (to_z-of_z from) _ (rw o refl) (λ e. cc))
@@ -28,7 +28,7 @@ returns-then-whole-clause-turned g c =
     let n : f.result.wrote ≡ d.result.place.used = f.ensures.1 ∙ length-take-le _ _ d.ensures.at_le_to.1 in
     let o : f.result.out ≡ true = search rules in
     let w = sym c.whole.ensures.0 ∙ c.if-whole.true in
-    let out : length c.args.b.now.out ≡ 2000 = search rules in
+    let out : length c.args.buffers.now.out ≡ 2000 = search rules in
     rw c.stay-then-whole.ensures
     (stay-turned _ _ _ _ _ _ _ _ (d.ensures.drained.kept out) f.result (f.ensures.0 ∙ to_z-of_z onto, n) d.ensures.at_le_to.0 d.ensures.drained.none
     (omega (arith, d.ensures.room)) _ (to_z-of_z from) _ (rw (o, w) c.after_whole.ensures)
@@ -44,7 +44,7 @@ returns-clause-turned g c =
     let d = c.drain_to in
     let n : f.result.wrote ≡ d.result.place.used = f.ensures.1 ∙ length-take-le _ _ d.ensures.at_le_to.1 in
     let o : f.result.out ≡ true = search rules in
-    let out : length c.args.b.now.out ≡ 2000 = search rules in
+    let out : length c.args.buffers.now.out ≡ 2000 = search rules in
     read-turned _ _ _ _ _ _ _ _ (d.ensures.drained.kept out) f.result (f.ensures.0 ∙ to_z-of_z onto, n) d.ensures.at_le_to.0 d.ensures.drained.none
     (omega (arith, d.ensures.room)) p.new.input s.result s.ensures.0 c.requires.1 (p.ensures.filled.kept ∙ s.ensures.1) _ _ _
     (ap (λ (z : ℤ). to_z w32 (of_z w32 z)) (p.ensures.filled.whence ∙ to_z-of_z from) ∙ to_z-of_z from)

@@ -7,6 +7,6 @@ use Rattle.event_turns.proofs.turns.Given as goal
 abbrev pub invariant-loop-turn : goal.invariant-loop-turn
 invariant-loop-turn g l = record {
   in_order : l.held.at ≤ l.held.to;
-  within : l.held.to ≤ length l.b.input;
-  gone : Gone l.ends.from l.ends.onto l.fn.h l.fn.b.input l._turn Going l.held l.b.input;
+  within : l.held.to ≤ length l.buffers.input;
+  gone : Gone l.ends.from l.ends.onto l.fn.h l.fn.buffers.input l._turn Going l.held l.buffers.input;
 }
