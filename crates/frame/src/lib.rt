@@ -8,10 +8,11 @@ ghost use Rattle.std.specs.Prelude.{◌≡◌, ◌+◌, ◌*◌, ◌≤◌, ◌<
 ghost use Rattle.record.specs.Sizes.{frame_most};
 ghost use Rattle.frame.specs.Bytes.{word, overlay};
 ghost use Rattle.frame.specs.Frame.{head_of, dest_of, group_source, read_of, tag_bytes, cut_at, tag_at, place_of};
-ghost use Rattle.frame.specs.TagCalls.{said_head, said_read, said_place, said_taken, said_written, refusal_of, take_tag, write_tag, written_without, written_with};
+ghost use Rattle.frame.specs.TagCalls.{said_head, said_read, said_place, said_taken, said_written, take_tag, write_tag, written_without, written_with};
 
 pub use link::{read_link, write_shorter};
 use record::Stream;
+use refusal::Refusal;
 
 // What stands before a frame's data.
 #[derive(Clone, Copy)]
@@ -34,46 +35,25 @@ pub struct Rank {
     pub vlantag: u8,
 }
 
-// A frame's header, or a frame too short to have one.
+// A tagged frame's header and number.
 #[derive(Clone, Copy)]
-pub enum Head {
-    Short,
-    Whole(Header),
+pub struct Tag {
+    pub header: Header,
+    pub number: u16,
 }
 
-// A tagged frame's header and number, or the number of its refusal.
+// A virtual link's destination and number.
 #[derive(Clone, Copy)]
-pub enum TagRead {
-    Refused(u8),
-    Tagged(Header, u16),
-}
-
-// Where a tag is put into a frame, or the number of its refusal.
-#[derive(Clone, Copy)]
-pub enum TagPlace {
-    Refused(u8),
-    At(usize),
-}
-
-// A virtual link's destination and number, or the number of its refusal.
-#[derive(Clone, Copy)]
-pub enum LinkRead {
-    Refused(u8),
-    Link(u64, u16),
+pub struct LinkTag {
+    pub dest: u64,
+    pub number: u16,
 }
 
 // A tag taken out: its number, and the length of the frame without it.
 #[derive(Clone, Copy)]
-pub enum Taken {
-    Refused(u8),
-    Out(u16, usize),
-}
-
-// A tag written: the length of the frame with it.
-#[derive(Clone, Copy)]
-pub enum Written {
-    Refused(u8),
-    Out(usize),
+pub struct Bare {
+    pub number: u16,
+    pub length: usize,
 }
 
 // A byte as a wider number; the contract keeps that it is below 256.
@@ -125,11 +105,11 @@ pub fn group_source(frame: &[u8]) -> bool
 }
 
 // Destination, VLAN id, place of the type field, whether F1C1 stands there, and the priority: the 14 and 18 byte rules only.
-pub fn read_head(frame: &[u8]) -> Head
+pub fn read_head(frame: &[u8]) -> Option<Header>
     ensures { said_head result ≡ head_of frame.now }
 {
     if frame.len() < 14 {
-        return Head::Short;
+        return None;
     }
     let dest = dest_of(frame);
     let first = word_at(frame, 12);
@@ -138,7 +118,7 @@ pub fn read_head(frame: &[u8]) -> Head
             priority: 0,
             vlantag: 0,
         };
-        return Head::Whole(Header {
+        return Some(Header {
             dest,
             vlan: 0,
             at: 12,
@@ -147,7 +127,7 @@ pub fn read_head(frame: &[u8]) -> Head
         });
     }
     if frame.len() < 18 {
-        return Head::Short;
+        return None;
     }
     let control = word_at(frame, 14);
     let vlan = control % 4096;
@@ -156,7 +136,7 @@ pub fn read_head(frame: &[u8]) -> Head
         vlantag: 1,
     };
     let second = word_at(frame, 16);
-    Head::Whole(Header {
+    Some(Header {
         dest,
         vlan,
         at: 16,
@@ -166,33 +146,24 @@ pub fn read_head(frame: &[u8]) -> Head
 }
 
 // What an arrival and the call that takes a tag out read of a frame: refusals 3, 4 and 5, or the tag.
-pub fn read_tag(frame: &[u8]) -> TagRead
+pub fn read_tag(frame: &[u8]) -> Result<Tag, Refusal>
     ensures { said_read result ≡ read_of frame.now }
 {
     if frame.len() > Stream::FRAME_MOST {
-        return TagRead::Refused(refusal::LONG);
+        return Err(Refusal::Long);
     }
-    let Head::Whole(h) = read_head(frame) else {
-        return TagRead::Refused(refusal::SHORT);
+    let Some(header) = read_head(frame) else {
+        return Err(Refusal::Short);
     };
-    if !h.tagged {
-        return TagRead::Refused(refusal::UNTAGGED);
+    if !header.tagged {
+        return Err(Refusal::Untagged);
     }
-    let at = h.at;
+    let at = header.at;
     if frame.len() < at + 8 {
-        return TagRead::Refused(refusal::SHORT);
+        return Err(Refusal::Short);
     }
-    TagRead::Tagged(h, word_at(frame, at + 4))
-}
-
-// The number of a refusal, for the else of a `let .. else`; 0 for a frame that is not refused.
-pub fn refusal_of(r: TagRead) -> u8
-    ensures { result ≡ refusal_of r }
-{
-    match r {
-        TagRead::Refused(n) => n,
-        TagRead::Tagged(_, _) => 0,
-    }
+    let number = word_at(frame, at + 4);
+    Ok(Tag { header, number })
 }
 
 // Copies src to the start of dst, byte by byte.
@@ -310,57 +281,51 @@ pub fn write_with(frame: &[u8], at: usize, number: u16, out: &mut [u8])
 }
 
 // Take a tag out: the frame without its tag, at the start of out.
-pub fn take_tag(frame: &[u8], out: &mut [u8]) -> Taken
+pub fn take_tag(frame: &[u8], out: &mut [u8]) -> Result<Bare, Refusal>
     ensures result_value { said_taken result ≡ (take_tag frame.now out.old).said }
     ensures out_after { out.new ≡ (take_tag frame.now out.old).bytes }
 {
-    let got = read_tag(frame);
-    let TagRead::Tagged(h, number) = got else {
-        return Taken::Refused(refusal_of(got));
-    };
-    let at = h.at;
-    let len = frame.len() - 6;
-    if out.len() < len {
-        return Taken::Refused(refusal::ROOM);
+    let tag = read_tag(frame)?;
+    let length = frame.len() - 6;
+    if out.len() < length {
+        return Err(Refusal::Room);
     }
-    write_without(frame, at, out);
-    Taken::Out(number, len)
+    write_without(frame, tag.header.at, out);
+    Ok(Bare {
+        number: tag.number,
+        length,
+    })
 }
 
 // Where a tag is put into a frame: refusals 3, 4, 13 and 14, or the place of its type field.
-pub fn place_of(frame: &[u8]) -> TagPlace
+pub fn place_of(frame: &[u8]) -> Result<usize, Refusal>
     ensures { said_place result ≡ place_of frame.now }
 {
     if frame.len() > Stream::UNTAGGED_MOST {
-        return TagPlace::Refused(refusal::LONG);
+        return Err(Refusal::Long);
     }
-    let Head::Whole(h) = read_head(frame) else {
-        return TagPlace::Refused(refusal::SHORT);
+    let Some(header) = read_head(frame) else {
+        return Err(Refusal::Short);
     };
-    if h.tagged {
-        return TagPlace::Refused(refusal::TAGGED);
+    if header.tagged {
+        return Err(Refusal::Tagged);
     }
     if group_source(frame) {
-        return TagPlace::Refused(refusal::GROUP);
+        return Err(Refusal::Group);
     }
-    TagPlace::At(h.at)
+    Ok(header.at)
 }
 
 // Write a tag: the frame with a tag put in, at the start of out.
-pub fn write_tag(frame: &[u8], number: u16, out: &mut [u8]) -> Written
+pub fn write_tag(frame: &[u8], number: u16, out: &mut [u8]) -> Result<usize, Refusal>
     ensures result_value { said_written result ≡ (write_tag frame.now number out.old).said }
     ensures out_after { out.new ≡ (write_tag frame.now number out.old).bytes }
 {
-    let place = place_of(frame);
-    match place {
-        TagPlace::Refused(n) => Written::Refused(n),
-        TagPlace::At(at) => {
-            let len = frame.len() + 6;
-            if out.len() < len {
-                return Written::Refused(refusal::ROOM);
-            }
-            write_with(frame, at, number, out);
-            Written::Out(len)
-        }
+    let at = place_of(frame)?;
+    let len = frame.len() + 6;
+    if out.len() < len {
+        return Err(Refusal::Room);
     }
+    write_with(frame, at, number, out);
+    Ok(len)
 }
