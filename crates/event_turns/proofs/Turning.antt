@@ -9,7 +9,7 @@ use lib.ListN.{length, take, drop, length-take, drop_of_length-le, take-append-d
 use lib.Seq.{length-take-le, take-take}
 use Rattle.std.proofs.lemmas.List.{append-nil, drop-take}
 use lib.IntN.{ℤ}
-use Rattle.std.specs.Prelude.{Result, Ok}
+use Rattle.std.specs.Prelude.{Result, Ok, None}
 use Rattle.std.specs.declared.io.Error.{Error}
 use borrow.Author.Tests.{lt-leb, eq-eqb, ne_eqb}
 use Rattle.record.specs.Sizes.{frame_most}
@@ -18,7 +18,6 @@ use Rattle.event_file.specs.Records.{records_of, read_at}
 use Rattle.event_file.specs.Lines.{last_line}
 use Rattle.event_file.specs.Buffers.{Writes, line_most, last_most}
 use Rattle.event_file.specs.Files.{lines_from}
-use Rattle.event_file.specs.declared.reader.Read.TheVariants.{More}
 use Rattle.event_file.proofs.Framing.{last-record}
 use Rattle.event_file.proofs.Writing.{front_of, writes-put}
 use Rattle.event_run.specs.declared.Place.{Place}
@@ -43,7 +42,7 @@ drained-to {t} {u} {p} {r} to input {old} {new} {out} pre d =
 -- ---- the last line
 
 -- where no whole record is left, the last line is all that is due
-pub last-due : (t : Table) (number : ℕ) (input : List ℕ) (at : ℕ) → at ≤ length input → More ≡ read_at input at
+pub last-due : (t : Table) (number : ℕ) (input : List ℕ) (at : ℕ) → at ≤ length input → None ≡ read_at input at
     → lines_from t number (records_of (drop at input)) ≡ last_line (length input - at)
 unfolding lines_from last_line
 last-due t number input at h m = elim (dec_lt at (length input)) [ yes q ↦ some q | no q ↦ none (omega arith) ]
@@ -78,7 +77,7 @@ none-behind to l = let n : length (take to l) ≤ to - 0 = omega (arith, length-
 
 -- ---- a turn
 
-module _ (from onto : ℤ) (h : Held) (u : Table) (r : Place) (input old new : List ℕ) (k : Kept h.table (place_of h) (take h.to input) old u r new) (s : Sent) (so : (s.onto ≡ onto) × (s.wrote ≡ r.used)) (a : r.at ≤ h.to) (x : next_of r (take h.to input) (length new) ≡ More) (fits : line_most ≤ length new) where
+module _ (from onto : ℤ) (h : Held) (u : Table) (r : Place) (input old new : List ℕ) (k : Kept h.table (place_of h) (take h.to input) old u r new) (s : Sent) (so : (s.onto ≡ onto) × (s.wrote ≡ r.used)) (a : r.at ≤ h.to) (x : next_of r (take h.to input) (length new) ≡ None) (fits : line_most ≤ length new) where
   -- what is due after the records were answered
   due-held : (rest : List ℕ) → take s.wrote new ++ lines_from u r.number (records_of (drop r.at (take h.to input) ++ rest)) ≡ due_from h input rest
   unfolding due due_from

@@ -2,15 +2,14 @@
 -- over to be written, and reads a piece more. No contract can speak of the bytes that go through a descriptor; these speak
 -- of the bytes that stand in the buffers when the calls are made, of the descriptors that the calls name and of their
 -- answers. Assumes nothing.
-use Rattle.std.specs.Prelude.{ℕ, zero, suc, ◌+◌, ◌-◌, ◌≤◌, ◌≡◌, Bool, true, false, not, ◌&&◌, List, [], ◌∷◌, ◌++◌, ℤ, Result, Ok, Err, is_ok, ⊤, length, take, drop, eqb, ltb}
+use Rattle.std.specs.Prelude.{ℕ, zero, suc, ◌+◌, ◌-◌, ◌≤◌, ◌≡◌, Bool, true, false, not, ◌&&◌, List, [], ◌∷◌, ◌++◌, ℤ, Result, Ok, Err, is_ok, Option, Some, None, ⊤, length, take, drop, eqb, ltb}
 use Rattle.std.specs.Prelude.{if◌then◌else◌}
 use Rattle.event_file.specs.Text.{text}
 use Rattle.event_file.specs.Records.{records_of, read_at}
 use Rattle.event_file.specs.Lines.{last_line}
 use Rattle.event_file.specs.Buffers.{line_most}
 use Rattle.event_file.specs.Files.{free_table, lines_from, lines_of}
-use Rattle.event_file.specs.declared.reader.Read.{Read}
-use Rattle.event_file.specs.declared.reader.Read.TheVariants.{Body, More}
+use Rattle.event_file.specs.declared.reader.Body.{Body}
 use Rattle.event_run.specs.Run.{last_number, next_of}
 use Rattle.event_run.specs.declared.Place.{Place}
 use Rattle.std.specs.declared.io.Error.{Error}
@@ -72,9 +71,9 @@ stays h sent from stand = record { held = h; sent = sent; from = from; got = Ok 
 abbrev pub left_at : Held → Turn → ℕ
 left_at h r = h.to - (left_of r.held - bytes_in r.got)
 
-abbrev pub is_whole : Read → Bool
-is_whole (Body start end) = true
-is_whole More = false
+abbrev pub is_whole : Option Body → Bool
+is_whole (Some b) = true
+is_whole None = false
 
 -- a whole record is left before it reads
 abbrev pub leaves_whole : Held → (old : List ℕ) → Turn → Bool
@@ -101,7 +100,7 @@ pub record Turned (from onto : ℤ) (h : Held) (old now lines : List ℕ) (r : T
   pub same : (later : List ℕ) → take r.sent.wrote lines ++ due_from r.held now later ≡ due_from h old (piece_of r now ++ later)
   pub last : r.stand ≡ Ended → due_from r.held now [] ≡ last_line (left_of r.held)
   pub room : line_most ≤ length lines
-  pub none : next_of (record { number = r.held.number; at = left_at h r; used = r.sent.wrote }) (take h.to old) (length lines) ≡ More
+  pub none : next_of (record { number = r.held.number; at = left_at h r; used = r.sent.wrote }) (take h.to old) (length lines) ≡ None
   pub stand : r.stand ≡ stand_of r.sent.out (leaves_whole h old r) r.held.number r.got
   pub unread : (r.sent.out && not (leaves_whole h old r)) ≡ false → r.got ≡ Ok 0
   pub there : r.sent.onto ≡ onto

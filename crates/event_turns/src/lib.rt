@@ -9,10 +9,9 @@ ghost use Rattle.event_file.specs.Records.{read_at};
 ghost use Rattle.event_run.specs.Run.{Drained};
 ghost use Rattle.event_turns.specs.Turns.{Moved, Filled, place_of, left_of, stays, is_whole, after_whole, after_read, Turned, Stops, Ran, starts_one, start_of, version_line, Served, Runs};
 
-use event_file::reader::Read;
 use event_run::{Place, Round};
 use record::Stream;
-use std::io::Read as Reads;
+use std::io::Read;
 use std::os::fd::AsRawFd;
 
 // The descriptor of standard error. A number, since no handle comes this far: `run` takes a reader and a number.
@@ -88,7 +87,7 @@ struct Piece {
 }
 
 // One read. Where it fails, standard error says so.
-fn read<R: Reads>(reader: &mut R, buf: &mut [u8]) -> std::io::Result<usize>
+fn read<R: Read>(reader: &mut R, buf: &mut [u8]) -> std::io::Result<usize>
     ensures moved { Moved (length buf.old) result }
     ensures bytes { ReadConsumes (R.remaining reader.old) (R.remaining reader.new) result buf.new }
 {
@@ -101,7 +100,7 @@ fn read<R: Reads>(reader: &mut R, buf: &mut [u8]) -> std::io::Result<usize>
 
 // Reads a piece behind the bytes that are left, by the reader of a descriptor. There is room for one, so that no byte read
 // means the end of the input. Where the reader's bytes are known, the piece is the next of them.
-fn fill<R: Reads>(reader: &mut R, from: i32, input: &mut [u8; INPUT], left: usize) -> Piece
+fn fill<R: Read>(reader: &mut R, from: i32, input: &mut [u8; INPUT], left: usize) -> Piece
     requires { left < length input.old }
     ensures filled { Filled from left input.old input.new result }
     ensures bytes { ReadConsumes (R.remaining reader.old) (R.remaining reader.new) result.got (drop left input.new) }
@@ -173,8 +172,7 @@ fn drain_to(
 fn whole(input: &[u8], at: usize) -> bool
     ensures { (result ≡ is_whole (read_at input.now at)) × (result ≡ false → length input.now < at + 65537) }
 {
-    let next = event_file::reader::next(input, at);
-    matches!(next, Read::Body(_, _))
+    event_file::reader::next(input, at).is_some()
 }
 
 // How a run stands after a turn that left a whole record, with this number: it had no room for its line, which is there
@@ -201,7 +199,7 @@ fn after_read(got: std::io::Result<usize>) -> Stand
 }
 
 // One turn: answers what can be answered and writes the lines; then, if no whole record is left, reads a piece more.
-fn go_on<R: Reads>(reader: &mut R, ends: Ends, h: Held, buffers: &mut Buffers) -> Turn
+fn go_on<R: Read>(reader: &mut R, ends: Ends, h: Held, buffers: &mut Buffers) -> Turn
     requires { (h.at ≤ h.to) × (h.to ≤ length buffers.old.input) }
     ensures turned { Turned ends.from ends.onto h buffers.old.input buffers.new.input buffers.new.lines result }
     ensures at_le_to { (result.held.at ≤ result.held.to) × (result.held.to ≤ length buffers.new.input) }
@@ -307,7 +305,7 @@ fn say_version(lines: &mut [u8; LINES]) -> usize
 }
 
 // A proved loop has to end, and nothing says that an input does: there are more turns than any run uses up.
-fn turns<R: Reads>(reader: &mut R, ends: Ends, h: Held, buffers: &mut Buffers) -> Over
+fn turns<R: Read>(reader: &mut R, ends: Ends, h: Held, buffers: &mut Buffers) -> Over
     requires { (h.at ≤ h.to) × (h.to ≤ length buffers.old.input) }
     ensures { Ran ends.from ends.onto h buffers.old.input buffers.new.input buffers.new.lines result }
 {
@@ -323,7 +321,7 @@ fn turns<R: Reads>(reader: &mut R, ends: Ends, h: Held, buffers: &mut Buffers) -
 }
 
 // Reads a first piece, and goes on where it starts with the version byte.
-fn serve<R: Reads>(reader: &mut R, ends: Ends, buffers: &mut Buffers) -> Over
+fn serve<R: Read>(reader: &mut R, ends: Ends, buffers: &mut Buffers) -> Over
     ensures { Served ends.from ends.onto buffers.new.input buffers.new.lines result }
 {
     let p = fill(reader, ends.from, &mut buffers.input, 0);
@@ -339,7 +337,7 @@ fn serve<R: Reads>(reader: &mut R, ends: Ends, buffers: &mut Buffers) -> Over
 
 // Runs the event file that the reader of a descriptor gives, and writes the lines onto another. No contract can say that the
 // bytes go through the descriptors: specs/Turns.antt says what is shown of the turns.
-pub fn run<R: Reads + AsRawFd>(from: &mut R, onto: i32) -> Over
+pub fn run<R: Read + AsRawFd>(from: &mut R, onto: i32) -> Over
     ensures runs { (number : ℤ) × Runs number onto result }
     ensures number { IfSome (R.raw_fd from.old) (λ number. Runs number onto result) }
 {
