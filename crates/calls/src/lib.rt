@@ -108,12 +108,21 @@ pub struct Change {
     pub stream: Stream,
 }
 
+// The key that is asked for: a destination and a VLAN id, among the virtual links or among the rest (document 02, order 10).
+#[derive(Clone, Copy, Debug, PartialEq, Eq)]
+pub struct Key {
+    pub dest: u64,
+    pub vlan: u16,
+    pub link: bool,
+}
+
 // Is this a slot in use that has the key, and is a virtual link, or is none (document 02, order 10)? Of one that is none the VLAN
 // id is compared first (order 2): on the customer's lines it differs most often. Whether it is in use is asked last, behind the
 // rule: with the two the other way round the compiler asks both of every slot that is passed (docs/SPEED.md).
-pub fn hears(s: Stream, dest: u64, vlan: u16, link: bool) -> bool
-    ensures { result ≡ hears link dest vlan s }
+pub fn hears(s: Stream, key: Key) -> bool
+    ensures { result ≡ hears key.link key.dest key.vlan s }
 {
+    let Key { dest, vlan, link } = key;
     if link {
         return link::hears_links(s, dest, vlan);
     }
