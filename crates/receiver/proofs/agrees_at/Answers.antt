@@ -1,7 +1,14 @@
--- `receiver::agrees_at` meets its contract.
-use Rattle.std.proofs.Common.{arith}
-use Rattle.receiver.proofs.Agreeing.{follow-agrees}
+use Rattle.std.proofs.Common.{rules, ◌≡◌, true, [], ◌<◌, ◌≤◌, leb, length, set, ℕ, ◌+◌, ◌-◌, ◌*◌, ◌/◌, ◌%◌, Bool, false, nat_eq, nat_lt, List, ◌∷◌, ◌++◌, slice_index_or, bit_and, bit_or, Fits, w8, w32, w64, Bor, MutBor}
+use Rattle.record.specs.Sizes.{slots_most}
+use Rattle.calls.specs.Table.{at, hears}
+use Rattle.index.specs.Index.{places, follow, agrees_at, agrees, indexed, rebuilt}
+use Rattle.receiver.specs.Seek.{place_as, holder_of, sure_in, sure_all}
 use Rattle.receiver.proofs.agrees_at.Goals as goal
 
-pub returns : goal.returns
-returns c = follow-agrees c.args.index.now c.args.t.now c.args.i (omega arith) _ c.holder_at-h.ensures _ c.follow-f.ensures _ c.agrees_by.ensures
+-- src/lib.rt:54:1
+pub returns-in-Some : goal.returns-in-Some
+returns-in-Some c = ?
+
+-- src/lib.rt:54:1
+pub returns-in-None : goal.returns-in-None
+returns-in-None c = ?

@@ -1,16 +1,18 @@
--- `receiver::refill` meets its contract.
-use Rattle.std.proofs.Common.{arith, rules}
-use Rattle.receiver.proofs.Rebuilding.{built-none, built-more, built-all}
+use Rattle.std.proofs.Common.{rules, ◌≡◌, true, [], ◌<◌, ◌≤◌, leb, length, set, ℕ, ◌+◌, ◌-◌, ◌*◌, ◌/◌, ◌%◌, Bool, false, nat_eq, nat_lt, List, ◌∷◌, ◌++◌, slice_index_or, bit_and, bit_or, Fits, w8, w32, w64, Bor, MutBor}
+use Rattle.record.specs.Sizes.{slots_most}
+use Rattle.calls.specs.Table.{at, hears}
+use Rattle.index.specs.Index.{places, follow, agrees_at, agrees, indexed, rebuilt}
+use Rattle.receiver.specs.Seek.{place_as, holder_of, sure_in, sure_all}
 use Rattle.receiver.proofs.refill.Goals as goal
 
+-- src/lib.rt:83:5
 pub loop-i-init : goal.loop-i-init
-loop-i-init c = (omega arith, (search rules, built-none c.args.t.now _ c.wipe.ensures))
+loop-i-init c = ?
 
+-- src/lib.rt:83:5
 pub loop-i-preserved : goal.loop-i-preserved
-loop-i-preserved c = (
-  omega arith,
-  (search rules, built-more c.args.t.now c.loop-i.i _ _ _ c.loop-i.invariant.1.1 c.holder_at-h.ensures c.enter.ensures),
-)
+loop-i-preserved c = ?
 
+-- src/lib.rt:78:1
 pub returns : goal.returns
-returns c = built-all c.args.t.now c.loop-i.i _ c.loop-i.invariant.0 c.loop-i-test.false c.loop-i.invariant.1.1
+returns c = ?

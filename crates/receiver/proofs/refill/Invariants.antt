@@ -1,10 +1,9 @@
--- `receiver::refill`: the slots below i are entered.
-use Rattle.std.proofs.Common.{◌≡◌, ◌-◌, ◌≤◌, length}
-use Rattle.index.specs.Index.{places, built}
+use Rattle.std.proofs.Common.{◌≡◌, true, [], ◌<◌, ◌≤◌, leb, length, set, ℕ, ◌+◌, ◌-◌, ◌*◌}
+use Rattle.record.specs.Sizes.{slots_most}
+use Rattle.calls.specs.Table.{at, hears}
+use Rattle.index.specs.Index.{places, follow, agrees_at, agrees, indexed, rebuilt}
+use Rattle.receiver.specs.Seek.{place_as, holder_of, sure_in, sure_all}
 use Rattle.receiver.proofs.refill.Given as goal
 
 abbrev pub invariant-loop-i : goal.invariant-loop-i
-invariant-loop-i l = (l.i ≤ length l.t) × ((length l.index ≡ places) × (l.index ≡ built l.t l.i))
-
-abbrev pub decreases-loop-i : goal.decreases-loop-i
-decreases-loop-i l = length l.t - l.i
+invariant-loop-i l = ?

@@ -1,9 +1,12 @@
--- `receiver::places::sure` meets its contract.
-use Rattle.receiver.proofs.Agreeing.{sure-free, sure-used}
+use Rattle.std.proofs.Common.{rules, ◌≡◌, ◌+◌, ◌<◌, ◌^◌, ℕ, ◌-◌, ◌*◌, ◌≤◌, length, ◌/◌, ◌%◌, Bool, true, false, nat_eq, nat_lt, List, [], ◌∷◌, ◌++◌, slice_index_or, slice_set, bit_and, bit_or, Fits, w8, w32, w64, Bor, MutBor}
+use Rattle.index.specs.Index.{places, probe}
+use Rattle.receiver.specs.Seek.{named_at, holder_of, sure_from, sure_at, not_above, entered_as}
 use Rattle.receiver.proofs.places.sure.Goals as goal
 
-pub returns-then-not-h : goal.returns-then-not-h
-returns-then-not-h c = sure-free _ _ _ c.if-not-h.true
+-- src/places.rt:38:1
+pub returns-in-Some : goal.returns-in-Some
+returns-in-Some c = ?
 
-pub returns : goal.returns
-returns c = sure-used _ _ _ c.if-not-h.false c.home-from.ensures.0 c.sure_from.ensures
+-- src/places.rt:38:1
+pub returns-in-None : goal.returns-in-None
+returns-in-None c = ?

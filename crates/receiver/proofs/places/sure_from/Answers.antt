@@ -1,19 +1,24 @@
--- `receiver::places::sure_from` meets its contract.
-use Rattle.receiver.proofs.Agreeing.{sure-out, sure-hit, sure-empty, sure-above, sure-on}
+use Rattle.std.proofs.Common.{rules, ◌≡◌, ◌+◌, ◌<◌, ◌^◌, ℕ, ◌-◌, ◌*◌, ◌≤◌, length, ◌/◌, ◌%◌, Bool, true, false, nat_eq, nat_lt, List, [], ◌∷◌, ◌++◌, slice_index_or, slice_set, bit_and, bit_or, Fits, w8, w32, w64, Bor, MutBor}
+use Rattle.index.specs.Index.{places, probe}
+use Rattle.receiver.specs.Seek.{named_at, holder_of, sure_from, sure_at, not_above, entered_as}
 use Rattle.receiver.proofs.places.sure_from.Goals as goal
 
-pub returns-then-x-i : goal.returns-then-x-i
-returns-then-x-i c = sure-hit c.args.index.now c.args.i c.args.from c.loop-k.k c.loop-k.invariant c.loop-k-test.true c.wide-x.ensures.0 c.if-x-i.true
+-- src/places.rt:52:5
+pub loop-k-init : goal.loop-k-init
+loop-k-init c = ?
 
-pub returns-then-x-eq0 : goal.returns-then-x-eq0
-returns-then-x-eq0 c = sure-empty c.args.index.now c.args.i c.args.from c.loop-k.k c.loop-k.invariant c.loop-k-test.true c.wide-x.ensures.0 c.if-x-eq0.true
+-- src/places.rt:55:13
+pub returns-then-name-i : goal.returns-then-name-i
+returns-then-name-i c = ?
 
-pub returns-then-x-i-2 : goal.returns-then-x-i-2
-returns-then-x-i-2 c = sure-above c.args.index.now c.args.i c.args.from c.loop-k.k c.loop-k.invariant c.loop-k-test.true c.wide-x.ensures.0 c.if-x-i.false c.if-x-i-2.true
+-- src/places.rt:58:13
+pub returns-then-name-eq0 : goal.returns-then-name-eq0
+returns-then-name-eq0 c = ?
 
+-- src/places.rt:52:5
 pub loop-k-preserved : goal.loop-k-preserved
-loop-k-preserved c =
-    sure-on c.args.index.now c.args.i c.args.from c.loop-k.k c.loop-k.invariant c.loop-k-test.true c.wide-x.ensures.0 c.if-x-i.false c.if-x-eq0.false c.if-x-i-2.false
+loop-k-preserved c = ?
 
+-- src/places.rt:48:1
 pub returns : goal.returns
-returns c = sure-out c.args.index.now c.args.i c.args.from c.loop-k.k c.loop-k.invariant c.loop-k-test.false
+returns c = ?

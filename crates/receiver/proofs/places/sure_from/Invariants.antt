@@ -1,11 +1,7 @@
--- `receiver::places::sure_from`: what is left to look at comes to what all comes to.
-use Rattle.std.proofs.Common.{◌-◌}
-use Rattle.index.specs.Index.{places}
-use Rattle.receiver.proofs.Agreeing.{SureLeft}
+use Rattle.std.proofs.Common.{◌≡◌, ◌+◌, ◌<◌, ◌^◌, ℕ, ◌-◌, ◌*◌, ◌≤◌, length}
+use Rattle.index.specs.Index.{places, probe}
+use Rattle.receiver.specs.Seek.{named_at, holder_of, sure_from, sure_at, not_above, entered_as}
 use Rattle.receiver.proofs.places.sure_from.Given as goal
 
 abbrev pub invariant-loop-k : goal.invariant-loop-k
-invariant-loop-k l = SureLeft l.index l.i l.from l.k
-
-abbrev pub decreases-loop-k : goal.decreases-loop-k
-decreases-loop-k l = places - l.k
+invariant-loop-k l = ?
