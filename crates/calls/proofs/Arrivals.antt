@@ -12,7 +12,7 @@ use lib.ListN.{length, set, length-append, length-take, length-drop}
 use lib.Seq.{set-get_or}
 use borrow.Author.Tests.{lt-ltb, le-ltb, lt-leb, le-leb, leb-true, leb-false}
 use Rattle.refusal.specs.Checks.Said.{refused, answers}
-use Rattle.refusal.specs.Numbers.{TABLE, NETWORK, UNKNOWN, DAMAGED, ROOM}
+use Rattle.refusal.specs.Numbers.{TABLE, NETWORK, UNKNOWN}
 use Rattle.refusal.proofs.Checks.{passed}
 use Rattle.record.specs.declared.Stream.{Stream}
 use Rattle.std.specs.Prelude.{if◌then◌else◌}
@@ -21,9 +21,7 @@ use Rattle.frame.specs.Frame.{Tag, type_at, cut_at, untagged, unranked, read_of}
 use Rattle.frame.specs.Bytes.{overlay}
 use Rattle.frame.specs.TagCalls.{written_without}
 use Rattle.frame.specs.Link.{link_of, said_link, but_last, written_shorter}
-use Rattle.frame.specs.declared.LinkRead.{LinkRead}
-use Rattle.frame.specs.declared.LinkRead.TheVariants as links
-use Rattle.frame.specs.declared.Header.{Header}
+use Rattle.frame.specs.Link.{Link}
 use Rattle.frame.proofs.Heads.{TagIs, tag_of}
 use Rattle.frame.proofs.Writes.{type-place, without-fits}
 use Rattle.frame.proofs.Links.{LinkSizes, link-sizes, but-last-length, shorter-fits}
@@ -40,12 +38,11 @@ use Rattle.calls.specs.Table.{Table, blank, at, search, found, hears}
 use Rattle.calls.specs.Calls.{arriving, linking, Act, refuse, arrive, admitted, arrival_at, arrival, link_arrival, checked, act, after, answer, arrived, verdict_with, output, written_for, Meets}
 use Rattle.calls.specs.Said.{said_arrival}
 use Rattle.calls.specs.Steps.{asked, said_asked, link_asked, has_room, judged_as, judged, weighed_in, record_of, finished, bytes_of}
-use Rattle.calls.specs.declared.Found.TheVariants.{At, Nothing}
-use Rattle.calls.specs.declared.Asked.{Asked}
-use Rattle.calls.specs.declared.Asked.TheVariants as asks
-use Rattle.calls.specs.declared.Judged.{Judged}
-use Rattle.calls.specs.declared.Judged.TheVariants as judges
-use Rattle.calls.specs.declared.Answer.{Answer}
+use Rattle.std.specs.Prelude.{Option, None, Some, Result, Ok, Err}
+use Rattle.refusal.specs.Numbers.{number_of}
+use Rattle.refusal.specs.declared.Refusal.{Refusal}
+use Rattle.refusal.specs.declared.Refusal.TheVariants as refusals
+use Rattle.calls.specs.declared.Arrived.{Arrived}
 use Rattle.calls.proofs.Acts.{by-act}
 use Rattle.calls.proofs.Admits.{admits}
 use Rattle.calls.proofs.Places.{found_at, found_none, some-place, no_place}
@@ -57,45 +54,41 @@ bare-length f o h = simp (length-append, length-take, length-drop) (omega arith)
 
 -- What the first step of the decision found, by the verdict; and the record after it.
 weighed-verdict : (s : Stream) (number : ℕ) → lawful s ≡ true
-    → weighed s number ≡ steps.answer (decisions.verdict s number) (marks_of s number (decisions.case_of s number))
+    → weighed s number ≡ Some (steps.answer (decisions.verdict s number) (marks_of s number (decisions.case_of s number)))
 unfolding weighed weighed_as decisions.verdict
 weighed-verdict s number l = rw l
 
-pub no-verdict : (s : Stream) (network : ℕ) → record_after s network weighs.Damaged ≡ s
+pub no-verdict : (s : Stream) (network : ℕ) → record_after s network None ≡ s
 unfolding record_after
 no-verdict s network = refl
 
-after-judged : (s : Stream) (network : ℕ) (w : Weighed) → record_of s network (judged_as w) ≡ record_after s network w
+after-judged : (s : Stream) (network : ℕ) (w : Option Weighed) → record_of s network (judged_as w) ≡ record_after s network w
 unfolding record_after
-after-judged s network weighs.Damaged = refl
-after-judged s network (weighs.HandedUp m) = refl
-after-judged s network weighs.Duplicate = refl
-after-judged s network weighs.Rogue = refl
+after-judged s network None = refl
+after-judged s network (Some w) = refl
 
 -- what is handed up was weighed as that, so that a window of at most a word may be marked by the first word alone
-weighed-again : (w : Weighed) → weighed_in (judged_as w) ≡ w
-weighed-again weighs.Damaged = refl
-weighed-again (weighs.HandedUp m) = refl
-weighed-again weighs.Duplicate = refl
-weighed-again weighs.Rogue = refl
+weighed-again : (w : Option Weighed) → weighed_in (judged_as w) ≡ w
+weighed-again None = refl
+weighed-again (Some w) = refl
 
-weighed-up : (s : Stream) (number : ℕ) (room : Bool) (m : Marks) → judges.HandedUp m ≡ judged s number room → weighed s number ≡ weighs.HandedUp m
+weighed-up : (s : Stream) (number : ℕ) (room : Bool) (m : Marks) → Ok (weighs.HandedUp m) ≡ judged s number room → weighed s number ≡ Some (weighs.HandedUp m)
 unfolding judged
 weighed-up s number room m e = go (lawful s) room (ap weighed_in e) refl
   where
     go : (l r : Bool)
-        → weighs.HandedUp m ≡ weighed_in (if not (lawful s) then judges.Refused DAMAGED else if not r then judges.Refused ROOM else judged_as (weighed s number))
-        → lawful s ≡ l → weighed s number ≡ weighs.HandedUp m
-    go false r e l = let d : weighs.HandedUp m ≡ weighs.Damaged = rw l at e in cc
-    go true false e l = let d : weighs.HandedUp m ≡ weighs.Damaged = rw l at e in cc
-    go true true e l = let d : weighs.HandedUp m ≡ weighed_in (judged_as (weighed s number)) = rw l at e in sym (d ∙ weighed-again (weighed s number))
+        → Some (weighs.HandedUp m) ≡ weighed_in (if not (lawful s) then Err refusals.Damaged else if not r then Err refusals.Room else judged_as (weighed s number))
+        → lawful s ≡ l → weighed s number ≡ Some (weighs.HandedUp m)
+    go false r e l = let d : Some (weighs.HandedUp m) ≡ None = rw l at e in cc
+    go true false e l = let d : Some (weighs.HandedUp m) ≡ None = rw l at e in cc
+    go true true e l = let d : Some (weighs.HandedUp m) ≡ weighed_in (judged_as (weighed s number)) = rw l at e in sym (d ∙ weighed-again (weighed s number))
 
-pub marks-right : (s : Stream) (number network : ℕ) (room : Bool) (m : Marks) → judges.HandedUp m ≡ judged s number room
-    → (if leb s.window 64 then record_short s network m else record_after s network (weighs.HandedUp m)) ≡ record_after s network (weighs.HandedUp m)
+pub marks-right : (s : Stream) (number network : ℕ) (room : Bool) (m : Marks) → Ok (weighs.HandedUp m) ≡ judged s number room
+    → (if leb s.window 64 then record_short s network m else record_after s network (Some (weighs.HandedUp m))) ≡ record_after s network (Some (weighs.HandedUp m))
 marks-right s number network room m e = go (leb s.window 64) refl
   where
     go : (b : Bool) → leb s.window 64 ≡ b
-        → (if b then record_short s network m else record_after s network (weighs.HandedUp m)) ≡ record_after s network (weighs.HandedUp m)
+        → (if b then record_short s network m else record_after s network (Some (weighs.HandedUp m))) ≡ record_after s network (Some (weighs.HandedUp m))
     go true w = short-step s number network m (leb-true s.window 64 w) (weighed-up s number room m e)
     go false w = refl
 
@@ -106,23 +99,23 @@ module _ (t : Table) (i number network : ℕ) (rank : Rank) (need : ℕ) (bare w
   abbrev came : Act
   came = arrival_at t i number network rank need bare out
 
-  pub record Ends (j : Judged) : Type 0 where
+  pub record Ends (j : Result Weighed Refusal) : Type 0 where
     pub said : finished j i number rank need ≡ answer t came
     pub table : set t i (record_of (at t i) network j) ≡ after t came
     pub output : bytes_of j written out ≡ output t out came
 
   told : (v : decisions.Verdict) (m : Marks)
-      → finished (judged_as (steps.answer v m)) i number rank need ≡ answers (arrived i number rank (verdict_with (length bare) v))
+      → finished (Ok (steps.answer v m)) i number rank need ≡ answers (arrived i number rank (verdict_with (length bare) v))
   told decisions.up m = rw size
   told decisions.duplicate m = refl
   told decisions.rogue m = refl
 
-  left : (v : decisions.Verdict) (m : Marks) → need ≤ length out → bytes_of (judged_as (steps.answer v m)) written out ≡ written_for v bare out
+  left : (v : decisions.Verdict) (m : Marks) → need ≤ length out → bytes_of (Ok (steps.answer v m)) written out ≡ written_for v bare out
   left decisions.up m r = writes r
   left decisions.duplicate m r = refl
   left decisions.rogue m r = refl
 
-  refusing : {j : Judged} (n : ℕ) → j ≡ judges.Refused n → came ≡ refuse n → Ends j
+  refusing : {j : Result Weighed Refusal} (n : Refusal) → j ≡ Err n → came ≡ refuse (number_of n) → Ends j
   unfolding after answer output
   refusing n d e = record {
     said = rw (d, e);
@@ -130,13 +123,13 @@ module _ (t : Table) (i number network : ℕ) (rank : Rank) (need : ℕ) (bare w
     output = rw (d, e);
   }
 
-  pub decides : {j : Judged} {room : Bool} → room ≡ has_room need out → j ≡ judged (at t i) number room → Ends j
+  pub decides : {j : Result Weighed Refusal} {room : Bool} → room ≡ has_room need out → j ≡ judged (at t i) number room → Ends j
   unfolding arrival_at judged after answer output
   decides {j} {room} k g = go (lawful (at t i)) room refl k g
     where
       go : (l m : Bool) → lawful (at t i) ≡ l → m ≡ has_room need out → j ≡ judged (at t i) number m → Ends j
-      go false m l k g = refusing DAMAGED (g ∙ rw l) (simp (lt-leb _ _ inside, l))
-      go true false l k g = refusing ROOM (g ∙ rw l) (simp (lt-leb _ _ inside, l, lt-ltb _ _ (leb-false need (length out) (sym k))))
+      go false m l k g = refusing refusals.Damaged (g ∙ rw l) (simp (lt-leb _ _ inside, l))
+      go true false l k g = refusing refusals.Room (g ∙ rw l) (simp (lt-leb _ _ inside, l, lt-ltb _ _ (leb-false need (length out) (sym k))))
       go true true l k g =
           let fits = leb-true need (length out) (sym k) in
           let v = decisions.verdict (at t i) number in
@@ -152,10 +145,10 @@ module _ (t : Table) (i number network : ℕ) (rank : Rank) (need : ℕ) (bare w
 
 -- the slot that a search found, and what an arrival to it comes to
 module _ (t : Table) (p : Stream → Bool) where
-  pub found_inside : {i : ℕ} → found p t ≡ At i → i < length t
+  pub found_inside : {i : ℕ} → found p t ≡ Some i → i < length t
   found_inside w = rw (found_at p t w).0 at (some-place p t (found_at p t w).1)
 
-  pub unknown-act : (number network : ℕ) (rank : Rank) (need : ℕ) (bare out : List ℕ) → found p t ≡ Nothing → arrival_at t (search p t) number network rank need bare out ≡ refuse UNKNOWN
+  pub unknown-act : (number network : ℕ) (rank : Rank) (need : ℕ) (bare out : List ℕ) → found p t ≡ None → arrival_at t (search p t) number network rank need bare out ≡ refuse UNKNOWN
   unfolding arrival_at
   unknown-act number network rank need bare out w = simp (le-leb _ _ (no_place p t (found_none p t w)))
 
@@ -179,44 +172,44 @@ module _ (t : Table) (network : ℕ) (f out : List ℕ) where
       let b = passed (ltb 1 network) NETWORK a.1 in
       tag_of f g (admits f (read_of f) (sym b.1)).1
 
-  pub arrival-refused : (r : Answer) {q : Asked} {n : ℕ} → said_asked q ≡ asked (length t) network f → q ≡ asks.Refused n → said_arrival r ≡ refused n
+  pub arrival-refused : (r : Result Arrived Refusal) {q : Result Tag Refusal} {n : Refusal} → said_asked q ≡ asked (length t) network f → q ≡ Err n → said_arrival r ≡ refused (number_of n)
       → Meets t (arriving network f out) (record { said = said_arrival r; table = t; output = out })
   unfolding arrival after answer output
   arrival-refused r {q} {n} p e w =
-      by-act t (arriving network f out) (refuse n) (act-asked ∙ ap (arrival t network f out) (sym p ∙ ap said_asked e)) w refl refl
+      by-act t (arriving network f out) (refuse (number_of n)) (act-asked ∙ ap (arrival t network f out) (sym p ∙ ap said_asked e)) w refl refl
 
-  module _ {q : Asked} {h : Header} {number : ℕ} (p : said_asked q ≡ asked (length t) network f) (e : q ≡ asks.For h number) where
-    tag : asked (length t) network f ≡ answers (record { header = h; number = number })
+  module _ {q : Result Tag Refusal} {g : Tag} (p : said_asked q ≡ asked (length t) network f) (e : q ≡ Ok g) where
+    tag : asked (length t) network f ≡ answers g
     tag = sym p ∙ ap said_asked e
 
-    act-at : {i : ℕ} → search (hears false h.dest h.vlan) t ≡ i → act t (arriving network f out) ≡ arrival_at t i number network h.rank (length f - 6) (untagged f) out
+    act-at : {i : ℕ} → search (hears false g.header.dest g.header.vlan) t ≡ i → act t (arriving network f out) ≡ arrival_at t i g.number network g.header.rank (length f - 6) (untagged f) out
     unfolding arrival
-    act-at s = act-asked ∙ ap (arrival t network f out) tag ∙ ap (λ (k : ℕ). arrival_at t k number network h.rank (length f - 6) (untagged f) out) s
+    act-at s = act-asked ∙ ap (arrival t network f out) tag ∙ ap (λ (k : ℕ). arrival_at t k g.number network g.header.rank (length f - 6) (untagged f) out) s
 
-    pub arrival-unknown : (r : Answer) → found (hears false h.dest h.vlan) t ≡ Nothing → said_arrival r ≡ refused UNKNOWN
+    pub arrival-unknown : (r : Result Arrived Refusal) → found (hears false g.header.dest g.header.vlan) t ≡ None → said_arrival r ≡ refused UNKNOWN
         → Meets t (arriving network f out) (record { said = said_arrival r; table = t; output = out })
     unfolding after answer output
     arrival-unknown r w a =
-        by-act t (arriving network f out) (refuse UNKNOWN) (act-at refl ∙ unknown-act t _ number network h.rank (length f - 6) (untagged f) out w) a refl refl
+        by-act t (arriving network f out) (refuse UNKNOWN) (act-at refl ∙ unknown-act t _ g.number network g.header.rank (length f - 6) (untagged f) out w) a refl refl
 
-    module _ {i : ℕ} (w : found (hears false h.dest h.vlan) t ≡ At i) where
-      known : TagIs f h number
-      known = asked-tag (record { header = h; number = number }) tag
+    module _ {i : ℕ} (w : found (hears false g.header.dest g.header.vlan) t ≡ Some i) where
+      known : TagIs f g.header g.number
+      known = asked-tag g tag
 
       size : length (untagged f) ≡ length f - 6
       size = bare-length f (type_at f) (omega (arith, known.room))
 
-      writes : length f - 6 ≤ length out → written_without f h.at out ≡ overlay (untagged f) out
+      writes : length f - 6 ≤ length out → written_without f g.header.at out ≡ overlay (untagged f) out
       writes l =
           let k = known in
           ap (λ (o : ℕ). written_without f o out) k.at ∙ without-fits f (type_at f) out (type-place f) (omega (arith, k.room)) k.few (omega (arith, l))
 
-      pub arrival-decided : (r : Answer) {room : Bool} {j : Judged} {u : Table} {o : List ℕ}
-          → room ≡ has_room (length f - 6) out → j ≡ judged (at t i) number room → u ≡ set t i (record_of (at t i) network j)
-          → said_arrival r ≡ finished j i number h.rank (length f - 6) → o ≡ bytes_of j (written_without f h.at out) out
+      pub arrival-decided : (r : Result Arrived Refusal) {room : Bool} {j : Result Weighed Refusal} {u : Table} {o : List ℕ}
+          → room ≡ has_room (length f - 6) out → j ≡ judged (at t i) g.number room → u ≡ set t i (record_of (at t i) network j)
+          → said_arrival r ≡ finished j i g.number g.header.rank (length f - 6) → o ≡ bytes_of j (written_without f g.header.at out) out
           → Meets t (arriving network f out) (record { said = said_arrival r; table = u; output = o })
-      arrival-decided r k g a b c =
-          let x = decides t i number network h.rank (length f - 6) (untagged f) (written_without f h.at out) out (found_inside t _ w) size writes k g in
+      arrival-decided r k d a b c =
+          let x = decides t i g.number network g.header.rank (length f - 6) (untagged f) (written_without f g.header.at out) out (found_inside t _ w) size writes k d in
           by-act t (arriving network f out) _ (act-at (found_at _ t w).0) (b ∙ x.said) (a ∙ x.table) (c ∙ x.output)
 
 -- The same of a virtual link's: 1 to 4 and 14 are asked first.
@@ -232,38 +225,38 @@ module _ (t : Table) (network : ℕ) (f out : List ℕ) where
       go false true = refl
       go false false = refl
 
-  pub link-refused : (r : Answer) {q : LinkRead} {n : ℕ} → said_link q ≡ link_asked (length t) network f → q ≡ links.Refused n → said_arrival r ≡ refused n
+  pub link-refused : (r : Result Arrived Refusal) {q : Result Link Refusal} {n : Refusal} → said_link q ≡ link_asked (length t) network f → q ≡ Err n → said_arrival r ≡ refused (number_of n)
       → Meets t (linking network f out) (record { said = said_arrival r; table = t; output = out })
   unfolding link_arrival after answer output
   link-refused r {q} {n} p e w =
-      by-act t (linking network f out) (refuse n) (act-link-asked ∙ ap (link_arrival t network f out) (sym p ∙ ap said_link e)) w refl refl
+      by-act t (linking network f out) (refuse (number_of n)) (act-link-asked ∙ ap (link_arrival t network f out) (sym p ∙ ap said_link e)) w refl refl
 
-  module _ {q : LinkRead} {dest number : ℕ} (p : said_link q ≡ link_asked (length t) network f) (e : q ≡ links.Link dest number) where
-    read : link_asked (length t) network f ≡ answers (record { dest = dest; number = number })
+  module _ {q : Result Link Refusal} {g : Link} (p : said_link q ≡ link_asked (length t) network f) (e : q ≡ Ok g) where
+    read : link_asked (length t) network f ≡ answers g
     read = sym p ∙ ap said_link e
 
-    act-link-at : {i : ℕ} → search (hears true dest 0) t ≡ i → act t (linking network f out) ≡ arrival_at t i number network unranked (length f - 1) (but_last f) out
+    act-link-at : {i : ℕ} → search (hears true g.dest 0) t ≡ i → act t (linking network f out) ≡ arrival_at t i g.number network unranked (length f - 1) (but_last f) out
     unfolding link_arrival
-    act-link-at s = act-link-asked ∙ ap (link_arrival t network f out) read ∙ ap (λ (k : ℕ). arrival_at t k number network unranked (length f - 1) (but_last f) out) s
+    act-link-at s = act-link-asked ∙ ap (link_arrival t network f out) read ∙ ap (λ (k : ℕ). arrival_at t k g.number network unranked (length f - 1) (but_last f) out) s
 
-    pub link-unknown : (r : Answer) → found (hears true dest 0) t ≡ Nothing → said_arrival r ≡ refused UNKNOWN
+    pub link-unknown : (r : Result Arrived Refusal) → found (hears true g.dest 0) t ≡ None → said_arrival r ≡ refused UNKNOWN
         → Meets t (linking network f out) (record { said = said_arrival r; table = t; output = out })
     unfolding after answer output
     link-unknown r w a =
-        by-act t (linking network f out) (refuse UNKNOWN) (act-link-at refl ∙ unknown-act t _ number network unranked (length f - 1) (but_last f) out w) a refl refl
+        by-act t (linking network f out) (refuse UNKNOWN) (act-link-at refl ∙ unknown-act t _ g.number network unranked (length f - 1) (but_last f) out w) a refl refl
 
-    module _ {i : ℕ} (w : found (hears true dest 0) t ≡ At i) where
+    module _ {i : ℕ} (w : found (hears true g.dest 0) t ≡ Some i) where
       sizes : LinkSizes f
       unfolding link_asked
       sizes =
           let a = passed (ltb slots_most (length t)) TABLE (sym read) in
           link-sizes f (sym (passed (ltb 1 network) NETWORK a.1).1)
 
-      pub link-decided : (r : Answer) {room : Bool} {j : Judged} {u : Table} {o : List ℕ}
-          → room ≡ has_room (length f - 1) out → j ≡ judged (at t i) number room → u ≡ set t i (record_of (at t i) network j)
-          → said_arrival r ≡ finished j i number unranked (length f - 1) → o ≡ bytes_of j (written_shorter f out) out
+      pub link-decided : (r : Result Arrived Refusal) {room : Bool} {j : Result Weighed Refusal} {u : Table} {o : List ℕ}
+          → room ≡ has_room (length f - 1) out → j ≡ judged (at t i) g.number room → u ≡ set t i (record_of (at t i) network j)
+          → said_arrival r ≡ finished j i g.number unranked (length f - 1) → o ≡ bytes_of j (written_shorter f out) out
           → Meets t (linking network f out) (record { said = said_arrival r; table = u; output = o })
-      link-decided r k g a b c =
+      link-decided r k d a b c =
           let z = sizes in
-          let x = decides t i number network unranked (length f - 1) (but_last f) (written_shorter f out) out (found_inside t _ w) (but-last-length f) (shorter-fits f out z.some z.few) k g in
+          let x = decides t i g.number network unranked (length f - 1) (but_last f) (written_shorter f out) out (found_inside t _ w) (but-last-length f) (shorter-fits f out z.some z.few) k d in
           by-act t (linking network f out) _ (act-link-at (found_at _ t w).0) (b ∙ x.said) (a ∙ x.table) (c ∙ x.output)

@@ -1,7 +1,7 @@
 -- What a call keeps: its refusals change nothing, the number of slots and every other record stay. Results of one call
 -- coincide. Assumes nothing.
 use Prim.Native.Nat.{ℕ}
-use mathlib.Core.Path.{◌≡◌, refl, sym, ◌∙◌}
+use mathlib.Core.Path.{◌≡◌, refl, sym, ap, ◌∙◌}
 use mathlib.Core.Bool.{false}
 use mathlib.Core.List.{List}
 use native.Mathlib.Omega.{arith}
@@ -10,23 +10,19 @@ use lib.ListN.{length, set, length-set, length-map}
 use lib.Seq.{get_or-set_other}
 use borrow.Author.Tests.{eqb-false}
 use Rattle.refusal.specs.Checks.Said.{refused}
-use Rattle.refusal.proofs.Checks.{same-value}
 use Rattle.record.specs.declared.Stream.{Stream}
 use Rattle.stream.specs.Decisions.{ticked}
 use Rattle.calls.specs.Table.{Table, blank, at}
 use Rattle.calls.specs.Calls.{Act, refuse, arrive, opens, closes, resets, ticks, act, after, answer, output, out_of}
-use Rattle.calls.specs.Said.{said_arrival, said_opened, said_done, said_swept}
+use Rattle.calls.specs.Said.{said_verdict, said_arrival, said_opened, said_done, said_swept}
 use Rattle.calls.specs.Laws.{Coincide, AnswersTell, AskedTells, RefusedChangesNothing, for_slot, OthersStay, LengthKept}
-use Rattle.calls.specs.declared.Asked.TheVariants as asks
+use Rattle.std.specs.Prelude.{Result, Ok, Err}
+use Rattle.refusal.specs.declared.Refusal.{Refusal}
+use Rattle.refusal.proofs.Checks.{said-tells, numbers-tell, number_or}
+use Rattle.calls.specs.declared.Verdict.{Verdict}
 use Rattle.calls.specs.declared.Verdict.TheVariants as verdict
-use Rattle.calls.specs.declared.Answer.{Answer as Arrived}
-use Rattle.calls.specs.declared.Answer.TheVariants as arrived
-use Rattle.calls.specs.declared.Opened.{Opened}
-use Rattle.calls.specs.declared.Opened.TheVariants as opened
-use Rattle.calls.specs.declared.Done.{Done}
-use Rattle.calls.specs.declared.Done.TheVariants as done
-use Rattle.calls.specs.declared.Swept.{Swept}
-use Rattle.calls.specs.declared.Swept.TheVariants as swept
+use Rattle.calls.specs.declared.Arrived.{Arrived}
+use Rattle.calls.specs.declared.Sums.{Sums}
 
 pub coincide : Coincide
 coincide t c r s p q i = record {
@@ -78,43 +74,51 @@ pub others-stay : OthersStay
 others-stay t c j e = stays t (act t c) j e
 
 -- ---- equal `said` means equal answers
-arrived-tell : (r s : Arrived) → said_arrival r ≡ said_arrival s → r ≡ s
-arrived-tell (arrived.Refused m) (arrived.Refused n) e = cc
-arrived-tell (arrived.Refused m) (arrived.Arrival j b y w) e = cc
-arrived-tell (arrived.Arrival i a x v) (arrived.Refused n) e = cc
-arrived-tell (arrived.Arrival i a x (verdict.HandedUp l)) (arrived.Arrival j b y (verdict.HandedUp m)) e = cc
-arrived-tell (arrived.Arrival i a x (verdict.HandedUp l)) (arrived.Arrival j b y verdict.Duplicate) e = cc
-arrived-tell (arrived.Arrival i a x (verdict.HandedUp l)) (arrived.Arrival j b y verdict.Rogue) e = cc
-arrived-tell (arrived.Arrival i a x verdict.Duplicate) (arrived.Arrival j b y (verdict.HandedUp m)) e = cc
-arrived-tell (arrived.Arrival i a x verdict.Duplicate) (arrived.Arrival j b y verdict.Duplicate) e = cc
-arrived-tell (arrived.Arrival i a x verdict.Duplicate) (arrived.Arrival j b y verdict.Rogue) e = cc
-arrived-tell (arrived.Arrival i a x verdict.Rogue) (arrived.Arrival j b y (verdict.HandedUp m)) e = cc
-arrived-tell (arrived.Arrival i a x verdict.Rogue) (arrived.Arrival j b y verdict.Duplicate) e = cc
-arrived-tell (arrived.Arrival i a x verdict.Rogue) (arrived.Arrival j b y verdict.Rogue) e = cc
+verdict-tells : (v w : Verdict) → said_verdict v ≡ said_verdict w → v ≡ w
+verdict-tells (verdict.HandedUp l) (verdict.HandedUp m) e = cc
+verdict-tells (verdict.HandedUp l) verdict.Duplicate e = cc
+verdict-tells (verdict.HandedUp l) verdict.Rogue e = cc
+verdict-tells verdict.Duplicate (verdict.HandedUp m) e = cc
+verdict-tells verdict.Duplicate verdict.Duplicate e = refl
+verdict-tells verdict.Duplicate verdict.Rogue e = cc
+verdict-tells verdict.Rogue (verdict.HandedUp m) e = cc
+verdict-tells verdict.Rogue verdict.Duplicate e = cc
+verdict-tells verdict.Rogue verdict.Rogue e = refl
 
-opened-tell : (r s : Opened) → said_opened r ≡ said_opened s → r ≡ s
-opened-tell (opened.Refused m) (opened.Refused n) e = cc
-opened-tell (opened.Refused m) (opened.At j) e = cc
-opened-tell (opened.At i) (opened.Refused n) e = cc
-opened-tell (opened.At i) (opened.At j) e = cc
+arrived-tell : (r s : Result Arrived Refusal) → said_arrival r ≡ said_arrival s → r ≡ s
+arrived-tell (Err p) (Err q) e = ap Err (numbers-tell p q (ap (number_or 0) e))
+arrived-tell (Err p) (Ok b) e = cc
+arrived-tell (Ok a) (Err q) e = cc
+arrived-tell (Ok a) (Ok b) e =
+    let slot : a.slot ≡ b.slot = cc in
+    let number : a.number ≡ b.number = cc in
+    let rank : a.rank ≡ b.rank = cc in
+    let v : a.verdict ≡ b.verdict = verdict-tells a.verdict b.verdict (let w : said_verdict a.verdict ≡ said_verdict b.verdict = cc in w) in
+    λ i. Ok (record { slot = slot i; number = number i; rank = rank i; verdict = v i })
 
-done-tell : (r s : Done) → said_done r ≡ said_done s → r ≡ s
-done-tell (done.Refused m) (done.Refused n) e = cc
-done-tell (done.Refused m) done.Ok e = cc
-done-tell done.Ok (done.Refused n) e = cc
-done-tell done.Ok done.Ok e = refl
+opened-tell : (r s : Result ℕ Refusal) → said_opened r ≡ said_opened s → r ≡ s
+opened-tell (Err p) (Err q) e = ap Err (numbers-tell p q (ap (number_or 0) e))
+opened-tell (Err p) (Ok j) e = cc
+opened-tell (Ok i) (Err q) e = cc
+opened-tell (Ok i) (Ok j) e = cc
 
-swept-tell : (r s : Swept) → said_swept r ≡ said_swept s → r ≡ s
-swept-tell (swept.Refused m) (swept.Refused n) e = cc
-swept-tell (swept.Refused m) (swept.Counted c d) e = cc
-swept-tell (swept.Counted a b) (swept.Refused n) e = cc
-swept-tell (swept.Counted a b) (swept.Counted c d) e = cc
+done-tell : (r s : Result Unit Refusal) → said_done r ≡ said_done s → r ≡ s
+done-tell (Err p) (Err q) e = ap Err (numbers-tell p q (ap (number_or 0) e))
+done-tell (Err p) (Ok u) e = cc
+done-tell (Ok u) (Err q) e = cc
+done-tell (Ok u) (Ok v) e = refl
+
+swept-tell : (r s : Result Sums Refusal) → said_swept r ≡ said_swept s → r ≡ s
+swept-tell (Err p) (Err q) e = ap Err (numbers-tell p q (ap (number_or 0) e))
+swept-tell (Err p) (Ok b) e = cc
+swept-tell (Ok a) (Err q) e = cc
+swept-tell (Ok a) (Ok b) e =
+    let resets : a.resets ≡ b.resets = cc in
+    let damaged : a.damaged ≡ b.damaged = cc in
+    λ i. Ok (record { resets = resets i; damaged = damaged i })
 
 pub answers-tell : AnswersTell
 answers-tell = (arrived-tell, opened-tell, done-tell, swept-tell)
 
 pub asked-tells : AskedTells
-asked-tells (asks.Refused m) (asks.Refused n) e = cc
-asked-tells (asks.Refused m) (asks.For h b) e = cc
-asked-tells (asks.For g a) (asks.Refused n) e = cc
-asked-tells (asks.For g a) (asks.For h b) e = let t = same-value e in λ i. asks.For (t i).header (t i).number
+asked-tells r s e = said-tells _ r s e

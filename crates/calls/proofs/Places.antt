@@ -9,30 +9,30 @@ use lib.ListN.{length}
 use borrow.Author.Tests.{ltb-true, ltb-false}
 use Rattle.record.specs.declared.Stream.{Stream}
 use Rattle.calls.specs.Table.{Table, search, some_slot, found}
-use Rattle.calls.specs.declared.Found.TheVariants.{At, Nothing}
+use Rattle.std.specs.Prelude.{None, Some}
 
 module _ (p : Stream → Bool) (t : Table) where
-  pub found_at : {i : ℕ} → found p t ≡ At i → (search p t ≡ i) × (some_slot p t ≡ true)
+  pub found_at : {i : ℕ} → found p t ≡ Some i → (search p t ≡ i) × (some_slot p t ≡ true)
   unfolding found
   found_at {i} e = go (some_slot p t) refl e
     where
-      go : (b : Bool) → some_slot p t ≡ b → cond b (At (search p t)) Nothing ≡ At i → (search p t ≡ i) × (some_slot p t ≡ true)
+      go : (b : Bool) → some_slot p t ≡ b → cond b (Some (search p t)) None ≡ Some i → (search p t ≡ i) × (some_slot p t ≡ true)
       go true s e = (cc, s)
       go false s e = absurd (let z : ◌≡◌ {A = ℕ} 0 1 = cc in omega arith)
 
-  pub found_none : found p t ≡ Nothing → some_slot p t ≡ false
+  pub found_none : found p t ≡ None → some_slot p t ≡ false
   unfolding found
   found_none e = go (some_slot p t) refl e
     where
-      go : (b : Bool) → some_slot p t ≡ b → cond b (At (search p t)) Nothing ≡ Nothing → some_slot p t ≡ false
+      go : (b : Bool) → some_slot p t ≡ b → cond b (Some (search p t)) None ≡ None → some_slot p t ≡ false
       go true s e = absurd (let z : ◌≡◌ {A = ℕ} 0 1 = cc in omega arith)
       go false s e = s
 
-  pub some-found : some_slot p t ≡ true → found p t ≡ At (search p t)
+  pub some-found : some_slot p t ≡ true → found p t ≡ Some (search p t)
   unfolding found
   some-found s = rw s
 
-  pub none_found : some_slot p t ≡ false → found p t ≡ Nothing
+  pub none_found : some_slot p t ≡ false → found p t ≡ None
   unfolding found
   none_found s = rw s
 

@@ -12,13 +12,12 @@ use lib.Dec.{ltb, leb-suc-suc, leb-zero}
 use lib.ListN.{length}
 use Rattle.record.specs.declared.Stream.{Stream}
 use Rattle.calls.specs.Table.{Table, at, search, some_slot, found, or_else, found_here}
-use Rattle.calls.specs.declared.Found.{Found}
-use Rattle.calls.specs.declared.Found.TheVariants.{At, Nothing}
+use Rattle.std.specs.Prelude.{Option, None, Some}
 
 -- one slot further on
-abbrev pub next : Found → Found
-next (At i) = At (suc i)
-next Nothing = Nothing
+abbrev pub next : Option ℕ → Option ℕ
+next (Some i) = Some (suc i)
+next None = None
 
 module _ (p : Stream → Bool) where
   some-step : (b : Bool) (m n : ℕ) → ltb (cond b 0 (suc m)) (suc n) ≡ (b || ltb m n)
@@ -29,16 +28,16 @@ module _ (p : Stream → Bool) where
   unfolding some_slot search
   some-cons s t = some-step (p s) (search p t) (length t)
 
-  found-step : (b c : Bool) (m : ℕ) → cond (b || c) (At (cond b 0 (suc m))) Nothing ≡ cond b (At 0) (next (cond c (At m) Nothing))
+  found-step : (b c : Bool) (m : ℕ) → cond (b || c) (Some (cond b 0 (suc m))) None ≡ cond b (Some 0) (next (cond c (Some m) None))
   found-step true c m = refl
   found-step false true m = refl
   found-step false false m = refl
 
-  pub found-cons : (s : Stream) (t : Table) → found p (s ∷ t) ≡ cond (p s) (At 0) (next (found p t))
+  pub found-cons : (s : Stream) (t : Table) → found p (s ∷ t) ≡ cond (p s) (Some 0) (next (found p t))
   unfolding found search
-  found-cons s t = ap (λ (b : Bool). cond b (At (cond (p s) 0 (suc (search p t)))) Nothing) (some-cons s t) ∙ found-step (p s) (some_slot p t) (search p t)
+  found-cons s t = ap (λ (b : Bool). cond b (Some (cond (p s) 0 (suc (search p t)))) None) (some-cons s t) ∙ found-step (p s) (some_slot p t) (search p t)
 
-  pub found-nil : found p [] ≡ Nothing
+  pub found-nil : found p [] ≡ None
   unfolding found some_slot search
   found-nil = refl
 
@@ -59,67 +58,67 @@ module _ (p : Stream → Bool) where
   some-snoc [] s = some-cons s [] ∙ ap (λ (b : Bool). p s || b) some-nil ∙ or_nil (p s) ∙ ap (λ (b : Bool). b || p s) (sym some-nil)
   some-snoc (x ∷ t) s = some-cons x (t ++ s ∷ []) ∙ ap (λ (b : Bool). p x || b) (some-snoc t s) ∙ or_assoc (p x) (some_slot p t) (p s) ∙ ap (λ (b : Bool). b || p s) (sym (some-cons x t))
 
-  snoc-step : (b : Bool) (f : Found) (c : Bool) (n : ℕ) → cond b (At 0) (next (or_else f (cond c (At n) Nothing))) ≡ or_else (cond b (At 0) (next f)) (cond c (At (suc n)) Nothing)
+  snoc-step : (b : Bool) (f : Option ℕ) (c : Bool) (n : ℕ) → cond b (Some 0) (next (or_else f (cond c (Some n) None))) ≡ or_else (cond b (Some 0) (next f)) (cond c (Some (suc n)) None)
   snoc-step true f c n = refl
-  snoc-step false (At i) c n = refl
-  snoc-step false Nothing true n = refl
-  snoc-step false Nothing false n = refl
+  snoc-step false (Some i) c n = refl
+  snoc-step false None true n = refl
+  snoc-step false None false n = refl
 
   pub found-snoc : (t : Table) (s : Stream) → found p (t ++ s ∷ []) ≡ or_else (found p t) (found_here p s (length t))
-  found-snoc [] s = found-cons s [] ∙ ap (λ (f : Found). cond (p s) (At 0) (next f)) found-nil ∙ ap (λ (f : Found). or_else f (found_here p s 0)) (sym found-nil)
+  found-snoc [] s = found-cons s [] ∙ ap (λ (f : Option ℕ). cond (p s) (Some 0) (next f)) found-nil ∙ ap (λ (f : Option ℕ). or_else f (found_here p s 0)) (sym found-nil)
   found-snoc (x ∷ t) s =
-      found-cons x (t ++ s ∷ []) ∙ ap (λ (f : Found). cond (p x) (At 0) (next f)) (found-snoc t s) ∙ snoc-step (p x) (found p t) (p s) (length t)
-      ∙ ap (λ (f : Found). or_else f (found_here p s (suc (length t)))) (sym (found-cons x t))
+      found-cons x (t ++ s ∷ []) ∙ ap (λ (f : Option ℕ). cond (p x) (Some 0) (next f)) (found-snoc t s) ∙ snoc-step (p x) (found p t) (p s) (length t)
+      ∙ ap (λ (f : Option ℕ). or_else f (found_here p s (suc (length t)))) (sym (found-cons x t))
 
   -- ---- what stands in front decides
-  front-step : (b : Bool) (f g : Found) → or_else f g ≡ g → or_else (cond b (At 0) (next f)) (cond b (At 0) (next g)) ≡ cond b (At 0) (next g)
+  front-step : (b : Bool) (f g : Option ℕ) → or_else f g ≡ g → or_else (cond b (Some 0) (next f)) (cond b (Some 0) (next g)) ≡ cond b (Some 0) (next g)
   front-step true f g e = refl
-  front-step false (At i) g e = ap next e
-  front-step false Nothing g e = refl
+  front-step false (Some i) g e = ap next e
+  front-step false None g e = refl
 
   pub found_front : (t u : Table) → or_else (found p t) (found p (t ++ u)) ≡ found p (t ++ u)
-  found_front [] u = ap (λ (f : Found). or_else f (found p u)) found-nil
-  found_front (x ∷ t) u = ap (λ (f : Found). or_else f (found p (x ∷ t ++ u))) (found-cons x t) ∙ ap (λ (f : Found). or_else (cond (p x) (At 0) (next (found p t))) f) (found-cons x (t ++ u))
+  found_front [] u = ap (λ (f : Option ℕ). or_else f (found p u)) found-nil
+  found_front (x ∷ t) u = ap (λ (f : Option ℕ). or_else f (found p (x ∷ t ++ u))) (found-cons x t) ∙ ap (λ (f : Option ℕ). or_else (cond (p x) (Some 0) (next (found p t))) f) (found-cons x (t ++ u))
       ∙ front-step (p x) (found p t) (found p (t ++ u)) (found_front t u) ∙ sym (found-cons x (t ++ u))
 
   -- ---- what a slot that is found is
-  no_slot : {A : Type 0} (i : ℕ) → Nothing ≡ At i → A
+  no_slot : {A : Type 0} (i : ℕ) → None ≡ Some i → A
   no_slot i e = let z : ◌≡◌ {A = ℕ} 0 1 = cc in absurd (omega arith)
 
-  pub found_within : (t : Table) (i : ℕ) → found p t ≡ At i → i < length t
+  pub found_within : (t : Table) (i : ℕ) → found p t ≡ Some i → i < length t
   found_within [] i e = no_slot i (sym found-nil ∙ e)
   found_within (x ∷ t) i e = step (p x) (found p t) i (sym (found-cons x t) ∙ e) (found_within t)
     where
-      step : (b : Bool) (f : Found) (i : ℕ) → cond b (At 0) (next f) ≡ At i → ((j : ℕ) → f ≡ At j → j < length t) → i < suc (length t)
+      step : (b : Bool) (f : Option ℕ) (i : ℕ) → cond b (Some 0) (next f) ≡ Some i → ((j : ℕ) → f ≡ Some j → j < length t) → i < suc (length t)
       step true f i e h = let z : i ≡ 0 = cc in omega (arith, z)
-      step false (At j) i e h = let z : i ≡ suc j = cc in let l : j < length t = h j refl in omega (arith, z, l)
-      step false Nothing i e h = no_slot i e
+      step false (Some j) i e h = let z : i ≡ suc j = cc in let l : j < length t = h j refl in omega (arith, z, l)
+      step false None i e h = no_slot i e
 
-  pub found-passes : (t : Table) (i : ℕ) → found p t ≡ At i → p (at t i) ≡ true
+  pub found-passes : (t : Table) (i : ℕ) → found p t ≡ Some i → p (at t i) ≡ true
   found-passes [] i e = no_slot i (sym found-nil ∙ e)
   found-passes (x ∷ t) i e = step (p x) (found p t) i refl (sym (found-cons x t) ∙ e) (found-passes t)
     where
-      step : (b : Bool) (f : Found) (i : ℕ) → p x ≡ b → cond b (At 0) (next f) ≡ At i → ((j : ℕ) → f ≡ At j → p (at t j) ≡ true) → p (at (x ∷ t) i) ≡ true
+      step : (b : Bool) (f : Option ℕ) (i : ℕ) → p x ≡ b → cond b (Some 0) (next f) ≡ Some i → ((j : ℕ) → f ≡ Some j → p (at t j) ≡ true) → p (at (x ∷ t) i) ≡ true
       step true f i b e h = let z : i ≡ 0 = cc in rw z b
-      step false (At j) i b e h = let z : i ≡ suc j = cc in rw z (h j refl)
-      step false Nothing i b e h = no_slot i e
+      step false (Some j) i b e h = let z : i ≡ suc j = cc in rw z (h j refl)
+      step false None i b e h = no_slot i e
 
-  pub found_below : (t : Table) (i k : ℕ) → found p t ≡ At i → k < i → p (at t k) ≡ false
+  pub found_below : (t : Table) (i k : ℕ) → found p t ≡ Some i → k < i → p (at t k) ≡ false
   found_below [] i k e l = no_slot i (sym found-nil ∙ e)
   found_below (x ∷ t) i k e l = step (p x) (found p t) i k refl (sym (found-cons x t) ∙ e) l (found_below t)
     where
-      step : (b : Bool) (f : Found) (i k : ℕ) → p x ≡ b → cond b (At 0) (next f) ≡ At i → k < i → ((j m : ℕ) → f ≡ At j → m < j → p (at t m) ≡ false) → p (at (x ∷ t) k) ≡ false
+      step : (b : Bool) (f : Option ℕ) (i k : ℕ) → p x ≡ b → cond b (Some 0) (next f) ≡ Some i → k < i → ((j m : ℕ) → f ≡ Some j → m < j → p (at t m) ≡ false) → p (at (x ∷ t) k) ≡ false
       step true f i k b e l h = let z : i ≡ 0 = cc in absurd (omega (arith, z, l))
-      step false (At j) i zero b e l h = b
-      step false (At j) i (suc m) b e l h = let z : i ≡ suc j = cc in let lo : m < j = omega (arith, z, l) in h j m refl lo
-      step false Nothing i k b e l h = no_slot i e
+      step false (Some j) i zero b e l h = b
+      step false (Some j) i (suc m) b e l h = let z : i ≡ suc j = cc in let lo : m < j = omega (arith, z, l) in h j m refl lo
+      step false None i k b e l h = no_slot i e
 
-  pub found-no-slot : (t : Table) (k : ℕ) → found p t ≡ Nothing → k < length t → p (at t k) ≡ false
+  pub found-no-slot : (t : Table) (k : ℕ) → found p t ≡ None → k < length t → p (at t k) ≡ false
   found-no-slot [] k e l = absurd (not-suc-le-zero l)
   found-no-slot (x ∷ t) k e l = step (p x) (found p t) k refl (sym (found-cons x t) ∙ e) l (found-no-slot t)
     where
-      step : (b : Bool) (f : Found) (k : ℕ) → p x ≡ b → cond b (At 0) (next f) ≡ Nothing → k < suc (length t) → ((m : ℕ) → f ≡ Nothing → m < length t → p (at t m) ≡ false) → p (at (x ∷ t) k) ≡ false
+      step : (b : Bool) (f : Option ℕ) (k : ℕ) → p x ≡ b → cond b (Some 0) (next f) ≡ None → k < suc (length t) → ((m : ℕ) → f ≡ None → m < length t → p (at t m) ≡ false) → p (at (x ∷ t) k) ≡ false
       step true f k b e l h = no_slot 0 (sym e)
-      step false (At j) k b e l h = no_slot (suc j) (sym e)
-      step false Nothing zero b e l h = b
-      step false Nothing (suc m) b e l h = h m refl (le_of_suc-le-suc l)
+      step false (Some j) k b e l h = no_slot (suc j) (sym e)
+      step false None zero b e l h = b
+      step false None (suc m) b e l h = h m refl (le_of_suc-le-suc l)

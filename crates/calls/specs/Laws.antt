@@ -16,11 +16,10 @@ use Rattle.calls.specs.Table.{Table, at, search, some_slot, hears, is_free}
 use Rattle.calls.specs.Calls.{Call, arriving, Act, refuse, arrive, opens, closes, resets, ticks, act, after, answer, output, out_of, written_for, handed_up, arrived, Result, Meets}
 use Rattle.calls.specs.Said.{said_arrival, said_opened, said_done, said_swept}
 use Rattle.calls.specs.Steps.{said_asked}
-use Rattle.calls.specs.declared.Asked.{Asked}
-use Rattle.calls.specs.declared.Answer.{Answer}
-use Rattle.calls.specs.declared.Opened.{Opened}
-use Rattle.calls.specs.declared.Done.{Done}
-use Rattle.calls.specs.declared.Swept.{Swept}
+use Rattle.std.specs.Prelude.{Result as Answered}
+use Rattle.refusal.specs.declared.Refusal.{Refusal}
+use Rattle.calls.specs.declared.Arrived.{Arrived}
+use Rattle.calls.specs.declared.Sums.{Sums}
 
 -- Two results that meet the contract of a call coincide,
 abbrev pub Coincide : Type 0
@@ -29,14 +28,14 @@ Coincide = (t : Table) (c : Call) (r s : Result) → Meets t c r → Meets t c s
 -- and equal `said` means equal answers.
 abbrev pub AnswersTell : Type 0
 AnswersTell =
-    ((r s : Answer) → said_arrival r ≡ said_arrival s → r ≡ s)
-    × ((r s : Opened) → said_opened r ≡ said_opened s → r ≡ s)
-    × ((r s : Done) → said_done r ≡ said_done s → r ≡ s)
-    × ((r s : Swept) → said_swept r ≡ said_swept s → r ≡ s)
+    ((r s : Answered Arrived Refusal) → said_arrival r ≡ said_arrival s → r ≡ s)
+    × ((r s : Answered ℕ Refusal) → said_opened r ≡ said_opened s → r ≡ s)
+    × ((r s : Answered Unit Refusal) → said_done r ≡ said_done s → r ≡ s)
+    × ((r s : Answered Sums Refusal) → said_swept r ≡ said_swept s → r ≡ s)
 
 -- So it is of what an arrival asks of the table.
 abbrev pub AskedTells : Type 0
-AskedTells = (r s : Asked) → said_asked r ≡ said_asked s → r ≡ s
+AskedTells = (r s : Answered Tag Refusal) → said_asked r ≡ said_asked s → r ≡ s
 
 -- "A refusal returns its number and changes nothing: no record, counter or output byte."
 abbrev pub RefusedChangesNothing : Type 0

@@ -1,15 +1,12 @@
 -- Document 01, "The stream record" and "Calls and the order of checks": a table of streams and the search in it.
 -- Assumes nothing.
-use Rattle.std.specs.Prelude.{ℕ, zero, suc, ◌+◌, Bool, ◌&&◌, not, List, [], ◌∷◌, eqb, ltb, get_or, length}
+use Rattle.std.specs.Prelude.{ℕ, zero, suc, ◌+◌, Bool, ◌&&◌, not, List, [], ◌∷◌, eqb, ltb, get_or, length, Option, None, Some}
 use Rattle.std.specs.Bool.{beq}
 use Rattle.record.specs.declared.Stream.{Stream}
 use Rattle.std.specs.Prelude.{if◌then◌else◌}
 use Rattle.record.specs.Words.{yes}
 use Rattle.record.specs.Sizes.{link_rule}
 use Rattle.stream.specs.History.{empty}
-use Rattle.calls.specs.declared.Found.{Found}
-use Rattle.calls.specs.declared.Found.TheVariants.{At, Nothing}
-use Rattle.calls.specs.declared.Survey.{Survey}
 
 abbrev pub Table : Type 0
 Table = List Stream
@@ -41,8 +38,8 @@ unfoldable pub some_slot : (Stream → Bool) → Table → Bool
 some_slot p t = ltb (search p t) (length t)
 
 -- "the search stops at it and yields its place": the lowest slot whose record passes, where there is one
-unfoldable pub found : (Stream → Bool) → Table → Found
-found p t = if some_slot p t then At (search p t) else Nothing
+unfoldable pub found : (Stream → Bool) → Table → Option ℕ
+found p t = if some_slot p t then Some (search p t) else None
 
 -- how many slots have a record that passes
 unfoldable pub count : (Stream → Bool) → Table → ℕ
@@ -66,14 +63,10 @@ hears link dest vlan s = has_key dest vlan s && beq (of_links s) link
 unfoldable pub is_free : Stream → Bool
 is_free s = not (yes s.used)
 
--- what an open has to know of a table: has a slot in use the key, and which is the lowest free slot?
-unfoldable pub surveyed : (dest vlan : ℕ) → Table → Survey
-surveyed dest vlan t = record { taken = some_slot (has_key dest vlan) t; free = found is_free t }
+-- What is found, slot by slot: what is found in front, or else here.
+abbrev pub or_else : Option ℕ → Option ℕ → Option ℕ
+or_else (Some i) f = Some i
+or_else None f = f
 
--- The same slot by slot: what is found in front, or else here.
-abbrev pub or_else : Found → Found → Found
-or_else (At i) f = At i
-or_else Nothing f = f
-
-abbrev pub found_here : (Stream → Bool) → Stream → ℕ → Found
-found_here p s i = if p s then At i else Nothing
+abbrev pub found_here : (Stream → Bool) → Stream → ℕ → Option ℕ
+found_here p s i = if p s then Some i else None

@@ -11,13 +11,11 @@ ghost use Rattle.std.specs.Prelude.{◌≡◌};
 ghost use Rattle.calls.specs.Ticks.{no_sums, visited};
 ghost use Rattle.calls.specs.Table.{blank, hears};
 
-pub use arrival::{ask, finish, fits, judge, refused, unknown};
-use frame::{Header, Rank};
-pub use link::{ask_link, finish_link, fits_link, refused_link};
+pub use arrival::{ask, finish, fits, judge};
+use frame::Rank;
+pub use link::{ask_link, finish_link, fits_link};
 use record::{Counts, State, Stream};
-pub use slot::{close, is_done, is_free, is_opened, place, reset, seen};
-use stream::Marks;
-pub use told::tell_arrival;
+pub use slot::{close, is_free, place, reset};
 
 // What an arrival was found to be.
 #[derive(Clone, Copy)]
@@ -28,22 +26,19 @@ pub enum Verdict {
     Rogue,
 }
 
-// The answer of an arrival: a refusal's number, or its stream's slot, its number, its priority and its verdict.
+// What an arrival that is not refused answers: its stream's slot, its number, its priority and its verdict.
 #[derive(Clone, Copy)]
-pub enum Answer {
-    Refused(u8),
-    Arrival {
-        slot: usize,
-        number: u16,
-        rank: Rank,
-        verdict: Verdict,
-    },
+pub struct Arrived {
+    pub slot: usize,
+    pub number: u16,
+    pub rank: Rank,
+    pub verdict: Verdict,
 }
 
-// The same in plain fields, since an enum can't cross to C, and an array of these is what a batch answers. Refusal 0: verdict
-// is 1 handed up, 2 duplicate, 3 rogue, and length is what was written to the output, 0 but for a frame handed up. Where it
-// is refused, refusal is the number and the rest is 0. The rank goes through as one: of two fields here the compiler parted it,
-// at three instructions an arrival (docs/SPEED.md).
+// The same, or a refusal, in plain fields, since an enum can't cross to C, and an array of these is what a batch answers. Refusal
+// 0: verdict is 1 handed up, 2 duplicate, 3 rogue, and length is what was written to the output, 0 but for a frame handed up.
+// Where it is refused, refusal is the number and the rest is 0. The rank goes through as one: of two fields here the compiler
+// parted it, at three instructions an arrival (docs/SPEED.md).
 #[repr(C)]
 #[derive(Clone, Copy)]
 pub struct ArrivalAnswer {
@@ -55,57 +50,12 @@ pub struct ArrivalAnswer {
     pub rank: Rank,
 }
 
-// The answer of an open: the slot.
-#[derive(Clone, Copy)]
-pub enum Opened {
-    Refused(u8),
-    At(usize),
-}
-
-// The answer of a close and of a reset.
-#[derive(Clone, Copy)]
-pub enum Done {
-    Refused(u8),
-    Ok,
-}
-
-// The answer of a tick: how many streams it reset, and how many records in use are damaged.
-#[derive(Clone, Copy)]
-pub enum Swept {
-    Refused(u8),
-    Counted(u64, u64),
-}
-
-// What an arrival asks of the table, by its frame's header and number; or 1 to 5 and 14.
-#[derive(Clone, Copy)]
-pub enum Asked {
-    Refused(u8),
-    For(Header, u16),
-}
-
-// What an arrival is to its record; or 7 and 8.
-#[derive(Clone, Copy)]
-pub enum Judged {
-    Refused(u8),
-    HandedUp(Marks),
-    Duplicate,
-    Rogue,
-}
-
-// The answer of an open, and what it stores. Where it is refused the slot lies beyond the table, so nothing is stored.
-#[derive(Clone, Copy)]
-pub struct Placing {
-    pub answer: Opened,
-    pub slot: usize,
-    pub stream: Stream,
-}
-
-// The answer of a close or a reset, and what it stores, in the same way.
-#[derive(Clone, Copy)]
-pub struct Change {
-    pub answer: Done,
-    pub slot: usize,
-    pub stream: Stream,
+// The key that is asked for: a destination and a VLAN id, among the virtual links or among the rest (document 02, order 10).
+#[derive(Clone, Copy, Debug, PartialEq, Eq)]
+pub struct Key {
+    pub dest: u64,
+    pub vlan: u16,
+    pub link: bool,
 }
 
 // The key that is asked for: a destination and a VLAN id, among the virtual links or among the rest (document 02, order 10).
@@ -136,22 +86,6 @@ pub fn hears(s: Stream, key: Key) -> bool
         return false;
     }
     s.used != 0
-}
-
-// The slot that a search was for.
-#[derive(Clone, Copy)]
-pub enum Found {
-    At(usize),
-    Nothing,
-}
-
-// What an open has to know of a table.
-#[derive(Clone, Copy)]
-pub struct Survey {
-    // A slot in use has the key.
-    pub taken: bool,
-    // The lowest free slot.
-    pub free: Found,
 }
 
 // A slot that never was in use.

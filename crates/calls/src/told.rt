@@ -1,62 +1,43 @@
 // An arrival's answer in plain fields.
 ghost use Rattle.std.specs.Prelude.{◌≡◌};
-ghost use Rattle.calls.specs.Said.{said_verdict, said_arrival};
-ghost use Rattle.calls.specs.Told.{tell_verdict, tell_arrival};
+ghost use Rattle.calls.specs.Said.{said_arrival};
+ghost use Rattle.calls.specs.Told.{tell_arrival};
 
-use super::{Answer, ArrivalAnswer, Verdict};
+use super::{ArrivalAnswer, Arrived, Verdict};
 use frame::Rank;
+use refusal::Refusal;
 
-fn tell_verdict(slot: usize, number: u16, rank: Rank, v: Verdict) -> ArrivalAnswer
-    ensures { result ≡ tell_verdict slot number rank (said_verdict v) }
-{
-    match v {
-        Verdict::HandedUp(length) => ArrivalAnswer {
-            slot,
-            length,
-            number,
-            verdict: 1,
-            refusal: 0,
-            rank,
-        },
-        Verdict::Duplicate => ArrivalAnswer {
-            slot,
-            length: 0,
-            number,
-            verdict: 2,
-            refusal: 0,
-            rank,
-        },
-        Verdict::Rogue => ArrivalAnswer {
-            slot,
-            length: 0,
-            number,
-            verdict: 3,
-            refusal: 0,
-            rank,
-        },
-    }
-}
+impl From<Result<Arrived, Refusal>> for ArrivalAnswer {
+    ghost from_gives = { λ answer told. told ≡ tell_arrival (said_arrival answer) };
 
-pub fn tell_arrival(a: Answer) -> ArrivalAnswer
-    ensures { result ≡ tell_arrival (said_arrival a) }
-{
-    match a {
-        Answer::Refused(refusal) => ArrivalAnswer {
-            slot: 0,
-            length: 0,
-            number: 0,
-            verdict: 0,
-            refusal,
-            rank: Rank {
-                priority: 0,
-                vlantag: 0,
+    fn from(answer: Result<Arrived, Refusal>) -> ArrivalAnswer {
+        match answer {
+            Ok(arrival) => {
+                let (verdict, length) = match arrival.verdict {
+                    Verdict::HandedUp(length) => (1, length),
+                    Verdict::Duplicate => (2, 0),
+                    Verdict::Rogue => (3, 0),
+                };
+                ArrivalAnswer {
+                    slot: arrival.slot,
+                    length,
+                    number: arrival.number,
+                    verdict,
+                    refusal: 0,
+                    rank: arrival.rank,
+                }
+            }
+            Err(refusal) => ArrivalAnswer {
+                slot: 0,
+                length: 0,
+                number: 0,
+                verdict: 0,
+                refusal: refusal.into(),
+                rank: Rank {
+                    priority: 0,
+                    vlantag: 0,
+                },
             },
-        },
-        Answer::Arrival {
-            slot,
-            number,
-            rank,
-            verdict,
-        } => tell_verdict(slot, number, rank, verdict),
+        }
     }
 }

@@ -16,10 +16,8 @@ use Rattle.frame.specs.Bytes.{word}
 use Rattle.frame.specs.Frame.{Tag, type_at, has_vlan, is_tagged, head_short, tag_short, header_of, rank_of, unranked, head_of, dest_of, vlan_of, number_in, read_of}
 use Rattle.frame.specs.TagCalls.{said_head, said_read}
 use Rattle.frame.specs.declared.Header.{Header}
-use Rattle.frame.specs.declared.Head.{Head}
-use Rattle.frame.specs.declared.Head.TheVariants.{Short, Whole}
-use Rattle.frame.specs.declared.TagRead.{TagRead}
-use Rattle.frame.specs.declared.TagRead.TheVariants.{Tagged}
+use Rattle.std.specs.Prelude.{Option, None, Some, Result, Ok}
+use Rattle.refusal.specs.declared.Refusal.{Refusal}
 
 -- ---- the type field
 
@@ -97,14 +95,14 @@ pub record HeadIs (f : List ℕ) (h : Header) : Type 0 where
   pub tagged : h.tagged ≡ is_tagged f
   pub same : h ≡ header_of f
 
-pub head-is : (f : List ℕ) {r : Head} (h : Header) → said_head r ≡ head_of f → r ≡ Whole h → HeadIs f h
+pub head-is : (f : List ℕ) {r : Option Header} (h : Header) → said_head r ≡ head_of f → r ≡ Some h → HeadIs f h
 unfolding head_of header_of
 head-is f h p q =
     let a = passed (head_short f) SHORT (ap said_head (sym q) ∙ p) in
     let same : h ≡ header_of f = cc a.1 in
     record { room = head-room f a.0; at = ap (λ x. x.at) same; tagged = ap (λ x. x.tagged) same; same = same }
 
-pub short-is : (f : List ℕ) {r : Head} → said_head r ≡ head_of f → r ≡ Short → head_short f ≡ true
+pub short-is : (f : List ℕ) {r : Option Header} → said_head r ≡ head_of f → r ≡ None → head_short f ≡ true
 unfolding head_of
 short-is f p q = go (head_short f) (ap said_head (sym q) ∙ p)
   where
@@ -159,8 +157,8 @@ tag_of f t p =
     let same : t.header ≡ header_of f = ap (λ x. x.header) tag in
     record { few = ltb-false _ _ a.0; room = ltb-false _ _ (rw g at d.0); tagged = g; at = ap (λ x. x.at) same; number = ap (λ x. x.number) tag; same = same }
 
-pub tag_is : (f : List ℕ) {r : TagRead} (h : Header) (n : ℕ) → said_read r ≡ read_of f → r ≡ Tagged h n → TagIs f h n
-tag_is f h n p q = tag_of f (record { header = h; number = n }) (sym p ∙ ap said_read q)
+pub tag_is : (f : List ℕ) {r : Result Tag Refusal} (t : Tag) → said_read r ≡ read_of f → r ≡ Ok t → TagIs f t.header t.number
+tag_is f t p q = tag_of f t (sym p ∙ ap said_read q)
 
 -- and the other way
 pub read_is : (f : List ℕ) → length f ≤ frame_most → type_at f + 8 ≤ length f → is_tagged f ≡ true

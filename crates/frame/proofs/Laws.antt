@@ -1,6 +1,6 @@
 -- What else holds of one frame's bytes: the priority bits, the destination as one number, that two outcomes coincide, and that a refusal
 -- changes nothing. Assumes nothing.
-use mathlib.Core.Path.{◌≡◌, refl, sym, ap, ap₂, ◌∙◌}
+use mathlib.Core.Path.{◌≡◌, refl, sym, ap, ◌∙◌}
 use Prim.Native.Nat.{ℕ, ◌+◌, ◌-◌, ◌*◌, ◌/◌, ◌%◌, ◌≤◌, ◌<◌}
 use native.Mathlib.Omega.{arith}
 use native.Mathlib.Decide.{dec_lt}
@@ -13,18 +13,11 @@ use Rattle.refusal.specs.Checks.Said.{refused, answers}
 use Rattle.refusal.proofs.Checks.{same-value}
 use Rattle.frame.specs.Bytes.{word, overlay, Bytes}
 use Rattle.frame.specs.Frame.{Tag, vlan_of, rank_of, read_of, untagged, write_of}
-use Rattle.frame.specs.TagCalls.{take_from, take_tag, write_into, write_tag, said_head, said_read, said_place, said_taken, said_written}
+use Rattle.frame.specs.TagCalls.{take_from, take_tag, write_into, write_tag, said_head}
 use Rattle.frame.specs.Laws.{PriorityBits, DestSix, TakeRefusedKeeps, WriteRefusedKeeps, Coincide, AnswersTell}
-use Rattle.frame.specs.declared.Head.{Head}
-use Rattle.frame.specs.declared.Head.TheVariants as head
-use Rattle.frame.specs.declared.TagRead.{TagRead}
-use Rattle.frame.specs.declared.TagRead.TheVariants as read
-use Rattle.frame.specs.declared.TagPlace.{TagPlace}
-use Rattle.frame.specs.declared.TagPlace.TheVariants as place
-use Rattle.frame.specs.declared.Taken.{Taken}
-use Rattle.frame.specs.declared.Taken.TheVariants as taken
-use Rattle.frame.specs.declared.Written.{Written}
-use Rattle.frame.specs.declared.Written.TheVariants as written
+use Rattle.std.specs.Prelude.{Option, None, Some}
+use Rattle.frame.specs.declared.Header.{Header}
+use Rattle.refusal.proofs.Checks.{said-tells}
 use Rattle.frame.proofs.Writes.{picks-keeps}
 use Rattle.frame.proofs.Words.{six}
 
@@ -60,37 +53,13 @@ pub coincide : Coincide
 coincide A B said tell o r s x y p q = (tell r s (p.0 ∙ sym q.0), p.1 ∙ sym q.1)
 
 pub answers-tell : AnswersTell
-answers-tell = (heads, reads, places, takens, writtens)
+answers-tell = (heads, said-tells _, said-tells _, said-tells _, said-tells _)
   where
-    heads : (r s : Head) → said_head r ≡ said_head s → r ≡ s
-    heads head.Short head.Short e = refl
-    heads head.Short (head.Whole h) e = cc
-    heads (head.Whole h) head.Short e = cc
-    heads (head.Whole h) (head.Whole k) e = cc
-
-    reads : (r s : TagRead) → said_read r ≡ said_read s → r ≡ s
-    reads (read.Refused n) (read.Refused m) e = cc
-    reads (read.Refused n) (read.Tagged h m) e = cc
-    reads (read.Tagged h n) (read.Refused m) e = cc
-    reads (read.Tagged h n) (read.Tagged k m) e = let t = same-value e in ap₂ read.Tagged (ap (λ x. x.header) t) (ap (λ x. x.number) t)
-
-    places : (r s : TagPlace) → said_place r ≡ said_place s → r ≡ s
-    places (place.Refused n) (place.Refused m) e = cc
-    places (place.Refused n) (place.At o) e = cc
-    places (place.At o) (place.Refused m) e = cc
-    places (place.At o) (place.At p) e = cc
-
-    takens : (r s : Taken) → said_taken r ≡ said_taken s → r ≡ s
-    takens (taken.Refused n) (taken.Refused m) e = cc
-    takens (taken.Refused n) (taken.Out m l) e = cc
-    takens (taken.Out n k) (taken.Refused m) e = cc
-    takens (taken.Out n k) (taken.Out m l) e = let t = same-value e in ap₂ taken.Out (ap (λ x. x.number) t) (ap (λ x. x.length) t)
-
-    writtens : (r s : Written) → said_written r ≡ said_written s → r ≡ s
-    writtens (written.Refused n) (written.Refused m) e = cc
-    writtens (written.Refused n) (written.Out l) e = cc
-    writtens (written.Out k) (written.Refused m) e = cc
-    writtens (written.Out k) (written.Out l) e = cc
+    heads : (r s : Option Header) → said_head r ≡ said_head s → r ≡ s
+    heads None None e = refl
+    heads None (Some h) e = cc
+    heads (Some h) None e = cc
+    heads (Some h) (Some k) e = ap Some (same-value e)
 
 -- ---- a refusal changes nothing
 

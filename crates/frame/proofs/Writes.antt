@@ -15,10 +15,11 @@ use Rattle.refusal.proofs.Checks.{passed, same-value}
 use Rattle.record.specs.Sizes.{frame_most, untagged_most}
 use Rattle.frame.specs.Bytes.{overlay}
 use Rattle.frame.specs.Frame.{type_at, group_source, has_vlan, is_tagged, head_short, read_of, cut_at, tag_at, tagged, place_of, put_at, write_of}
-use Rattle.frame.specs.TagCalls.{Outcome, take_tag, take_from, write_into, write_tag, said_read, refusal_of, type_place, cut_fits, written_without, tag_fits, written_with}
-use Rattle.frame.specs.declared.Header.{Header}
-use Rattle.frame.specs.declared.TagRead.{TagRead}
-use Rattle.frame.specs.declared.TagRead.TheVariants.{Refused, Tagged}
+use Rattle.frame.specs.TagCalls.{Outcome, take_tag, take_from, write_into, write_tag, said_read, type_place, cut_fits, written_without, tag_fits, written_with}
+use Rattle.frame.specs.Frame.{Tag}
+use Rattle.std.specs.Prelude.{Result, Ok, Err}
+use Rattle.refusal.specs.Numbers.{number_of}
+use Rattle.refusal.specs.declared.Refusal.{Refusal}
 use Rattle.frame.proofs.Heads.{head-whole, head-room, tag_is}
 
 -- ---- where a type field can stand
@@ -121,21 +122,21 @@ picks-keeps false a out new k e = absurd (let z : ◌≡◌ {A = ℕ} 0 1 = cc i
 -- ---- taking a tag out
 
 module _ (f out : List ℕ) where
-  pub take-refused : {r : TagRead} {n m : ℕ} → said_read r ≡ read_of f → r ≡ Refused m → n ≡ refusal_of r
-      → (refused n ≡ (take_tag f out).said) × (out ≡ (take_tag f out).bytes)
+  pub take-refused : {r : Result Tag Refusal} (m : Refusal) → said_read r ≡ read_of f → r ≡ Err m
+      → (refused (number_of m) ≡ (take_tag f out).said) × (out ≡ (take_tag f out).bytes)
   unfolding take_tag take_from
-  take-refused p q e = rw (sym p ∙ ap said_read q, e ∙ ap refusal_of q) (refl, refl)
+  take-refused m p q = rw (sym p ∙ ap said_read q) (refl, refl)
 
-  module _ {r : TagRead} (h : Header) (n : ℕ) (p : said_read r ≡ read_of f) (q : r ≡ Tagged h n) where
+  module _ {r : Result Tag Refusal} (t : Tag) (p : said_read r ≡ read_of f) (q : r ≡ Ok t) where
     pub take-small : length out < length f - 6 → (refused ROOM ≡ (take_tag f out).said) × (out ≡ (take_tag f out).bytes)
     unfolding take_tag take_from
     take-small s = rw (sym p ∙ ap said_read q) (simp (lt-ltb _ _ s) (refl, refl))
 
-    pub take_done : {new : List ℕ} → length f - 6 ≤ length out → new ≡ written_without f h.at out
-        → (answers (record { number = n; length = length f - 6 }) ≡ (take_tag f out).said) × (new ≡ (take_tag f out).bytes)
+    pub take_done : {new : List ℕ} → length f - 6 ≤ length out → new ≡ written_without f t.header.at out
+        → (answers (record { number = t.number; length = length f - 6 }) ≡ (take_tag f out).said) × (new ≡ (take_tag f out).bytes)
     unfolding take_tag take_from
     take_done s e =
-        let k = tag_is f h n p q in
+        let k = tag_is f t p q in
         let w : written_without f (type_at f) out ≡ overlay (cut_at f (type_at f)) out = without-fits f (type_at f) out (type-place f) (omega arith) k.few (omega arith) in
         rw (sym p ∙ ap said_read q) (simp (le-ltb _ _ s) (refl, e ∙ ap (λ (o : ℕ). written_without f o out) k.at ∙ w))
 

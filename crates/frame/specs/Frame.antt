@@ -9,6 +9,7 @@ use Rattle.record.specs.Sizes.{frame_most, untagged_most}
 use Rattle.frame.specs.Bytes.{word}
 use Rattle.frame.specs.declared.Header.{Header}
 use Rattle.frame.specs.declared.Rank.{Rank}
+use Rattle.frame.specs.declared.Tag as declared
 
 -- Destination 6 bytes: as one number, high byte first.
 abbrev pub dest_of : List ℕ → ℕ
@@ -71,9 +72,8 @@ unfoldable pub header_of : List ℕ → Header
 header_of f = record { dest = dest_of f; vlan = vlan_of f; at = type_at f; tagged = is_tagged f; rank = rank_of f }
 
 -- and with the tag of a tagged frame, the number too.
-pub record Tag : Type 0 where
-  pub header : Header
-  pub number : ℕ
+abbrev pub Tag : Type 0
+Tag = declared.Tag
 
 -- The header of a frame that is long enough to have one.
 unfoldable pub head_of : List ℕ → Said Header

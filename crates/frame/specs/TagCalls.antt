@@ -1,7 +1,8 @@
 -- Document 01, "Calls and the order of checks": write a tag and take a tag out, with their output buffer; and what
 -- each case of an answer enum says. Assumes nothing.
-use Rattle.std.specs.Prelude.{ℕ, ◌+◌, ◌-◌, Bool, ◌&&◌, ◌||◌, List, length, ltb, leb, eqb}
-use Rattle.refusal.specs.Checks.{Said}
+use Rattle.std.specs.Prelude.{ℕ, ◌+◌, ◌-◌, Bool, ◌&&◌, ◌||◌, List, length, ltb, leb, eqb, Option, None, Some, Result}
+use Rattle.refusal.specs.Checks.{Said, said}
+use Rattle.refusal.specs.declared.Refusal.{Refusal}
 use Rattle.refusal.specs.Checks.Said.{refused, answers}
 use Rattle.refusal.specs.Numbers.{SHORT, ROOM}
 use Rattle.std.specs.Prelude.{if◌then◌else◌}
@@ -9,16 +10,7 @@ use Rattle.record.specs.Sizes.{frame_most, untagged_most}
 use Rattle.frame.specs.Bytes.{overlay}
 use Rattle.frame.specs.Frame.{Tag, read_of, write_of, cut_at, tag_at, untagged}
 use Rattle.frame.specs.declared.Header.{Header}
-use Rattle.frame.specs.declared.Head.{Head}
-use Rattle.frame.specs.declared.Head.TheVariants as head
-use Rattle.frame.specs.declared.TagRead.{TagRead}
-use Rattle.frame.specs.declared.TagRead.TheVariants as read
-use Rattle.frame.specs.declared.TagPlace.{TagPlace}
-use Rattle.frame.specs.declared.TagPlace.TheVariants as place
-use Rattle.frame.specs.declared.Taken.{Taken}
-use Rattle.frame.specs.declared.Taken.TheVariants as taken
-use Rattle.frame.specs.declared.Written.{Written}
-use Rattle.frame.specs.declared.Written.TheVariants as written
+use Rattle.frame.specs.declared.Bare as declared
 
 -- A call on one frame comes to this: what it says, and what its output buffer holds then.
 pub record Outcome (A : Type 0) : Type 0 where
@@ -27,9 +19,8 @@ pub record Outcome (A : Type 0) : Type 0 where
 
 -- Take a tag out: it answers number and length. The frame without its tag stands at the start of the output; bytes
 -- behind it keep their values. A refusal changes no byte.
-pub record Bare : Type 0 where
-  pub number : ℕ
-  pub length : ℕ
+abbrev pub Bare : Type 0
+Bare = declared.Bare
 
 unfoldable pub take_from : (f out : List ℕ) → Said Tag → Outcome Bare
 take_from f out (refused n) = record { said = refused n; bytes = out }
@@ -51,31 +42,22 @@ write_into out (answers g) =
 unfoldable pub write_tag : (f : List ℕ) (number : ℕ) (out : List ℕ) → Outcome ℕ
 write_tag f n out = write_into out (write_of f n)
 
--- What each case of an answer enum says: the paper's number, or the values.
-abbrev pub said_head : Head → Said Header
-said_head head.Short = refused SHORT
-said_head (head.Whole h) = answers h
+-- What each case of an answer says: the paper's number, or the values. A frame with no header is short.
+abbrev pub said_head : Option Header → Said Header
+said_head None = refused SHORT
+said_head (Some h) = answers h
 
-abbrev pub said_read : TagRead → Said Tag
-said_read (read.Refused n) = refused n
-said_read (read.Tagged h n) = answers (record { header = h; number = n })
+abbrev pub said_read : Result Tag Refusal → Said Tag
+said_read = said
 
--- a refusal's number, and 0 for a frame that is not refused
-abbrev pub refusal_of : TagRead → ℕ
-refusal_of (read.Refused n) = n
-refusal_of (read.Tagged h n) = 0
+abbrev pub said_place : Result ℕ Refusal → Said ℕ
+said_place = said
 
-abbrev pub said_place : TagPlace → Said ℕ
-said_place (place.Refused n) = refused n
-said_place (place.At o) = answers o
+abbrev pub said_taken : Result Bare Refusal → Said Bare
+said_taken = said
 
-abbrev pub said_taken : Taken → Said Bare
-said_taken (taken.Refused n) = refused n
-said_taken (taken.Out n l) = answers (record { number = n; length = l })
-
-abbrev pub said_written : Written → Said ℕ
-said_written (written.Refused n) = refused n
-said_written (written.Out l) = answers l
+abbrev pub said_written : Result ℕ Refusal → Said ℕ
+said_written = said
 
 -- The two writers that other crates call. They write only where a type field can stand (12 or 16), the frame is no
 -- longer than a frame may be, and the bytes fit; otherwise they leave the output as it is.

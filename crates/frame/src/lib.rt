@@ -8,10 +8,11 @@ ghost use Rattle.std.specs.Prelude.{◌≡◌, ◌+◌, ◌*◌, ◌≤◌, ◌<
 ghost use Rattle.record.specs.Sizes.{frame_most};
 ghost use Rattle.frame.specs.Bytes.{word, overlay};
 ghost use Rattle.frame.specs.Frame.{head_of, dest_of, group_source, read_of, tag_bytes, cut_at, tag_at, place_of};
-ghost use Rattle.frame.specs.TagCalls.{said_head, said_read, said_place, said_taken, said_written, refusal_of, take_tag, write_tag, written_without, written_with};
+ghost use Rattle.frame.specs.TagCalls.{said_head, said_read, said_place, said_taken, said_written, take_tag, write_tag, written_without, written_with};
 
 pub use link::{read_link, write_shorter};
 use record::Stream;
+use refusal::Refusal;
 
 // What stands before a frame's data.
 #[derive(Clone, Copy)]
@@ -34,53 +35,25 @@ pub struct Rank {
     pub vlantag: u8,
 }
 
-// A frame's header, or a frame too short to have one.
+// A tagged frame's header and number.
 #[derive(Clone, Copy)]
-pub enum Head {
-    Short,
-    Whole(Header),
+pub struct Tag {
+    pub header: Header,
+    pub number: u16,
 }
 
-// A tagged frame's header and number, or the number of its refusal.
+// A virtual link's destination and number.
 #[derive(Clone, Copy)]
-pub enum TagRead {
-    Refused(u8),
-    Tagged(Header, u16),
-}
-
-// Where a tag is put into a frame, or the number of its refusal.
-#[derive(Clone, Copy)]
-pub enum TagPlace {
-    Refused(u8),
-    At(usize),
-}
-
-// A virtual link's destination and number, or the number of its refusal.
-#[derive(Clone, Copy)]
-pub enum LinkRead {
-    Refused(u8),
-    Link(u64, u16),
+pub struct LinkTag {
+    pub dest: u64,
+    pub number: u16,
 }
 
 // A tag taken out: its number, and the length of the frame without it.
 #[derive(Clone, Copy)]
-pub enum Taken {
-    Refused(u8),
-    Out(u16, usize),
-}
-
-// A tag written: the length of the frame with it.
-#[derive(Clone, Copy)]
-pub enum Written {
-    Refused(u8),
-    Out(usize),
-}
-
-// A byte as a wider number; the contract keeps that it is below 256.
-pub fn wide(x: u8) -> u32
-    ensures { (result ≡ x) × (result < 256) }
-{
-    x as u32
+pub struct Bare {
+    pub number: u16,
+    pub length: usize,
 }
 
 // The two bytes at a place, high byte first.
@@ -88,15 +61,7 @@ fn word_at(s: &[u8], at: usize) -> u16
     requires { at + 2 ≤ length s.now }
     ensures { result ≡ word s.now at }
 {
-    ((wide(s[at]) << 8) | wide(s[at + 1])) as u16
-}
-
-// The first four bytes, high byte first. By shifts, which the compiler makes one load with its bytes swapped.
-fn first_four(s: &[u8]) -> u32
-    requires { 4 ≤ length s.now }
-    ensures { result ≡ word s.now 0 * 65536 + word s.now 2 }
-{
-    (wide(s[0]) << 24) | (wide(s[1]) << 16) | (wide(s[2]) << 8) | wide(s[3])
+    u16::from_be_bytes([s[at], s[at + 1]])
 }
 
 // The destination at the start of a frame, as one number.
@@ -104,7 +69,7 @@ fn dest_of(s: &[u8]) -> u64
     requires { 6 ≤ length s.now }
     ensures { result ≡ dest_of s.now }
 {
-    ((first_four(s) as u64) << 16) | (word_at(s, 4) as u64)
+    u64::from_be_bytes([0, 0, s[0], s[1], s[2], s[3], s[4], s[5]])
 }
 
 // A destination by itself as the same number: what an open is given.
@@ -125,11 +90,11 @@ pub fn group_source(frame: &[u8]) -> bool
 }
 
 // Destination, VLAN id, place of the type field, whether F1C1 stands there, and the priority: the 14 and 18 byte rules only.
-pub fn read_head(frame: &[u8]) -> Head
+pub fn read_head(frame: &[u8]) -> Option<Header>
     ensures { said_head result ≡ head_of frame.now }
 {
     if frame.len() < 14 {
-        return Head::Short;
+        return None;
     }
     let dest = dest_of(frame);
     let first = word_at(frame, 12);
@@ -138,7 +103,7 @@ pub fn read_head(frame: &[u8]) -> Head
             priority: 0,
             vlantag: 0,
         };
-        return Head::Whole(Header {
+        return Some(Header {
             dest,
             vlan: 0,
             at: 12,
@@ -147,7 +112,7 @@ pub fn read_head(frame: &[u8]) -> Head
         });
     }
     if frame.len() < 18 {
-        return Head::Short;
+        return None;
     }
     let control = word_at(frame, 14);
     let vlan = control % 4096;
@@ -156,7 +121,7 @@ pub fn read_head(frame: &[u8]) -> Head
         vlantag: 1,
     };
     let second = word_at(frame, 16);
-    Head::Whole(Header {
+    Some(Header {
         dest,
         vlan,
         at: 16,
@@ -166,77 +131,48 @@ pub fn read_head(frame: &[u8]) -> Head
 }
 
 // What an arrival and the call that takes a tag out read of a frame: refusals 3, 4 and 5, or the tag.
-pub fn read_tag(frame: &[u8]) -> TagRead
+pub fn read_tag(frame: &[u8]) -> Result<Tag, Refusal>
     ensures { said_read result ≡ read_of frame.now }
 {
     if frame.len() > Stream::FRAME_MOST {
-        return TagRead::Refused(refusal::LONG);
+        return Err(Refusal::Long);
     }
-    let Head::Whole(h) = read_head(frame) else {
-        return TagRead::Refused(refusal::SHORT);
+    let Some(header) = read_head(frame) else {
+        return Err(Refusal::Short);
     };
-    if !h.tagged {
-        return TagRead::Refused(refusal::UNTAGGED);
+    if !header.tagged {
+        return Err(Refusal::Untagged);
     }
-    let at = h.at;
+    let at = header.at;
     if frame.len() < at + 8 {
-        return TagRead::Refused(refusal::SHORT);
+        return Err(Refusal::Short);
     }
-    TagRead::Tagged(h, word_at(frame, at + 4))
+    let number = word_at(frame, at + 4);
+    Ok(Tag { header, number })
 }
 
-// The number of a refusal, for the else of a `let .. else`; 0 for a frame that is not refused.
-pub fn refusal_of(r: TagRead) -> u8
-    ensures { result ≡ refusal_of r }
-{
-    match r {
-        TagRead::Refused(n) => n,
-        TagRead::Tagged(_, _) => 0,
-    }
-}
-
-// Copies src to the start of dst, byte by byte.
-fn copy_bytes(src: &[u8], dst: &mut [u8])
+// Copies src to the start of dst.
+#[tactic(auto, unfolding(crate::specs::Bytes::overlay))]
+fn copy(src: &[u8], dst: &mut [u8])
     requires { length src.now ≤ length dst.old }
     ensures { dst.new ≡ overlay src.now dst.old }
 {
-    let mut i = 0;
-    while i < src.len() {
-        dst[i] = src[i];
-        i += 1;
-    }
-}
-
-// The same through a room of its own: so the compiler knows that src and dst do not overlap, leaves the room out and calls
-// memmove once.
-fn copy(src: &[u8], dst: &mut [u8])
-    requires src_len_bound { length src.now ≤ frame_most }
-    requires src_in_bounds { length src.now ≤ length dst.old }
-    ensures { dst.new ≡ overlay src.now dst.old }
-{
-    let n = src.len();
-    let mut room = [0u8; Stream::FRAME_MOST];
-    copy_bytes(src, &mut room);
-    copy_bytes(&room[..n], dst);
+    dst[..src.len()].copy_from_slice(src);
 }
 
 // The six bytes of a tag, at the start of dst.
+#[tactic(auto, unfolding(crate::specs::Bytes::overlay))]
 fn write_six(number: u16, dst: &mut [u8])
     requires { 6 ≤ length dst.old }
     ensures { dst.new ≡ overlay (tag_bytes number) dst.old }
 {
-    dst[0] = 0xF1;
-    dst[1] = 0xC1;
-    dst[2] = 0;
-    dst[3] = 0;
-    dst[4] = (number / 256) as u8;
-    dst[5] = (number % 256) as u8;
+    let [high, low] = number.to_be_bytes();
+    dst[..6].copy_from_slice(&[0xF1, 0xC1, 0, 0, high, low]);
 }
 
 // The frame without the six bytes at a place, at the start of out.
 fn cut_at(frame: &[u8], at: usize, out: &mut [u8])
     requires at_in_bounds { at + 6 ≤ length frame.now }
-    requires frame_len_bound { length frame.now ≤ frame_most }
     requires frame_in_bounds { length frame.now ≤ length out.old + 6 }
     ensures { out.new ≡ overlay (cut_at frame.now at) out.old }
 {
@@ -247,7 +183,6 @@ fn cut_at(frame: &[u8], at: usize, out: &mut [u8])
 // The frame with a tag put in at a place, at the start of out.
 fn tag_at(frame: &[u8], at: usize, number: u16, out: &mut [u8])
     requires at_in_bounds { at ≤ length frame.now }
-    requires frame_len_bound { length frame.now ≤ frame_most }
     requires frame_in_bounds { length frame.now + 6 ≤ length out.old }
     ensures { out.new ≡ overlay (tag_at frame.now at number) out.old }
 {
@@ -310,57 +245,51 @@ pub fn write_with(frame: &[u8], at: usize, number: u16, out: &mut [u8])
 }
 
 // Take a tag out: the frame without its tag, at the start of out.
-pub fn take_tag(frame: &[u8], out: &mut [u8]) -> Taken
+pub fn take_tag(frame: &[u8], out: &mut [u8]) -> Result<Bare, Refusal>
     ensures result_value { said_taken result ≡ (take_tag frame.now out.old).said }
     ensures out_after { out.new ≡ (take_tag frame.now out.old).bytes }
 {
-    let got = read_tag(frame);
-    let TagRead::Tagged(h, number) = got else {
-        return Taken::Refused(refusal_of(got));
-    };
-    let at = h.at;
-    let len = frame.len() - 6;
-    if out.len() < len {
-        return Taken::Refused(refusal::ROOM);
+    let tag = read_tag(frame)?;
+    let length = frame.len() - 6;
+    if out.len() < length {
+        return Err(Refusal::Room);
     }
-    write_without(frame, at, out);
-    Taken::Out(number, len)
+    write_without(frame, tag.header.at, out);
+    Ok(Bare {
+        number: tag.number,
+        length,
+    })
 }
 
 // Where a tag is put into a frame: refusals 3, 4, 13 and 14, or the place of its type field.
-pub fn place_of(frame: &[u8]) -> TagPlace
+pub fn place_of(frame: &[u8]) -> Result<usize, Refusal>
     ensures { said_place result ≡ place_of frame.now }
 {
     if frame.len() > Stream::UNTAGGED_MOST {
-        return TagPlace::Refused(refusal::LONG);
+        return Err(Refusal::Long);
     }
-    let Head::Whole(h) = read_head(frame) else {
-        return TagPlace::Refused(refusal::SHORT);
+    let Some(header) = read_head(frame) else {
+        return Err(Refusal::Short);
     };
-    if h.tagged {
-        return TagPlace::Refused(refusal::TAGGED);
+    if header.tagged {
+        return Err(Refusal::Tagged);
     }
     if group_source(frame) {
-        return TagPlace::Refused(refusal::GROUP);
+        return Err(Refusal::Group);
     }
-    TagPlace::At(h.at)
+    Ok(header.at)
 }
 
 // Write a tag: the frame with a tag put in, at the start of out.
-pub fn write_tag(frame: &[u8], number: u16, out: &mut [u8]) -> Written
+pub fn write_tag(frame: &[u8], number: u16, out: &mut [u8]) -> Result<usize, Refusal>
     ensures result_value { said_written result ≡ (write_tag frame.now number out.old).said }
     ensures out_after { out.new ≡ (write_tag frame.now number out.old).bytes }
 {
-    let place = place_of(frame);
-    match place {
-        TagPlace::Refused(n) => Written::Refused(n),
-        TagPlace::At(at) => {
-            let len = frame.len() + 6;
-            if out.len() < len {
-                return Written::Refused(refusal::ROOM);
-            }
-            write_with(frame, at, number, out);
-            Written::Out(len)
-        }
+    let at = place_of(frame)?;
+    let len = frame.len() + 6;
+    if out.len() < len {
+        return Err(Refusal::Room);
     }
+    write_with(frame, at, number, out);
+    Ok(len)
 }

@@ -3,28 +3,29 @@
 ghost use Rattle.std.specs.Prelude.{◌≡◌};
 ghost use Rattle.frame.specs.Link.{link_of, said_link, written_shorter};
 
-use super::{LinkRead, copy, dest_of, group_source, wide};
+use super::{LinkTag, copy, dest_of, group_source};
 use record::Stream;
+use refusal::Refusal;
 
 // The least bytes of such a frame. specs/Link.antt has it as link_least.
 const LINK_LEAST: usize = 15;
 
 // What an arrival of a virtual link reads of a frame: refusals 3, 4 and 14, or destination and number.
-pub fn read_link(frame: &[u8]) -> LinkRead
+pub fn read_link(frame: &[u8]) -> Result<LinkTag, Refusal>
     ensures { said_link result ≡ link_of frame.now }
 {
     if frame.len() > Stream::FRAME_MOST {
-        return LinkRead::Refused(refusal::LONG);
+        return Err(Refusal::Long);
     }
     if frame.len() < LINK_LEAST {
-        return LinkRead::Refused(refusal::SHORT);
+        return Err(Refusal::Short);
     }
     if group_source(frame) {
-        return LinkRead::Refused(refusal::GROUP);
+        return Err(Refusal::Group);
     }
     let dest = dest_of(frame);
-    let number = wide(frame[frame.len() - 1]) as u16;
-    LinkRead::Link(dest, number)
+    let number = u16::from(frame[frame.len() - 1]);
+    Ok(LinkTag { dest, number })
 }
 
 // Writes a frame without its last byte to the start of out: nothing where the bytes do not fit.

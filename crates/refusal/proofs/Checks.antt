@@ -1,12 +1,18 @@
 -- `first_of` gives the number that `First` speaks of. Assumes nothing.
 use Prim.Native.Nat.{ℕ, ◌<◌}
-use mathlib.Core.Path.{◌≡◌, refl, sym, ap}
+use mathlib.Core.Path.{◌≡◌, refl, sym, ap, ◌∙◌}
+use Rattle.std.specs.Prelude.{if◌then◌else◌, eqb}
 use mathlib.Core.Logic.{◌⊎◌, inl, inr}
 use mathlib.Core.Bool.{Bool, true, false, cond}
 use mathlib.Core.List.{List, [], ◌∷◌}
 use native.Mathlib.Omega.{arith}
-use Rattle.refusal.specs.Checks.{Said, Check, First, first_of, FirstExactly}
+use Rattle.std.specs.Prelude.{Result, Ok, Err}
+use Rattle.std.specs.Result.{IsErrAnd}
+use Rattle.refusal.specs.Checks.{Said, Check, First, first_of, FirstExactly, SaidTells}
 use Rattle.refusal.specs.Checks.Said.{refused, answers}
+use Rattle.refusal.specs.Numbers.{number_of}
+use Rattle.refusal.specs.declared.Refusal.{Refusal}
+use Rattle.refusal.specs.declared.Refusal.TheVariants.{Table, Network, Long, Short, Untagged, Unknown, Damaged, Room, Setting, Taken, Full, Slot, Tagged, Group, Batch, Trailer, Index}
 
 module _ (A : Type 0) (a : A) (n : ℕ) where
   to : (cs : List Check) → first_of cs a ≡ refused n → First n cs
@@ -33,6 +39,11 @@ pub passed : {A : Type 0} (b : Bool) (n : ℕ) {z : Said A} {a : A} → answers 
 passed true n e = absurd (let z : ◌≡◌ {A = ℕ} 0 1 = cc in omega arith)
 passed false n e = (refl, e)
 
+-- the number of what refuses
+abbrev pub number_or : {A : Type 0} → ℕ → Said A → ℕ
+number_or d (refused n) = n
+number_or d (answers a) = d
+
 -- equal answers hold equal values
 abbrev pub value_or : {A : Type 0} → A → Said A → A
 value_or d (refused n) = d
@@ -51,3 +62,60 @@ unfolding First
 first-positive n [] p x = absurd x
 first-positive n (c ∷ cs) p (inl x) = omega (arith, x.1, p.0)
 first-positive n (c ∷ cs) p (inr x) = first-positive n cs p.1 x.1
+
+-- the refusal that has a number, and Table where none has
+unfoldable refusal_at : ℕ → Refusal
+refusal_at n =
+    if eqb n 2 then Network else
+    if eqb n 3 then Long else
+    if eqb n 4 then Short else
+    if eqb n 5 then Untagged else
+    if eqb n 6 then Unknown else
+    if eqb n 7 then Damaged else
+    if eqb n 8 then Room else
+    if eqb n 9 then Setting else
+    if eqb n 10 then Taken else
+    if eqb n 11 then Full else
+    if eqb n 12 then Slot else
+    if eqb n 13 then Tagged else
+    if eqb n 14 then Group else
+    if eqb n 15 then Batch else
+    if eqb n 16 then Trailer else
+    if eqb n 18 then Index else
+    Table
+
+numbered : (refusal : Refusal) → refusal_at (number_of refusal) ≡ refusal
+unfolding refusal_at
+numbered Table = refl
+numbered Network = refl
+numbered Long = refl
+numbered Short = refl
+numbered Untagged = refl
+numbered Unknown = refl
+numbered Damaged = refl
+numbered Room = refl
+numbered Setting = refl
+numbered Taken = refl
+numbered Full = refl
+numbered Slot = refl
+numbered Tagged = refl
+numbered Group = refl
+numbered Batch = refl
+numbered Trailer = refl
+numbered Index = refl
+
+-- equal numbers mean equal refusals
+pub numbers-tell : (p q : Refusal) → number_of p ≡ number_of q → p ≡ q
+numbers-tell p q e = sym (numbered p) ∙ ap refusal_at e ∙ numbered q
+
+-- equal `said` means equal answers
+pub said-tells : SaidTells
+said-tells A (Ok a) (Ok b) e = ap Ok (same-value e)
+said-tells A (Ok a) (Err q) e = absurd (let z : ◌≡◌ {A = ℕ} 0 1 = cc in omega arith)
+said-tells A (Err p) (Ok b) e = absurd (let z : ◌≡◌ {A = ℕ} 0 1 = cc in omega arith)
+said-tells A (Err p) (Err q) e = ap Err (numbers-tell p q (ap (number_or 0) e))
+
+-- what a `?` passes on is the refusal that it met
+pub passed-on : {A : Type 0} (r : Result A Refusal) {refusal : Refusal} → IsErrAnd r (λ x. x ≡ refusal) → r ≡ Err refusal
+passed-on (Ok a) h = absurd h
+passed-on (Err x) h = ap Err h

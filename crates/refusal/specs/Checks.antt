@@ -1,11 +1,22 @@
 -- Document 01, "Calls and the order of checks": what a call says, and the first check of a list that refuses.
 -- Assumes nothing.
-use Rattle.std.specs.Prelude.{ℕ, ◌≡◌, ◌⊎◌, ◌↔◌, Bool, true, false, cond, List, [], ◌∷◌}
+use Rattle.std.specs.Prelude.{ℕ, ◌≡◌, ◌⊎◌, ◌↔◌, Bool, true, false, cond, List, [], ◌∷◌, Result, Ok, Err}
+use Rattle.refusal.specs.Numbers.{number_of}
+use Rattle.refusal.specs.declared.Refusal.{Refusal}
 
 -- What a call says: the number of a refusal, or its answer.
 pub data Said (A : Type 0) : Type 0 where
   refused : (number : ℕ) → Said A
   answers : A → Said A
+
+-- What the code's answer says: each refusal its number.
+abbrev pub said : {A : Type 0} → Result A Refusal → Said A
+said (Ok a) = answers a
+said (Err refusal) = refused (number_of refusal)
+
+-- Equal `said` means equal answers.
+abbrev pub SaidTells : Type 1
+SaidTells = (A : Type 0) (r s : Result A Refusal) → said r ≡ said s → r ≡ s
 
 -- A line of the paper's table: a number, and whether its condition holds.
 pub record Check : Type 0 where

@@ -1,6 +1,8 @@
 -- Document 01, "Calls and the order of checks": the numbers of its table, by name, and those of document 02's orders.
 -- Assumes nothing.
 use Rattle.std.specs.Prelude.{ℕ}
+use Rattle.refusal.specs.declared.Refusal.{Refusal}
+use Rattle.refusal.specs.declared.Refusal.TheVariants.{Table, Network, Long, Short, Untagged, Unknown, Damaged, Room, Setting, Taken, Full, Slot, Tagged, Group, Batch, Trailer, Index}
 
 -- the table has more than 64 slots
 abbrev pub TABLE : ℕ
@@ -69,3 +71,23 @@ TRAILER = 16
 -- index not of 128 places or not in agreement with the table (order 9; 17 is no refusal's number)
 abbrev pub INDEX : ℕ
 INDEX = 18
+
+-- the number of each refusal
+abbrev pub number_of : Refusal → ℕ
+number_of Table = TABLE
+number_of Network = NETWORK
+number_of Long = LONG
+number_of Short = SHORT
+number_of Untagged = UNTAGGED
+number_of Unknown = UNKNOWN
+number_of Damaged = DAMAGED
+number_of Room = ROOM
+number_of Setting = SETTING
+number_of Taken = TAKEN
+number_of Full = FULL
+number_of Slot = SLOT
+number_of Tagged = TAGGED
+number_of Group = GROUP
+number_of Batch = BATCH
+number_of Trailer = TRAILER
+number_of Index = INDEX

@@ -1,20 +1,21 @@
 -- The two steps of the code are the decision. Assumes nothing.
 use Rattle.std.proofs.Common.{◌≡◌, ℕ, ◌-◌, ◌^◌, ◌<◌, ◌≤◌, Bool, true, false, not, eqb, sym, refl, ap, ◌∙◌, subst, arith, pow_pos, ltb-true, lt-ltb, le-leb}
 use mathlib.Core.Option.{some}
+use Rattle.std.specs.Prelude.{Some}
 use Rattle.std.specs.Prelude.{if◌then◌else◌}
 use Rattle.record.specs.Words.{yes}
 use Rattle.record.specs.Sizes.{window_least, window_most, vector_rule}
 use Rattle.stream.specs.History.{History, value, empty, single, bit, within, marked, marked_first}
 use Rattle.stream.specs.Record.{Stream, lawful}
 use Rattle.stream.specs.Decisions.{Case, first, far, again, late, next, moved, case_of, verdict_of, handed_up, state_after, out_of_order, losses, rise, counted, tally, counts_after, with, verdict, decided}
-use Rattle.stream.specs.Steps.{Marks, Weighed, marks_of, history_after, short_after, Damaged, HandedUp, Duplicate, Rogue, weighed_as, weighed, said, record_up, record_after, record_short}
+use Rattle.stream.specs.Steps.{Marks, Weighed, marks_of, history_after, short_after, HandedUp, Duplicate, Rogue, weighed_as, weighed, said, record_up, record_after, record_short}
 use Rattle.stream.specs.Laws.{StepsTellVerdict, StepsDecide, StepsDamaged, StepsLeave, ShortStep}
 use Rattle.stream.proofs.Past.{no_value, empty-bit, marked-late, marked_next, marked-first, marked-up, marked-there}
 use Rattle.stream.proofs.Law.{Law, law, size, idle-fresh, fresh-parts, vector-within}
 use Rattle.stream.proofs.Told.{Fact, case-told}
 
 module _ (s : Stream) (n : ℕ) where
-  tells : (c : Case) → said (weighed_as s n c) ≡ some (verdict_of c)
+  tells : (c : Case) → said (Some (weighed_as s n c)) ≡ some (verdict_of c)
   unfolding weighed_as
   tells first = refl
   tells far = refl
@@ -48,7 +49,7 @@ module _ (s : Stream) (n : ℕ) where
       go false r = stays (marks_of s n first) r ∙ none
 
   gives : (network : ℕ) (c : Case) → Law s → Fact s c
-      → record_after s network (weighed_as s n c) ≡ with s (state_after s n c) (counts_after s network c)
+      → record_after s network (Some (weighed_as s n c)) ≡ with s (state_after s n c) (counts_after s network c)
   unfolding weighed_as record_after state_after counts_after out_of_order losses
   gives network first l a =
       ap (λ (h : History). with s (handed_up s n (if eqb s.rule vector_rule then s.window - 1 else 0) h) (counts_after s network first))
@@ -105,12 +106,12 @@ module _ (s : Stream) (n : ℕ) where
         go false r = short-stays (marks_of s n first) r ∙ sym (stays (marks_of s n first) r)
 
     abbrev shortened : (network : ℕ) → Weighed → Stream
-    shortened network Damaged = s
     shortened network (HandedUp m) = record_short s network m
-    shortened network Duplicate = record_after s network Duplicate
-    shortened network Rogue = record_after s network Rogue
+    shortened network Duplicate = record_after s network (Some Duplicate)
+    shortened network Rogue = record_after s network (Some Rogue)
 
-    shortens : (network : ℕ) (c : Case) → Fact s c → shortened network (weighed_as s n c) ≡ record_after s network (weighed_as s n c)
+    shortens : (network : ℕ) (c : Case) → Fact s c
+        → shortened network (weighed_as s n c) ≡ record_after s network (Some (weighed_as s n c))
     unfolding weighed_as record_after record_short
     shortens network first a = ap (record_up s network (marks_of s n first)) (first_alike a)
     shortens network far f = refl
@@ -144,11 +145,12 @@ pub short-step : ShortStep
 unfolding weighed
 short-step s n network m word e = go (lawful s) refl
   where
-    go : (b : Bool) → lawful s ≡ b → record_short s network m ≡ record_after s network (HandedUp m)
+    go : (b : Bool) → lawful s ≡ b → record_short s network m ≡ record_after s network (Some (HandedUp m))
     go false l = let d = steps-damaged s n l in cc
     go true l =
-        let is : weighed_as s n (case_of s n) ≡ HandedUp m = rw l at e in
-        subst (λ (w : Weighed). shortened s n (law l) word network w ≡ record_after s network w) is
+        let same : Some (weighed_as s n (case_of s n)) ≡ Some (HandedUp m) = rw l at e in
+        let is : weighed_as s n (case_of s n) ≡ HandedUp m = cc in
+        subst (λ (w : Weighed). shortened s n (law l) word network w ≡ record_after s network (Some w)) is
         (shortens s n (law l) word network (case_of s n) (case-told s n).fact)
 
 -- A discard, from its counters: all else is the record's.
@@ -163,7 +165,7 @@ module _ (s : Stream) (network : ℕ) {a b c : ℕ} (p : a ≡ counted (eqb netw
         disorder = s.counts.disorder;
         lost = s.counts.lost;
         resets = s.counts.resets;
-      }) ≡ record_after s network Duplicate
+      }) ≡ record_after s network (Some Duplicate)
   unfolding record_after tally
   duplicate-is r = λ i. with s s.state (record {
     arrivals0 = p i;
@@ -186,7 +188,7 @@ module _ (s : Stream) (network : ℕ) {a b c : ℕ} (p : a ≡ counted (eqb netw
         disorder = s.counts.disorder;
         lost = s.counts.lost;
         resets = s.counts.resets;
-      }) ≡ record_after s network Rogue
+      }) ≡ record_after s network (Some Rogue)
   unfolding record_after tally
   rogue-is r = λ i. with s s.state (record {
     arrivals0 = p i;

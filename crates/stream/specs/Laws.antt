@@ -1,5 +1,5 @@
 -- Document 01, "The stream record" and "Decisions": what holds of the definitions. Assumes nothing.
-use Rattle.std.specs.Prelude.{◌≡◌, ℕ, ◌<◌, ◌≤◌, Bool, true, false, ◌&&◌, ℤ, pos, ◌+ℤ◌, ◌-ℤ◌, ◌*ℤ◌, neg_ℤ, ◌==◌, int_le}
+use Rattle.std.specs.Prelude.{◌≡◌, ℕ, ◌<◌, ◌≤◌, Bool, true, false, ◌&&◌, ℤ, pos, ◌+ℤ◌, ◌-ℤ◌, ◌*ℤ◌, neg_ℤ, ◌==◌, int_le, Some, None}
 use Rattle.std.proofs.Math.Option.{some}
 use Rattle.std.specs.Prelude.{if◌then◌else◌}
 use Rattle.record.specs.Words.{yes}
@@ -7,7 +7,7 @@ use Rattle.record.specs.Sizes.{vector_rule, match_rule, link_rule}
 use Rattle.stream.specs.History.{empty, single}
 use Rattle.stream.specs.Record.{Counts, Stream, settled, lawful, opened}
 use Rattle.stream.specs.Decisions.{behind, difference, as_int, up, duplicate, rogue, is_up, rise, with, verdict, decided, reset, ticked}
-use Rattle.stream.specs.Steps.{Marks, plain, right, Damaged, HandedUp, weighed, said, record_after, record_short}
+use Rattle.stream.specs.Steps.{Marks, plain, right, HandedUp, weighed, said, record_after, record_short}
 use Rattle.stream.specs.WrapRun.{four, held}
 
 -- "The difference is taken modulo 65536 and read as signed, from -32768 to 32767": it is in that range, it is congruent to
@@ -125,7 +125,7 @@ StepsDecide =
     → record_after s network (weighed s number) ≡ decided s number network
 
 abbrev pub StepsDamaged : Type 0
-StepsDamaged = (s : Stream) (number : ℕ) → lawful s ≡ false → weighed s number ≡ Damaged
+StepsDamaged = (s : Stream) (number : ℕ) → lawful s ≡ false → weighed s number ≡ None
 
 abbrev pub StepsLeave : Type 0
 StepsLeave =
@@ -134,8 +134,8 @@ StepsLeave =
 -- Where the window is at most a word, the second step may write the first word of the history alone.
 abbrev pub ShortStep : Type 0
 ShortStep =
-    (s : Stream) (number network : ℕ) (m : Marks) → s.window ≤ 64 → weighed s number ≡ HandedUp m
-    → record_short s network m ≡ record_after s network (HandedUp m)
+    (s : Stream) (number network : ℕ) (m : Marks) → s.window ≤ 64 → weighed s number ≡ Some (HandedUp m)
+    → record_short s network m ≡ record_after s network (Some (HandedUp m))
 
 -- The premises above are met: by fresh records and others of each rule, by a duplicate, a rogue and a late number, and by a
 -- record that is not lawful.

@@ -1,8 +1,8 @@
 -- Document 01, "Decisions": the decision in the two steps that the code takes, and the answer of a tick. The first step
 -- says what an arrival is to a record and reads no counter; the second gives the record after it. Assumes nothing.
-use Rattle.std.specs.Prelude.{ℕ, Bool, false, ◌&&◌, ◌==◌, nat_le, nat_lt}
+use Rattle.std.specs.Prelude.{ℕ, Bool, false, ◌&&◌, ◌==◌, nat_le, nat_lt, Option, Some, None}
 use Rattle.std.specs.Bool.{beq}
-use Rattle.std.proofs.Math.Option.{Option, none, some}
+use Rattle.std.proofs.Math.Option as maybe
 use Rattle.std.specs.Prelude.{if◌then◌else◌}
 use Rattle.record.specs.Words.{yes}
 use Rattle.record.specs.Sizes.{window_most, vector_rule}
@@ -11,7 +11,7 @@ use Rattle.stream.specs.Record.{Stream, anchor_fresh, linked, settled, placed, l
 use Rattle.stream.specs.Decisions.{Case, first, far, again, late, next, moved, case_of, Verdict, up, duplicate, rogue, verdict_of, handed_up, state_after, out_of_order, losses, tally, with, expires, ticked}
 pub use Rattle.stream.specs.declared.Marks.{Marks}
 pub use Rattle.stream.specs.declared.Weighed.{Weighed}
-pub use Rattle.stream.specs.declared.Weighed.TheVariants.{Damaged, HandedUp, Duplicate, Rogue}
+pub use Rattle.stream.specs.declared.Weighed.TheVariants.{HandedUp, Duplicate, Rogue}
 pub use Rattle.stream.specs.declared.Ticked.{Ticked}
 
 -- When a record is lawful, in the two halves that the code asks for (`Halves`): all but the history and n, and these.
@@ -81,15 +81,15 @@ answer rogue m = Rogue
 unfoldable pub weighed_as : Stream → (number : ℕ) → Case → Weighed
 weighed_as s number c = answer (verdict_of c) (marks_of s number c)
 
-unfoldable pub weighed : Stream → (number : ℕ) → Weighed
-weighed s number = if lawful s then weighed_as s number (case_of s number) else Damaged
+unfoldable pub weighed : Stream → (number : ℕ) → Option Weighed
+weighed s number = if lawful s then Some (weighed_as s number (case_of s number)) else None
 
 -- What each of its answers says in the paper's words: the verdict, or that there is none.
-abbrev pub said : Weighed → Option Verdict
-said Damaged = none
-said (HandedUp m) = some up
-said Duplicate = some duplicate
-said Rogue = some rogue
+abbrev pub said : Option Weighed → maybe.Option Verdict
+said None = maybe.none
+said (Some (HandedUp m)) = maybe.some up
+said (Some Duplicate) = maybe.some duplicate
+said (Some Rogue) = maybe.some rogue
 
 -- The record after one that is handed up, by the history after it.
 abbrev pub record_up : Stream → (network : ℕ) → Marks → History → Stream
@@ -97,12 +97,12 @@ record_up s network m history =
     with s (handed_up s m.anchor m.early history) (tally s.counts network up m.disorder m.lost)
 
 -- The second step. Without a verdict the record stays as it is.
-unfoldable pub record_after : Stream → (network : ℕ) → Weighed → Stream
-record_after s network Damaged = s
-record_after s network (HandedUp m) =
+unfoldable pub record_after : Stream → (network : ℕ) → Option Weighed → Stream
+record_after s network None = s
+record_after s network (Some (HandedUp m)) =
     record_up s network m (history_after s.rule s.window m s.state.history)
-record_after s network Duplicate = with s s.state (tally s.counts network duplicate false 0)
-record_after s network Rogue = with s s.state (tally s.counts network rogue false 0)
+record_after s network (Some Duplicate) = with s s.state (tally s.counts network duplicate false 0)
+record_after s network (Some Rogue) = with s s.state (tally s.counts network rogue false 0)
 
 -- The same of one that is handed up, by the first word of the history alone (`ShortStep`).
 unfoldable pub record_short : Stream → (network : ℕ) → Marks → Stream

@@ -1,5 +1,5 @@
 // The record after a verdict: the effects of the decision (document 01, "Decisions").
-ghost use Rattle.std.specs.Prelude.{◌≡◌};
+ghost use Rattle.std.specs.Prelude.{◌≡◌, Some};
 ghost use Rattle.stream.specs.Decisions.{counted};
 ghost use Rattle.stream.specs.Steps.{history_after, short_after, record_up, record_after, record_short};
 
@@ -78,7 +78,7 @@ fn up_with(s: Stream, network: u8, m: Marks, history: [u64; 8]) -> Stream
 }
 
 pub fn handed_up(s: Stream, network: u8, m: Marks) -> Stream
-    ensures { result ≡ record_after s network (Weighed.HandedUp m) }
+    ensures { result ≡ record_after s network (Some (Weighed.HandedUp m)) }
 {
     let old = s.state;
     let h = old.history;
@@ -98,7 +98,7 @@ pub fn handed_up_short(s: Stream, network: u8, m: Marks) -> Stream
 }
 
 pub fn duplicate(s: Stream, network: u8) -> Stream
-    ensures { result ≡ record_after s network Weighed.Duplicate }
+    ensures { result ≡ record_after s network (Some Weighed.Duplicate) }
 {
     let mut c = s.counts;
     c.arrivals0 = counted(network == 0, s.counts.arrivals0);
@@ -110,7 +110,7 @@ pub fn duplicate(s: Stream, network: u8) -> Stream
 }
 
 pub fn rogue(s: Stream, network: u8) -> Stream
-    ensures { result ≡ record_after s network Weighed.Rogue }
+    ensures { result ≡ record_after s network (Some Weighed.Rogue) }
 {
     let mut c = s.counts;
     c.arrivals0 = counted(network == 0, s.counts.arrivals0);

@@ -31,10 +31,9 @@ pub struct Marks {
     pub disorder: bool,
 }
 
-// What an arrival is to a record. A record that is not lawful has no verdict.
+// What an arrival is to a lawful record.
 #[derive(Clone, Copy)]
 pub enum Weighed {
-    Damaged,
     HandedUp(Marks),
     Duplicate,
     Rogue,
@@ -220,20 +219,21 @@ pub fn lawful(s: Stream) -> bool
     is_right(s.rule, s.window, t.any, t.early, h)
 }
 
-// The first step of the decision: what an arrival is to the record. It makes no record and reads no counter.
-pub fn weigh(s: Stream, number: u16) -> Weighed
+// The first step of the decision: what an arrival is to the record. One that is not lawful has no verdict. It makes no record and
+// reads no counter.
+pub fn weigh(s: Stream, number: u16) -> Option<Weighed>
     ensures { result ≡ weighed s number }
 {
     if !lawful(s) {
-        return Weighed::Damaged;
+        return None;
     }
     if s.rule == Stream::VECTOR_RULE {
-        return cases::by_vector(s, number);
+        return Some(cases::by_vector(s, number));
     }
     if s.rule == Stream::LINK_RULE {
-        return cases::by_link(s, number);
+        return Some(cases::by_link(s, number));
     }
-    cases::by_match(s, number)
+    Some(cases::by_match(s, number))
 }
 
 // The window is at most a word, so that the second step may be `handed_up_short`.
@@ -244,14 +244,14 @@ pub fn is_narrow(s: Stream) -> bool
 }
 
 // The second step of the decision: the record after what the first step found.
-pub fn next(s: Stream, network: u8, w: Weighed) -> Stream
+pub fn next(s: Stream, network: u8, w: Option<Weighed>) -> Stream
     ensures { result ≡ record_after s network w }
 {
     match w {
-        Weighed::Damaged => s,
-        Weighed::HandedUp(m) => effects::handed_up(s, network, m),
-        Weighed::Duplicate => effects::duplicate(s, network),
-        Weighed::Rogue => effects::rogue(s, network),
+        None => s,
+        Some(Weighed::HandedUp(m)) => effects::handed_up(s, network, m),
+        Some(Weighed::Duplicate) => effects::duplicate(s, network),
+        Some(Weighed::Rogue) => effects::rogue(s, network),
     }
 }
 

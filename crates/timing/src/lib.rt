@@ -17,14 +17,14 @@ pub struct Decided {
     pub verdict: u8,
 }
 
-fn tell(w: Weighed) -> u8
+fn tell(w: Option<Weighed>) -> u8
     ensures { result ≡ tell w }
 {
     match w {
-        Weighed::Damaged => 0,
-        Weighed::HandedUp(_) => 1,
-        Weighed::Duplicate => 2,
-        Weighed::Rogue => 3,
+        None => 0,
+        Some(Weighed::HandedUp(_)) => 1,
+        Some(Weighed::Duplicate) => 2,
+        Some(Weighed::Rogue) => 3,
     }
 }
 

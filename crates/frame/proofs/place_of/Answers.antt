@@ -11,17 +11,17 @@ returns-then-frame-gt-UNTAGGED_MOST c = sym (place-long _ c.if-frame-gt-UNTAGGED
 pub returns-in_default : goal.returns-in_default
 returns-in_default c = sym (place_short _ (omega arith) (short-is _ c.read_head.ensures c.in_default.is))
 
-pub returns-then-h : goal.returns-then-h
-returns-then-h c =
-    let k = head-is c.args.frame.now c.in-Whole.h c.read_head.ensures c.in-Whole.is in
-    sym (place-tagged _ (omega arith) k.room (sym k.tagged ∙ c.if-h.true))
+pub returns-then-header : goal.returns-then-header
+returns-then-header c =
+    let k = head-is c.args.frame.now c.in-Some.header c.read_head.ensures c.in-Some.is in
+    sym (place-tagged _ (omega arith) k.room (sym k.tagged ∙ c.if-header.true))
 
 pub returns-then-group_source : goal.returns-then-group_source
 returns-then-group_source c =
-    let k = head-is c.args.frame.now c.in-Whole.h c.read_head.ensures c.in-Whole.is in
-    sym (place-group _ (omega arith) k.room (sym k.tagged ∙ c.if-h.false) (sym c.group_source.ensures ∙ c.if-group_source.true))
+    let k = head-is c.args.frame.now c.in-Some.header c.read_head.ensures c.in-Some.is in
+    sym (place-group _ (omega arith) k.room (sym k.tagged ∙ c.if-header.false) (sym c.group_source.ensures ∙ c.if-group_source.true))
 
 pub returns : goal.returns
 returns c =
-    let k = head-is c.args.frame.now c.in-Whole.h c.read_head.ensures c.in-Whole.is in
-    ap answers k.at ∙ sym (place-whole _ (omega arith) k.room (sym k.tagged ∙ c.if-h.false) (sym c.group_source.ensures ∙ c.if-group_source.false))
+    let k = head-is c.args.frame.now c.in-Some.header c.read_head.ensures c.in-Some.is in
+    ap answers k.at ∙ sym (place-whole _ (omega arith) k.room (sym k.tagged ∙ c.if-header.false) (sym c.group_source.ensures ∙ c.if-group_source.false))

@@ -12,22 +12,22 @@ returns-then-frame-gt-FRAME_MOST c = simp (lt-ltb _ _ c.if-frame-gt-FRAME_MOST.t
 pub returns-in_default : goal.returns-in_default
 returns-in_default c = read_short _ (omega arith) (short-is _ c.read_head.ensures c.in_default.is)
 
-pub returns-then-not-h : goal.returns-then-not-h
-returns-then-not-h c =
-    let k = head-is c.args.frame.now c.in-Whole.h c.read_head.ensures c.in-Whole.is in
-    read-untagged _ (omega arith) _ k (not-true _ c.if-not-h.true)
+pub returns-then-not-header : goal.returns-then-not-header
+returns-then-not-header c =
+    let k = head-is c.args.frame.now c.in-Some.header c.read_head.ensures c.in-Some.is in
+    read-untagged _ (omega arith) _ k (not-true _ c.if-not-header.true)
 
 pub overflow_add-at : goal.overflow_add-at
 overflow_add-at c =
-    let k = head-is c.args.frame.now c.in-Whole.h c.read_head.ensures c.in-Whole.is in
+    let k = head-is c.args.frame.now c.in-Some.header c.read_head.ensures c.in-Some.is in
     omega (arith, type-least c.args.frame.now)
 
 pub returns-then-frame-at : goal.returns-then-frame-at
 returns-then-frame-at c =
-    let k = head-is c.args.frame.now c.in-Whole.h c.read_head.ensures c.in-Whole.is in
-    read-cut _ (omega arith) _ k (not-false _ c.if-not-h.false) c.if-frame-at.true
+    let k = head-is c.args.frame.now c.in-Some.header c.read_head.ensures c.in-Some.is in
+    read-cut _ (omega arith) _ k (not-false _ c.if-not-header.false) c.if-frame-at.true
 
 pub returns : goal.returns
 returns c =
-    let k = head-is c.args.frame.now c.in-Whole.h c.read_head.ensures c.in-Whole.is in
-    read_whole _ (omega arith) _ k (not-false _ c.if-not-h.false) c.if-frame-at.false c.word_at.ensures
+    let k = head-is c.args.frame.now c.in-Some.header c.read_head.ensures c.in-Some.is in
+    read_whole _ (omega arith) _ k (not-false _ c.if-not-header.false) c.if-frame-at.false c.word_at-number.ensures

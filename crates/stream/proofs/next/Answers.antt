@@ -2,6 +2,6 @@
 use Rattle.stream.specs.Steps.{record_after}
 use Rattle.stream.proofs.next.Goals as goal
 
-pub returns-in-Damaged : goal.returns-in-Damaged
+pub returns-in-None : goal.returns-in-None
 unfolding record_after
-returns-in-Damaged c = rw (c.in-Damaged.is)
+returns-in-None c = rw (c.in-None.is)

@@ -1,13 +1,18 @@
--- `calls::slot::place` meets its contract: at each return a law says which refusal it is.
-use Rattle.std.proofs.Common.{◌∙◌}
-use Rattle.calls.proofs.Steps.{place-taken, place_at, place-full}
+-- `calls::slot::place` meets its contract.
+use Rattle.std.proofs.Common.{sym, ◌∙◌}
+use Rattle.calls.proofs.Steps.{place-taken, place-link-taken, place-free}
 use Rattle.calls.proofs.slot.place.Goals as goal
+use Rattle.calls.proofs.slot.place.Goals.{then-is_some-via-then-is_some, then-is_some-via-else-is_some+then-is_some-2}
 
-pub returns-then-v : goal.returns-then-v
-returns-then-v c = c.not_placed.ensures ∙ place-taken _ _ _ c.if-v.true
+pub returns-then-is_some : goal.returns-then-is_some
+returns-then-is_some c =
+    elim c.then-is_some.branch [
+      | then-is_some-via-then-is_some w ↦ place-taken _ _ _ (sym c.is_some.ensures ∙ w.if-is_some.true)
+      | then-is_some-via-else-is_some+then-is_some-2 w ↦
+          place-link-taken _ _ _ (sym c.is_some.ensures ∙ w.if-is_some.false) (sym w.is_some-else-is_some.ensures ∙ w.if-is_some-2.true)
+    ]
 
-pub returns-in-At : goal.returns-in-At
-returns-in-At c = place_at _ _ _ c.if-v.false c.in-At.is
-
-pub returns-in-Nothing : goal.returns-in-Nothing
-returns-in-Nothing c = c.not_placed-in-Nothing.ensures ∙ place-full _ _ _ c.if-v.false c.in-Nothing.is
+pub returns : goal.returns
+returns c =
+    c.ok_or.ensures.value
+    ∙ place-free _ _ _ (sym c.is_some.ensures ∙ c.if-is_some.false) (sym c.is_some-else-is_some.ensures ∙ c.if-is_some-2.false)

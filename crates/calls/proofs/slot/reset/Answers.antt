@@ -4,13 +4,13 @@ use Rattle.calls.proofs.Steps.{reset-none, reset-unsettled, reset-done}
 use Rattle.calls.proofs.slot.reset.Goals as goal
 
 pub returns-then-not-in_use : goal.returns-then-not-in_use
-returns-then-not-in_use c = c.unchanged.ensures ∙ reset-none _ _ _ c.in_use.ensures c.if-not-in_use.true
+returns-then-not-in_use c = reset-none _ _ _ c.in_use.ensures c.if-not-in_use.true
 
 pub returns-then-not-settled : goal.returns-then-not-settled
 returns-then-not-settled c =
-    c.unchanged-then-not-settled.ensures ∙ reset-unsettled _ _ _ c.in_use.ensures c.if-not-in_use.false (sym c.settled.ensures ∙ c.if-not-settled.true)
+    reset-unsettled _ _ _ c.in_use.ensures c.if-not-in_use.false (sym c.settled.ensures ∙ c.if-not-settled.true)
 
 pub returns : goal.returns
 returns c =
     reset-done _ _ _ c.in_use.ensures c.if-not-in_use.false (sym c.settled.ensures ∙ c.if-not-settled.false)
-    c.reset-stream.ensures
+    c.reset.ensures
