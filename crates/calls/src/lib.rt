@@ -58,14 +58,6 @@ pub struct Key {
     pub link: bool,
 }
 
-// The key that is asked for: a destination and a VLAN id, among the virtual links or among the rest (document 02, order 10).
-#[derive(Clone, Copy, Debug, PartialEq, Eq)]
-pub struct Key {
-    pub dest: u64,
-    pub vlan: u16,
-    pub link: bool,
-}
-
 // Is this a slot in use that has the key, and is a virtual link, or is none (document 02, order 10)? Of one that is none the VLAN
 // id is compared first (order 2): on the customer's lines it differs most often. Whether it is in use is asked last, behind the
 // rule: with the two the other way round the compiler asks both of every slot that is passed (docs/SPEED.md).

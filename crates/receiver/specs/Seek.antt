@@ -1,7 +1,8 @@
 -- Document 02, order 9: following, the agreement test and the rebuild in the steps that the code takes, each on values and index
 -- bytes alone. The laws of `proofs/` put the steps together and show that they come to what the crate `index` says. Assumes nothing.
-use Rattle.std.specs.Prelude.{ℕ, zero, suc, ◌+◌, ◌%◌, Bool, true, false, ◌||◌, not, Option, Some, None, eqb, ltb, leb, length, get_or, set}
-use Rattle.refusal.specs.Numbers.{TABLE, INDEX}
+use Rattle.std.specs.Prelude.{ℕ, zero, suc, ◌+◌, ◌%◌, Bool, true, false, ◌||◌, not, Option, Some, None, Result, Ok, Err, eqb, ltb, leb, length, get_or, set}
+use Rattle.refusal.specs.declared.Refusal.{Refusal}
+use Rattle.refusal.specs.declared.Refusal.TheVariants as refusals
 use Rattle.record.specs.Sizes.{slots_most}
 use Rattle.std.specs.Prelude.{if◌then◌else◌}
 use Rattle.record.specs.Words.{yes}
@@ -54,12 +55,12 @@ unfoldable pub agrees_by : Option Key → Option ℕ → (slot : ℕ) → Bool
 agrees_by None f i = true
 agrees_by (Some k) f i = not_above f i
 
--- 1 or 18 by the two lengths, and 18 by the agreement; 0 where it is not given
-unfoldable pub sizes_unfit : (slots count : ℕ) → ℕ
-sizes_unfit n m = if ltb slots_most n then TABLE else if not (eqb m places) then INDEX else 0
+-- 1 or 18 by the two lengths, and 18 by the agreement
+unfoldable pub sizes_unfit : (slots count : ℕ) → Result Unit Refusal
+sizes_unfit n m = if ltb slots_most n then Err refusals.Table else if not (eqb m places) then Err refusals.Index else Ok tt
 
-unfoldable pub differs : Bool → ℕ
-differs ok = if ok then 0 else INDEX
+unfoldable pub differs : Bool → Result Unit Refusal
+differs ok = if ok then Ok tt else Err refusals.Index
 
 -- A slot in use is entered at the first empty place from its key's own on.
 unfoldable pub entered_as : Option Key → (slot : ℕ) → Index → Index

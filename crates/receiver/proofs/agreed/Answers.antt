@@ -1,10 +1,7 @@
-use Rattle.std.proofs.Common.{rules, ◌≡◌, true, [], ◌<◌, ◌≤◌, leb, length, set, ℕ, ◌+◌, ◌-◌, ◌*◌, ◌/◌, ◌%◌, Bool, false, nat_eq, nat_lt, List, ◌∷◌, ◌++◌, slice_index_or, bit_and, bit_or, Fits, w8, w32, w64, Bor, MutBor}
-use Rattle.record.specs.Sizes.{slots_most}
-use Rattle.calls.specs.Table.{at, hears}
-use Rattle.index.specs.Index.{places, follow, agrees_at, agrees, indexed, rebuilt}
-use Rattle.receiver.specs.Seek.{place_as, holder_of, sure_in, sure_all}
+-- `receiver::agreed` meets its contract: what is sure agrees.
+use Rattle.std.proofs.Common.{◌∙◌}
+use Rattle.receiver.proofs.Agreeing.{all-sure-agree}
 use Rattle.receiver.proofs.agreed.Goals as goal
 
--- src/lib.rt:71:1
 pub returns-then-all_sure : goal.returns-then-all_sure
-returns-then-all_sure c = ?
+returns-then-all_sure c = c.if-all_sure.true ∙ all-sure-agree _ _ c.all_sure.ensures c.if-all_sure.true

@@ -1,10 +1,13 @@
-use Rattle.std.proofs.Common.{rules, ◌≡◌, true, [], ◌<◌, ◌≤◌, leb, length, set, ℕ, ◌+◌, ◌-◌, ◌*◌, ◌/◌, ◌%◌, Bool, false, nat_eq, nat_lt, List, ◌∷◌, ◌++◌, slice_index_or, bit_and, bit_or, Fits, w8, w32, w64, Bor, MutBor}
-use Rattle.record.specs.Sizes.{slots_most}
-use Rattle.calls.specs.Table.{at, hears}
-use Rattle.index.specs.Index.{places, follow, agrees_at, agrees, indexed, rebuilt}
-use Rattle.receiver.specs.Seek.{place_as, holder_of, sure_in, sure_all}
+-- `receiver::holder_at` meets its contract: beyond the table no slot is in use.
+use Rattle.std.proofs.Common.{rules, arith, ap, ◌∙◌, Bor}
+use Rattle.record.specs.declared.Stream.{Stream}
+use Rattle.calls.specs.Table.{blank}
+use Rattle.receiver.specs.Seek.{holder_of}
+use Rattle.receiver.proofs.Lists.{some_then-made}
+use Rattle.receiver.proofs.Agreeing.{holder-made}
 use Rattle.receiver.proofs.holder_at.Goals as goal
 
--- src/lib.rt:47:1
 pub returns : goal.returns
-returns c = ?
+returns c =
+    some_then-made c.get.result _ _ (λ (s : Bor Stream). holder_of s.now) c.and_then.ensures (λ s p. search rules)
+    ∙ holder-made c.get.result ∙ ap holder_of (c.get.ensures.lookup.4 (omega arith) blank)

@@ -1,18 +1,18 @@
-use Rattle.std.proofs.Common.{rules, ◌≡◌, true, [], ◌<◌, ◌≤◌, leb, length, set, ℕ, ◌+◌, ◌-◌, ◌*◌, ◌/◌, ◌%◌, Bool, false, nat_eq, nat_lt, List, ◌∷◌, ◌++◌, slice_index_or, bit_and, bit_or, Fits, w8, w32, w64, Bor, MutBor}
-use Rattle.record.specs.Sizes.{slots_most}
-use Rattle.calls.specs.Table.{at, hears}
-use Rattle.index.specs.Index.{places, follow, agrees_at, agrees, indexed, rebuilt}
-use Rattle.receiver.specs.Seek.{place_as, holder_of, sure_in, sure_all}
+-- `receiver::refill` meets its contract.
+use Rattle.std.proofs.Common.{ap, ◌∙◌, replicate, arith, ℕ}
+use Rattle.std.proofs.lemmas.List.{get_or_default}
+use Rattle.calls.specs.Table.{blank}
+use Rattle.receiver.specs.Seek.{holder_of}
+use Rattle.receiver.proofs.Rebuilding.{built-none, built-more, built-all}
 use Rattle.receiver.proofs.refill.Goals as goal
 
--- src/lib.rt:83:5
 pub loop-i-init : goal.loop-i-init
-loop-i-init c = ?
+loop-i-init c = built-none c.args.t.now _ (c.fill.ensures.after (λ y p. p) ∙ ap (λ (n : ℕ). replicate n 0) c.told-index)
 
--- src/lib.rt:83:5
 pub loop-i-preserved : goal.loop-i-preserved
-loop-i-preserved c = ?
+loop-i-preserved c =
+    built-more c.args.t.now c.loop-i.i _ _ _ c.loop-i.invariant
+    (c.holder_of.ensures ∙ ap holder_of (get_or_default c.args.t.now c.loop-i.i _ blank c.loop-i-test.true)) c.enter.ensures
 
--- src/lib.rt:78:1
 pub returns : goal.returns
-returns c = ?
+returns c = built-all c.args.t.now c.loop-i.i _ (omega arith) c.loop-i-test.false c.loop-i.invariant

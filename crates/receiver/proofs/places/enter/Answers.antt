@@ -1,12 +1,10 @@
-use Rattle.std.proofs.Common.{rules, ◌≡◌, ◌+◌, ◌<◌, ◌^◌, ℕ, ◌-◌, ◌*◌, ◌≤◌, length, ◌/◌, ◌%◌, Bool, true, false, nat_eq, nat_lt, List, [], ◌∷◌, ◌++◌, slice_index_or, slice_set, bit_and, bit_or, Fits, w8, w32, w64, Bor, MutBor}
-use Rattle.index.specs.Index.{places, probe}
-use Rattle.receiver.specs.Seek.{named_at, holder_of, sure_from, sure_at, not_above, entered_as}
+-- `receiver::places::enter` meets its contract.
+use Rattle.std.proofs.Common.{arith}
+use Rattle.receiver.proofs.Rebuilding.{enter-free, enter-used}
 use Rattle.receiver.proofs.places.enter.Goals as goal
 
--- src/places.rt:86:1
 pub returns-in-Some : goal.returns-in-Some
-returns-in-Some c = ?
+returns-in-Some c = enter-used c.args.holder _ _ c.in-Some.is c.home.ensures.0 c.vacant_from-p.ensures.0 (omega arith)
 
--- src/places.rt:86:1
 pub returns-in_default : goal.returns-in_default
-returns-in_default c = ?
+returns-in_default c = enter-free c.args.holder _ _ c.in_default.is

@@ -1,5 +1,5 @@
 -- `receiver::places::holder_of` meets its contract.
-use Rattle.std.proofs.Common.{Bool, true, false, ◌≡◌, ◌∙◌, refl, cond, Option, Some, None}
+use Rattle.std.proofs.Common.{Bool, true, false, ◌≡◌, ◌∙◌, refl, cond, Some, None}
 use Rattle.std.specs.Bool.{then_some}
 use Rattle.record.specs.Words.{yes}
 use Rattle.calls.specs.Table.{of_links}

@@ -1,5 +1,5 @@
 -- `receiver::places::not_above` meets its contract.
-use Rattle.std.proofs.Common.{rules, tests, leb, ◌∙◌, Bool, ◌≡◌, ℕ, Option, Some, None, refl}
+use Rattle.std.proofs.Common.{rules, tests, leb, ◌∙◌, ◌≡◌, ℕ, Option, Some, None, refl}
 use Rattle.receiver.specs.Seek.{not_above}
 use Rattle.receiver.proofs.Lists.{some_and, some_and-made}
 use Rattle.receiver.proofs.places.not_above.Goals as goal

@@ -1,12 +1,9 @@
-use Rattle.std.proofs.Common.{rules, ◌≡◌, ◌+◌, ◌<◌, ◌^◌, ℕ, ◌-◌, ◌*◌, ◌≤◌, length, ◌/◌, ◌%◌, Bool, true, false, nat_eq, nat_lt, List, [], ◌∷◌, ◌++◌, slice_index_or, slice_set, bit_and, bit_or, Fits, w8, w32, w64, Bor, MutBor}
-use Rattle.index.specs.Index.{places, probe}
-use Rattle.receiver.specs.Seek.{named_at, holder_of, sure_from, sure_at, not_above, entered_as}
+-- `receiver::places::sure` meets its contract.
+use Rattle.receiver.proofs.Agreeing.{sure-free, sure-used}
 use Rattle.receiver.proofs.places.sure.Goals as goal
 
--- src/places.rt:38:1
-pub returns-in-Some : goal.returns-in-Some
-returns-in-Some c = ?
-
--- src/places.rt:38:1
 pub returns-in-None : goal.returns-in-None
-returns-in-None c = ?
+returns-in-None c = sure-free _ _ _ c.in-None.is
+
+pub returns-in-Some : goal.returns-in-Some
+returns-in-Some c = sure-used _ _ _ c.in-Some.is c.home.ensures.0 c.sure_from.ensures

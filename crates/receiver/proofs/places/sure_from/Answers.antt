@@ -1,24 +1,23 @@
-use Rattle.std.proofs.Common.{rules, ◌≡◌, ◌+◌, ◌<◌, ◌^◌, ℕ, ◌-◌, ◌*◌, ◌≤◌, length, ◌/◌, ◌%◌, Bool, true, false, nat_eq, nat_lt, List, [], ◌∷◌, ◌++◌, slice_index_or, slice_set, bit_and, bit_or, Fits, w8, w32, w64, Bor, MutBor}
-use Rattle.index.specs.Index.{places, probe}
-use Rattle.receiver.specs.Seek.{named_at, holder_of, sure_from, sure_at, not_above, entered_as}
+-- `receiver::places::sure_from` meets its contract.
+use Rattle.std.proofs.Common.{inl, inr}
+use Rattle.receiver.proofs.Agreeing.{sure-start, sure-out, sure-hit, sure-empty, sure-above, sure-on}
 use Rattle.receiver.proofs.places.sure_from.Goals as goal
 
--- src/places.rt:52:5
 pub loop-k-init : goal.loop-k-init
-loop-k-init c = ?
+loop-k-init c = sure-start c.args.index.now c.args.i c.args.from
 
--- src/places.rt:55:13
 pub returns-then-name-i : goal.returns-then-name-i
-returns-then-name-i c = ?
+returns-then-name-i c = sure-hit c.args.index.now c.args.i c.args.from c.loop-k.k c.loop-k.invariant c.loop-k-test.true c.from-name.ensures c.if-name-i.true
 
--- src/places.rt:58:13
 pub returns-then-name-eq0 : goal.returns-then-name-eq0
-returns-then-name-eq0 c = ?
+returns-then-name-eq0 c = elim c.then-name-eq0.either [
+  | inl e ↦ sure-empty c.args.index.now c.args.i c.args.from c.loop-k.k c.loop-k.invariant c.loop-k-test.true c.from-name.ensures e
+  | inr e ↦ sure-above c.args.index.now c.args.i c.args.from c.loop-k.k c.loop-k.invariant c.loop-k-test.true c.from-name.ensures c.if-name-i.false e.1
+]
 
--- src/places.rt:52:5
 pub loop-k-preserved : goal.loop-k-preserved
-loop-k-preserved c = ?
+loop-k-preserved c =
+    sure-on c.args.index.now c.args.i c.args.from c.loop-k.k c.loop-k.invariant c.loop-k-test.true c.from-name.ensures c.if-name-i.false c.if-name-eq0.false c.if-name-i-2.false
 
--- src/places.rt:48:1
 pub returns : goal.returns
-returns c = ?
+returns c = sure-out c.args.index.now c.args.i c.args.from c.loop-k.k c.loop-k.invariant c.loop-k-test.false

@@ -1,20 +1,16 @@
-use Rattle.std.proofs.Common.{rules, ◌≡◌, ◌+◌, ◌<◌, ◌^◌, ℕ, ◌-◌, ◌*◌, ◌≤◌, length, ◌/◌, ◌%◌, Bool, true, false, nat_eq, nat_lt, List, [], ◌∷◌, ◌++◌, slice_index_or, slice_set, bit_and, bit_or, Fits, w8, w32, w64, Bor, MutBor}
-use Rattle.index.specs.Index.{places, probe}
-use Rattle.receiver.specs.Seek.{named_at, holder_of, sure_from, sure_at, not_above, entered_as}
+-- `receiver::places::vacant_from` meets its contract.
+use Rattle.std.proofs.Common.{arith}
+use Rattle.receiver.proofs.Rebuilding.{vacant-start, vacant-hit, vacant-on, vacant-none}
 use Rattle.receiver.proofs.places.vacant_from.Goals as goal
 
--- src/places.rt:76:5
 pub loop-k-init : goal.loop-k-init
-loop-k-init c = ?
+loop-k-init c = vacant-start c.args.index.now c.args.from
 
--- src/places.rt:79:13
 pub returns-then-index-p-eq0 : goal.returns-then-index-p-eq0
-returns-then-index-p-eq0 c = ?
+returns-then-index-p-eq0 c = vacant-hit c.args.index.now c.args.from c.loop-k.k c.loop-k.invariant c.loop-k-test.true c.if-index-p-eq0.true
 
--- src/places.rt:76:5
 pub loop-k-preserved : goal.loop-k-preserved
-loop-k-preserved c = ?
+loop-k-preserved c = vacant-on c.args.index.now c.args.from c.loop-k.k c.loop-k.invariant c.loop-k-test.true (omega arith)
 
--- src/places.rt:72:1
 pub returns : goal.returns
-returns c = ?
+returns c = vacant-none c.args.index.now c.args.from c.loop-k.k c.loop-k.invariant c.loop-k-test.false (omega arith)

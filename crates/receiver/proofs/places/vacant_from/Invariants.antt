@@ -1,7 +1,6 @@
-use Rattle.std.proofs.Common.{◌≡◌, ◌+◌, ◌<◌, ◌^◌, ℕ, ◌-◌, ◌*◌, ◌≤◌, length}
-use Rattle.index.specs.Index.{places, probe}
-use Rattle.receiver.specs.Seek.{named_at, holder_of, sure_from, sure_at, not_above, entered_as}
+-- `receiver::places::vacant_from`: what is left to look at comes to what all comes to.
+use Rattle.receiver.proofs.Rebuilding.{VacantLeft}
 use Rattle.receiver.proofs.places.vacant_from.Given as goal
 
 abbrev pub invariant-loop-k : goal.invariant-loop-k
-invariant-loop-k l = ?
+invariant-loop-k l = VacantLeft l.index l.from l.k
