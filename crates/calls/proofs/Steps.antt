@@ -5,6 +5,7 @@ use mathlib.Core.Bool.{Bool, true, false, ◌&&◌}
 use mathlib.Core.List.{List}
 use lib.Dec.{ltb}
 use borrow.Author.Tests.{lt-ltb, le-ltb}
+use Rattle.refusal.specs.Checks.{Said}
 use Rattle.refusal.specs.Checks.Said.{refused, answers}
 use Rattle.refusal.specs.Numbers.{TABLE, NETWORK, GROUP, number_of}
 use Rattle.record.specs.declared.Stream.{Stream}
@@ -15,30 +16,66 @@ use Rattle.frame.specs.TagCalls.{said_read}
 use Rattle.frame.specs.Frame.{Tag, group_source, read_of}
 use Rattle.std.specs.Prelude.{Option, None, Some, is_some, ok_or, Result, Ok, Err}
 use Rattle.refusal.specs.declared.Refusal.{Refusal}
-use Rattle.refusal.specs.declared.Refusal.TheVariants.{Damaged, Room, Taken, Full, Slot}
+use Rattle.refusal.specs.declared.Refusal.TheVariants.{Table, Network, Damaged, Room, Taken, Full, Slot}
 use Rattle.stream.specs.Record.{settled, lawful, closed}
 use Rattle.stream.specs.Decisions as decisions
 use Rattle.stream.specs.declared.Weighed.{Weighed}
 use Rattle.stream.specs.Steps.{weighed_as, weighed}
 use Rattle.calls.specs.Calls.{admitted}
-use Rattle.calls.specs.Steps.{asked, judged, placing_of, close_change, reset_change}
+use Rattle.calls.specs.Steps.{begun, asked, judged, placing_of, close_change, reset_change}
 use Rattle.calls.proofs.Admits.{admits-all, admits-none}
+
+-- ---- begin
+
+module _ (slots network : ℕ) where
+  pub begin-many : slots_most < slots → Err Table ≡ begun slots network
+  unfolding begun
+  begin-many m = simp (lt-ltb _ _ m)
+
+  pub begin-network : slots ≤ slots_most → 1 < network → Err Network ≡ begun slots network
+  unfolding begun
+  begin-network m n = simp (le-ltb _ _ m, lt-ltb _ _ n)
+
+  pub begin-passed : slots ≤ slots_most → network ≤ 1 → Ok tt ≡ begun slots network
+  unfolding begun
+  begin-passed m n = simp (le-ltb _ _ m, le-ltb _ _ n)
+
+-- a call that is refused by these is refused, whatever follows; and one that passes goes on
+module _ {A : Type 0} (slots network : ℕ) (rest : Said A) where
+  abbrev behind : Said A
+  behind = if ltb slots_most slots then refused TABLE else if ltb 1 network then refused NETWORK else rest
+
+  pub begun-refused : {refusal : Refusal} → begun slots network ≡ Err refusal → refused (number_of refusal) ≡ behind
+  unfolding begun
+  begun-refused {refusal} e = go (ltb slots_most slots) (ltb 1 network) e
+    where
+      go : (a b : Bool) → ◌≡◌ {A = Result Unit Refusal} (if a then Err Table else if b then Err Network else Ok tt) (Err refusal)
+          → refused (number_of refusal) ≡ (if a then refused TABLE else if b then refused NETWORK else rest)
+      go true b e = let r : Table ≡ refusal = cc in rw (← r) refl
+      go false true e = let r : Network ≡ refusal = cc in rw (← r) refl
+      go false false e = cc
+
+  pub begun-passed : begun slots network ≡ Ok tt → rest ≡ behind
+  unfolding begun
+  begun-passed e = go (ltb slots_most slots) (ltb 1 network) e
+    where
+      go : (a b : Bool) → ◌≡◌ {A = Result Unit Refusal} (if a then Err Table else if b then Err Network else Ok tt) (Ok tt)
+          → rest ≡ (if a then refused TABLE else if b then refused NETWORK else rest)
+      go true b e = cc
+      go false true e = cc
+      go false false e = refl
 
 -- ---- ask
 
 module _ (slots network : ℕ) (f : List ℕ) where
-  pub ask-many : slots_most < slots → refused TABLE ≡ asked slots network f
+  pub ask-many : {refusal : Refusal} → begun slots network ≡ Err refusal → refused (number_of refusal) ≡ asked slots network f
   unfolding asked
-  ask-many m = simp (lt-ltb _ _ m)
+  ask-many e = begun-refused slots network _ e
 
-  pub ask-network : slots ≤ slots_most → 1 < network → refused NETWORK ≡ asked slots network f
-  unfolding asked
-  ask-network m n = simp (le-ltb _ _ m, lt-ltb _ _ n)
-
-  module _ (few : slots ≤ slots_most) (net : network ≤ 1) where
+  module _ (passed : begun slots network ≡ Ok tt) where
     reads : asked slots network f ≡ admitted f (read_of f)
     unfolding asked
-    reads = simp (le-ltb _ _ few, le-ltb _ _ net)
+    reads = sym (begun-passed slots network _ passed)
 
     pub ask-refused : {r : Result Tag Refusal} (m : Refusal) → said_read r ≡ read_of f → r ≡ Err m → refused (number_of m) ≡ asked slots network f
     unfolding admitted

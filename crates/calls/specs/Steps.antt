@@ -6,7 +6,7 @@ use Rattle.refusal.specs.Checks.{Said, said}
 use Rattle.refusal.specs.Checks.Said.{refused, answers}
 use Rattle.refusal.specs.Numbers.{TABLE, NETWORK, number_of}
 use Rattle.refusal.specs.declared.Refusal.{Refusal}
-use Rattle.refusal.specs.declared.Refusal.TheVariants.{Damaged, Room, Taken, Full, Slot}
+use Rattle.refusal.specs.declared.Refusal.TheVariants.{Table, Network, Damaged, Room, Taken, Full, Slot}
 use Rattle.std.specs.Prelude.{Option, is_some, ok_or, Result, Ok, Err}
 use Rattle.std.specs.Result.{result_ok}
 use Rattle.record.specs.declared.Stream.{Stream}
@@ -21,11 +21,15 @@ use Rattle.stream.specs.Steps.{weighed, record_after}
 use Rattle.stream.specs.declared.Weighed.{Weighed}
 use Rattle.stream.specs.declared.Weighed.TheVariants as weighs
 use Rattle.frame.specs.declared.Rank.{Rank}
-use Rattle.calls.specs.Calls.{admitted, Answer, arrived, handed_up, duplicate, rogue}
+use Rattle.calls.specs.Calls.{admitted, Answer, Verdict, arrived, handed_up, duplicate, rogue}
 
 -- ---- an arrival
 
--- 1 to 5 and 14, from the number of slots, the network and the frame.
+-- 1 and 2, from the number of slots and the network;
+unfoldable pub begun : (slots network : ℕ) → Result Unit Refusal
+begun slots network = if ltb slots_most slots then Err Table else if ltb 1 network then Err Network else Ok tt
+
+-- 1 to 5 and 14, from these and the frame.
 unfoldable pub asked : (slots network : ℕ) (frame : List ℕ) → Said Tag
 asked slots network f =
     if ltb slots_most slots then refused TABLE
@@ -64,12 +68,15 @@ weighed_in j = result_ok j
 abbrev pub record_of : Stream → (network : ℕ) → Result Weighed Refusal → Stream
 record_of s network j = record_after s network (weighed_in j)
 
--- The answer.
+-- The answer, with the verdict that it tells of a frame of which so many bytes are handed up.
+abbrev pub verdict_told : Weighed → (length : ℕ) → Verdict
+verdict_told (weighs.HandedUp m) l = handed_up l
+verdict_told weighs.Duplicate l = duplicate
+verdict_told weighs.Rogue l = rogue
+
 abbrev pub finished : Result Weighed Refusal → (slot number : ℕ) → Rank → (length : ℕ) → Said Answer
 finished (Err refusal) slot number rank l = refused (number_of refusal)
-finished (Ok (weighs.HandedUp m)) slot number rank l = answers (arrived slot number rank (handed_up l))
-finished (Ok weighs.Duplicate) slot number rank l = answers (arrived slot number rank duplicate)
-finished (Ok weighs.Rogue) slot number rank l = answers (arrived slot number rank rogue)
+finished (Ok w) slot number rank l = answers (arrived slot number rank (verdict_told w l))
 
 -- The output bytes: those that handed up leaves, and nothing else writes.
 abbrev pub bytes_of : Result Weighed Refusal → (written out : List ℕ) → List ℕ

@@ -2,8 +2,8 @@
 // checks", and document 02, order 1).
 ghost use Rattle.std.specs.Prelude.{◌≡◌, ◌-◌, Ok, length};
 ghost use Rattle.frame.specs.TagCalls.{written_without};
-ghost use Rattle.calls.specs.Said.{said_arrival};
-ghost use Rattle.calls.specs.Steps.{said_asked, asked, has_room, judged, finished, bytes_of};
+ghost use Rattle.calls.specs.Said.{said_verdict, said_arrival};
+ghost use Rattle.calls.specs.Steps.{begun, said_asked, asked, has_room, judged, verdict_told, finished, bytes_of};
 
 use super::{Arrived, Verdict};
 use frame::Tag;
@@ -11,9 +11,9 @@ use record::Stream;
 use refusal::Refusal;
 use stream::Weighed;
 
-// Arrival: 1 and 2, then 3, 4 and 5 as the frame's reader gives them, then 14.
-pub fn ask(slots: usize, network: u8, frame: &[u8]) -> Result<Tag, Refusal>
-    ensures { said_asked result ≡ asked slots network frame.now }
+// Arrival, of a virtual link too: 1 and 2.
+pub fn begin(slots: usize, network: u8) -> Result<(), Refusal>
+    ensures { result ≡ begun slots network }
 {
     if slots > Stream::SLOTS_MOST {
         return Err(Refusal::Table);
@@ -21,6 +21,14 @@ pub fn ask(slots: usize, network: u8, frame: &[u8]) -> Result<Tag, Refusal>
     if network > 1 {
         return Err(Refusal::Network);
     }
+    Ok(())
+}
+
+// Arrival: 1 and 2, then 3, 4 and 5 as the frame's reader gives them, then 14.
+pub fn ask(slots: usize, network: u8, frame: &[u8]) -> Result<Tag, Refusal>
+    ensures { said_asked result ≡ asked slots network frame.now }
+{
+    begin(slots, network)?;
     let tag = frame::read_tag(frame)?;
     if frame::group_source(frame) {
         return Err(Refusal::Group);
@@ -32,14 +40,7 @@ pub fn ask(slots: usize, network: u8, frame: &[u8]) -> Result<Tag, Refusal>
 pub fn fits(frame: &[u8], out: &[u8]) -> bool
     ensures { result ≡ has_room (length frame.now - 6) out.now }
 {
-    bare_length(frame) <= out.len()
-}
-
-// The length of a frame without its tag; 0 for one that is too short to hold a tag.
-fn bare_length(frame: &[u8]) -> usize
-    ensures { result ≡ length frame.now - 6 }
-{
-    frame.len().saturating_sub(6)
+    frame.len().saturating_sub(6) <= out.len()
 }
 
 // Arrival: 7, then 8, then what it is to its record. Nothing is marked yet: the room for it has to be known before.
@@ -60,18 +61,24 @@ pub fn finish(weighed: Weighed, slot: usize, tag: Tag, frame: &[u8], out: &mut [
     ensures result_value { said_arrival (Ok result) ≡ finished (Ok weighed) slot tag.number tag.header.rank (length frame.now - 6) }
     ensures out_after { out.new ≡ bytes_of (Ok weighed) (written_without frame.now tag.header.at out.old) out.old }
 {
-    let verdict = match weighed {
-        Weighed::HandedUp(_) => {
-            frame::write_without(frame, tag.header.at, out);
-            Verdict::HandedUp(bare_length(frame))
-        }
-        Weighed::Duplicate => Verdict::Duplicate,
-        Weighed::Rogue => Verdict::Rogue,
-    };
+    if let Weighed::HandedUp(_) = weighed {
+        frame::write_without(frame, tag.header.at, out);
+    }
     Arrived {
         slot,
         number: tag.number,
         rank: tag.header.rank,
-        verdict,
+        verdict: told(weighed, frame.len().saturating_sub(6)),
+    }
+}
+
+// The verdict that is answered, of a frame of which so many bytes are handed up.
+pub fn told(weighed: Weighed, length: usize) -> Verdict
+    ensures { said_verdict result ≡ verdict_told weighed length }
+{
+    match weighed {
+        Weighed::HandedUp(_) => Verdict::HandedUp(length),
+        Weighed::Duplicate => Verdict::Duplicate,
+        Weighed::Rogue => Verdict::Rogue,
     }
 }

@@ -18,7 +18,7 @@ use record::{Counts, State, Stream};
 pub use slot::{close, is_free, place, reset};
 
 // What an arrival was found to be.
-#[derive(Clone, Copy)]
+#[derive(Clone, Copy, Debug, PartialEq, Eq)]
 pub enum Verdict {
     // With the length of the frame that was written.
     HandedUp(usize),
@@ -27,7 +27,7 @@ pub enum Verdict {
 }
 
 // What an arrival that is not refused answers: its stream's slot, its number, its priority and its verdict.
-#[derive(Clone, Copy)]
+#[derive(Clone, Copy, Debug, PartialEq, Eq)]
 pub struct Arrived {
     pub slot: usize,
     pub number: u16,
@@ -40,7 +40,7 @@ pub struct Arrived {
 // Where it is refused, refusal is the number and the rest is 0. The rank goes through as one: of two fields here the compiler
 // parted it, at three instructions an arrival (docs/SPEED.md).
 #[repr(C)]
-#[derive(Clone, Copy)]
+#[derive(Clone, Copy, Debug, Default, PartialEq, Eq)]
 pub struct ArrivalAnswer {
     pub slot: usize,
     pub length: usize,
@@ -114,7 +114,7 @@ pub fn blank() -> Stream
 }
 
 // What a tick counts: streams that it reset, and records in use that are damaged.
-#[derive(Clone, Copy)]
+#[derive(Clone, Copy, Debug, Default, PartialEq, Eq)]
 pub struct Sums {
     pub resets: u64,
     pub damaged: u64,
@@ -125,16 +125,6 @@ pub struct Sums {
 pub struct Visited {
     pub stream: Stream,
     pub sums: Sums,
-}
-
-// What is counted before any record is looked at.
-pub fn no_sums() -> Sums
-    ensures { result ≡ no_sums }
-{
-    Sums {
-        resets: 0,
-        damaged: 0,
-    }
 }
 
 // The tick of one record, after those that c counts.

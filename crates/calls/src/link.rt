@@ -7,7 +7,8 @@ ghost use Rattle.calls.specs.Said.{said_arrival};
 ghost use Rattle.calls.specs.Table.{hears};
 ghost use Rattle.calls.specs.Steps.{link_asked, has_room, finished, bytes_of};
 
-use super::{Arrived, Verdict};
+use super::Arrived;
+use super::arrival::{begin, told};
 use frame::{LinkTag, Rank};
 use record::Stream;
 use refusal::Refusal;
@@ -33,27 +34,15 @@ pub fn hears_links(s: Stream, dest: u64, vlan: u16) -> bool
 pub fn ask_link(slots: usize, network: u8, frame: &[u8]) -> Result<LinkTag, Refusal>
     ensures { said_link result ≡ link_asked slots network frame.now }
 {
-    if slots > Stream::SLOTS_MOST {
-        return Err(Refusal::Table);
-    }
-    if network > 1 {
-        return Err(Refusal::Network);
-    }
+    begin(slots, network)?;
     frame::read_link(frame)
-}
-
-// The length of a frame without its last byte; 0 for one that has none.
-fn shorter_length(frame: &[u8]) -> usize
-    ensures { result ≡ length frame.now - 1 }
-{
-    frame.len().saturating_sub(1)
 }
 
 // Does the output hold the frame without its last byte?
 pub fn fits_link(frame: &[u8], out: &[u8]) -> bool
     ensures { result ≡ has_room (length frame.now - 1) out.now }
 {
-    shorter_length(frame) <= out.len()
+    frame.len().saturating_sub(1) <= out.len()
 }
 
 // The answer, with no priority, since no VLAN tag is read; and where the frame is handed up, the frame without its last byte at
@@ -68,22 +57,13 @@ pub fn finish_link(
     ensures result_value { said_arrival (Ok result) ≡ finished (Ok weighed) slot number unranked (length frame.now - 1) }
     ensures out_after { out.new ≡ bytes_of (Ok weighed) (written_shorter frame.now out.old) out.old }
 {
-    let verdict = match weighed {
-        Weighed::HandedUp(_) => {
-            frame::write_shorter(frame, out);
-            Verdict::HandedUp(shorter_length(frame))
-        }
-        Weighed::Duplicate => Verdict::Duplicate,
-        Weighed::Rogue => Verdict::Rogue,
-    };
-    let rank = Rank {
-        priority: 0,
-        vlantag: 0,
-    };
+    if let Weighed::HandedUp(_) = weighed {
+        frame::write_shorter(frame, out);
+    }
     Arrived {
         slot,
         number,
-        rank,
-        verdict,
+        rank: Rank::default(),
+        verdict: told(weighed, frame.len().saturating_sub(1)),
     }
 }

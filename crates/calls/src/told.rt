@@ -4,7 +4,6 @@ ghost use Rattle.calls.specs.Said.{said_arrival};
 ghost use Rattle.calls.specs.Told.{tell_arrival};
 
 use super::{ArrivalAnswer, Arrived, Verdict};
-use frame::Rank;
 use refusal::Refusal;
 
 impl From<Result<Arrived, Refusal>> for ArrivalAnswer {
@@ -28,15 +27,8 @@ impl From<Result<Arrived, Refusal>> for ArrivalAnswer {
                 }
             }
             Err(refusal) => ArrivalAnswer {
-                slot: 0,
-                length: 0,
-                number: 0,
-                verdict: 0,
                 refusal: refusal.into(),
-                rank: Rank {
-                    priority: 0,
-                    vlantag: 0,
-                },
+                ..ArrivalAnswer::default()
             },
         }
     }

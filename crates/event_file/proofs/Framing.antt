@@ -14,8 +14,8 @@ use Rattle.frame.specs.Bytes.{word}
 use Rattle.event_file.specs.Records.{read_at, File, records_in, records_of}
 use Rattle.event_file.specs.Records.File.{ended, cut, body}
 use Rattle.event_file.specs.Laws.{EnoughSteps}
-use Rattle.event_file.specs.declared.reader.Read.{Read}
-use Rattle.event_file.specs.declared.reader.Read.TheVariants.{More, Body}
+use Rattle.std.specs.Prelude.{Option, Some, None}
+use Rattle.event_file.specs.declared.reader.Body.{Body}
 
 -- as many steps as there are bytes are enough
 pub same : (n m : ℕ) (s : List ℕ) → length s ≤ n → length s ≤ m → records_in n s ≡ records_in m s
@@ -59,27 +59,28 @@ pub record Whole (s : List ℕ) (at i j : ℕ) : Type 0 where
   pub end : j ≡ i + word s at
   pub room : j ≤ length s
 
-pick : (b : Bool) {z : Read} {i j : ℕ} → Body i j ≡ cond b More z → (b ≡ false) × (Body i j ≡ z)
-pick true e = absurd (let z : ◌≡◌ {A = ℕ} 0 1 = cc in omega arith)
+pick : (t : Bool) {z : Option Body} {b : Body} → Some b ≡ cond t None z → (t ≡ false) × (Some b ≡ z)
+pick true e = cc
 pick false e = (refl, e)
 
-pub whole_is : (s : List ℕ) (at : ℕ) {r : Read} (i j : ℕ) → r ≡ read_at s at → r ≡ Body i j → Whole s at i j
+pub whole_is : (s : List ℕ) (at : ℕ) {r : Option Body} (b : Body) → r ≡ read_at s at → r ≡ Some b → Whole s at b.start b.end
 unfolding read_at
-whole_is s at i j p q =
-    let a = pick (ltb (length s) (at + 2)) (sym q ∙ p) in
-    let b = pick (ltb (length s) (at + 2 + word s at)) a.1 in
-    let x : i ≡ at + 2 = cc b.1 in
-    let y : j ≡ at + 2 + word s at = cc b.1 in
-    record { start = x; end = omega arith; room = omega (arith, ltb-false (length s) (at + 2 + word s at) b.0) }
+whole_is s at b p q =
+    let x = pick (ltb (length s) (at + 2)) (sym q ∙ p) in
+    let y = pick (ltb (length s) (at + 2 + word s at)) x.1 in
+    let e : b ≡ record { start = at + 2; end = at + 2 + word s at } = cc y.1 in
+    let u : b.start ≡ at + 2 = ap (λ (b : Body). b.start) e in
+    let v : b.end ≡ at + 2 + word s at = ap (λ (b : Body). b.end) e in
+    record { start = u; end = omega arith; room = omega (arith, ltb-false (length s) (at + 2 + word s at) y.0) }
 
-more-is : (s : List ℕ) (at : ℕ) → More ≡ read_at s at → length s < at + 2 + word s at
+none-is : (s : List ℕ) (at : ℕ) → None ≡ read_at s at → length s < at + 2 + word s at
 unfolding read_at
-more-is s at p = go (ltb (length s) (at + 2)) (ltb (length s) (at + 2 + word s at)) refl refl p
+none-is s at p = go (ltb (length s) (at + 2)) (ltb (length s) (at + 2 + word s at)) _ refl refl p
   where
-    go : (b c : Bool) → ltb (length s) (at + 2) ≡ b → ltb (length s) (at + 2 + word s at) ≡ c → More ≡ cond b More (cond c More (Body (at + 2) (at + 2 + word s at))) → length s < at + 2 + word s at
-    go true c e f z = omega (arith, ltb-true (length s) (at + 2) e)
-    go false true e f z = ltb-true (length s) (at + 2 + word s at) f
-    go false false e f z = absurd (let y : ◌≡◌ {A = ℕ} 0 1 = cc in omega arith)
+    go : (b c : Bool) (w : Body) → ltb (length s) (at + 2) ≡ b → ltb (length s) (at + 2 + word s at) ≡ c → None ≡ cond b None (cond c None (Some w)) → length s < at + 2 + word s at
+    go true c w e f z = omega (arith, ltb-true (length s) (at + 2) e)
+    go false true w e f z = ltb-true (length s) (at + 2 + word s at) f
+    go false false w e f z = cc
 
 -- the length bytes, whatever follows
 same_word : (s : List ℕ) (at : ℕ) (t : List ℕ) → at + 2 ≤ length s → word (drop at s ++ t) 0 ≡ word s at
@@ -119,7 +120,7 @@ unfolding records_of records_in
 nothing_left s at e = let h : length s ≤ at = omega arith in rw (drop_of_length-le s h)
 
 -- no whole record at a place: the end, or a cut
-pub last-record : (s : List ℕ) (at : ℕ) → at ≤ length s → More ≡ read_at s at → records_of (drop at s) ≡ cond (eqb (length s) at) ended cut
+pub last-record : (s : List ℕ) (at : ℕ) → at ≤ length s → None ≡ read_at s at → records_of (drop at s) ≡ cond (eqb (length s) at) ended cut
 last-record s at h m = elim (dec_lt at (length s)) [ yes p ↦ some p | no p ↦ none (omega arith) ]
   where
     none : length s ≡ at → records_of (drop at s) ≡ cond (eqb (length s) at) ended cut
@@ -129,4 +130,4 @@ last-record s at h m = elim (dec_lt at (length s)) [ yes p ↦ some p | no p ↦
     some p =
         let l = length-drop at s in
         let ne : (length s ≡ at → ⊥) = λ e. omega arith in
-        simp (ne_eqb _ _ ne) (cut_off (drop at s) (omega arith) (short-front s at h (more-is s at m)))
+        simp (ne_eqb _ _ ne) (cut_off (drop at s) (omega arith) (short-front s at h (none-is s at m)))

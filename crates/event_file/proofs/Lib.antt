@@ -1,7 +1,6 @@
 -- The laws that other crates may cite: of decimals, of writing into a buffer, of records and pieces; and the example.
 pub mod Decimals
 pub mod Writing
-pub mod Bodies
 pub mod Framing
 pub mod Pieces
 pub mod Outputs

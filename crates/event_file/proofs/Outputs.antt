@@ -27,8 +27,9 @@ use Rattle.event_file.specs.Records.{event_of, asked_by, asked}
 use Rattle.event_file.specs.Lines.{told}
 use Rattle.event_file.specs.Files.{output, entry_for, table_after, out_after}
 use Rattle.event_file.specs.Laws.{AnyOutput, OutputLength}
+use Rattle.std.specs.Prelude.{Option, Some, None}
 use Rattle.event_file.specs.declared.reader.Event.{Event}
-use Rattle.event_file.specs.declared.reader.Event.TheVariants.{Bad, Open, Close, Reset, Arrival, Tick}
+use Rattle.event_file.specs.declared.reader.Event.TheVariants.{Open, Close, Reset, Arrival, Tick}
 
 module _ (t : Table) (network : ℕ) (f out other : List ℕ) (e : length out ≡ length other) where
   alike : (s : Said Tag) → arrival t network f out s ≡ arrival t network f other s
@@ -43,16 +44,16 @@ module _ (t : Table) (network : ℕ) (f out other : List ℕ) (e : length out �
       ap (λ (a : Act). if ltb slots_most (length t) then refuse TABLE else if ltb 1 network then refuse NETWORK else a) (alike _)
 
 module _ (t : Table) (b out : List ℕ) (h : length out ≡ frame_most) where
-  by-event : (e : Event) → (entry_for t (asked_by out b e) ≡ entry_for t (asked_by output b e)) × (table_after t (asked_by out b e) ≡ table_after t (asked_by output b e))
+  by-event : (e : Option Event) → (entry_for t (asked_by out b e) ≡ entry_for t (asked_by output b e)) × (table_after t (asked_by out b e) ≡ table_after t (asked_by output b e))
   unfolding asked_by entry_for table_after
-  by-event Bad = (refl, refl)
-  by-event (Open s) = (refl, refl)
-  by-event (Close slot) = (refl, refl)
-  by-event (Reset slot) = (refl, refl)
-  by-event (Arrival network) =
+  by-event None = (refl, refl)
+  by-event (Some (Open s)) = (refl, refl)
+  by-event (Some (Close slot)) = (refl, refl)
+  by-event (Some (Reset slot)) = (refl, refl)
+  by-event (Some (Arrival network)) =
       let same : act t (arriving network (drop 2 b) out) ≡ act t (arriving network (drop 2 b) output) = act-alike t network (drop 2 b) out output (h ∙ sym (length-replicate {A = ℕ} frame_most 0)) in
       (ap (λ (a : Act). told (code "A") (answer t a)) same, ap (after t) same)
-  by-event Tick = (refl, refl)
+  by-event (Some Tick) = (refl, refl)
 
 pub any-output : AnyOutput
 unfolding asked
@@ -133,10 +134,10 @@ output-length t b out = by (event_of b)
     alone : (c : Call) → Alone c → length (output_after t out (act t c)) ≡ length out
     alone c z = ap length (left_alone t out c z)
 
-    by : (e : Event) → length (out_after t out (asked_by out b e)) ≡ length out
-    by Bad = refl
-    by (Open s) = alone (opening _ s.vlan s.rule s.window s.time) tt
-    by (Close slot) = alone (closing slot) tt
-    by (Reset slot) = alone (resetting slot) tt
-    by (Arrival network) = arrival-length t network (drop 2 b) out
-    by Tick = alone ticking tt
+    by : (e : Option Event) → length (out_after t out (asked_by out b e)) ≡ length out
+    by None = refl
+    by (Some (Open s)) = alone (opening _ s.vlan s.rule s.window s.time) tt
+    by (Some (Close slot)) = alone (closing slot) tt
+    by (Some (Reset slot)) = alone (resetting slot) tt
+    by (Some (Arrival network)) = arrival-length t network (drop 2 b) out
+    by (Some Tick) = alone ticking tt

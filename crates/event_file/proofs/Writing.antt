@@ -1,17 +1,18 @@
 -- What a writer puts into a buffer: one write behind another, and none where there is no room. Assumes nothing.
 use mathlib.Core.Path.{◌≡◌, refl, sym, ap, ◌∙◌}
-use Prim.Native.Nat.{ℕ, ◌+◌, ◌/◌, ◌≤◌, ◌<◌}
-use native.Mathlib.Nat.{add_assoc, add-zero}
-use native.Mathlib.Numerals.{add-one}
+use Prim.Native.Nat.{ℕ, ◌+◌, ◌/◌, ◌^◌, ◌≤◌, ◌<◌}
+use native.Mathlib.Nat.{add_assoc}
 use native.Mathlib.Omega.{arith}
 use mathlib.Core.List.{List, [], ◌∷◌, ◌++◌, append_assoc}
-use lib.ListN.{length, take, drop, get_or, set, length-append, length-take, length-drop, take-append-drop}
-use lib.Seq.{take_at, drop_at, drop-drop, set_split, take-suc, length-take-le, take_all}
+use lib.ListN.{length, take, drop, length-append, length-take, length-drop, take-append-drop}
+use lib.Seq.{take_at, drop_at, drop-drop}
 use borrow.Author.Tests.{le-leb, lt-leb}
 use Rattle.event_file.specs.Text.{digit, decimal_of}
 use Rattle.event_file.specs.Buffers.{written, Put, Writes}
+use Rattle.event_file.specs.Writer.{Adds}
+use Rattle.event_file.specs.declared.writer.Writer.{Writer}
 use Rattle.event_file.specs.Laws.{WritesCoincide}
-use Rattle.event_file.proofs.Decimals.{decimal-small, decimal-large}
+use Rattle.event_file.proofs.Decimals.{decimal-small, decimal-large, decimal-most}
 
 -- two writes, one behind the other
 written_twice : (at : ℕ) (a b old : List ℕ) → at ≤ length old → written (at + length a) b (written at a old) ≡ written at (a ++ b) old
@@ -38,39 +39,42 @@ joined {a} {b} {old} {mid} {new} {at} {m} {r} x y =
       place = rw (length-append a b) (omega (arith, x.place, y.place));
     }
 
--- the same bytes, written in other words
-pub renamed : {a b old now : List ℕ} {at r : ℕ} → a ≡ b → Put b at old now r → Put a at old now r
-renamed e p = rw e p
+-- a writer adds one behind the other
+pub adds_joined : {m n : ℕ} {a b : List ℕ} {u v w : Writer} → Adds m a u v → Adds n b v w → Adds (m + n) (a ++ b) u w
+adds_joined {m} {n} {a} {b} {u} {v} {w} x y =
+    let k = length-append a b in
+    record {
+      short = omega (arith, x.short, y.short);
+      put = λ h.
+          let p = x.put (omega arith) in
+          let e = ap length p.same in
+          let f = length-written u.at a u.buf.now p.room in
+          joined p (y.put (omega (arith, p.place)));
+      lent = cc;
+    }
 
--- one byte
-pub one_byte : (b at : ℕ) (old : List ℕ) → at + 1 ≤ length old → Put (b ∷ []) at old (set old at b) (at + 1)
+pub adds_within : {m : ℕ} (n : ℕ) {a b : List ℕ} {u v : Writer} → m ≤ n → b ≡ a → Adds m a u v → Adds n b u v
+adds_within n h e x = rw e (record { short = omega (arith, x.short); put = x.put; lent = x.lent })
+
+pub adds_nothing : (n : ℕ) (w : Writer) → Adds n [] w w
 unfolding written
-one_byte b at old h = record { room = h; same = rw add-one (set_split old at b (omega arith)); place = refl }
+adds_nothing n w =
+    let z : w.at + 0 ≡ w.at = omega arith in
+    record {
+      short = omega arith;
+      put = λ h. record { room = h; same = rw z (sym (take-append-drop w.at w.buf.now)); place = omega arith };
+      lent = refl;
+    }
 
--- a word, byte by byte
-pub word-turn : (w old : List ℕ) (at i : ℕ) {now : List ℕ} → i < length w → at + length w ≤ length old → now ≡ written at (take i w) old
-    → set now (at + i) (get_or w i 0) ≡ written at (take (i + 1) w) old
-word-turn w old at i {now} h k e =
-    let l : length (take i w) ≡ i = length-take-le i w (omega arith) in
-    let n : length now ≡ length old = ap length e ∙ length-written at (take i w) old (omega arith) in
-    let o : set now (at + i) (get_or w i 0) ≡ written (at + i) (get_or w i 0 ∷ []) now = (one_byte (get_or w i 0) (at + i) now (omega arith)).same in
-    let p : written (at + i) (get_or w i 0 ∷ []) now ≡ written (at + length (take i w)) (get_or w i 0 ∷ []) (written at (take i w) old) = cc in
-    let q : take i w ++ (get_or w i 0 ∷ []) ≡ take (i + 1) w = rw add-one (sym (take-suc w i 0 h)) in
-    o ∙ (p ∙ (written_twice at (take i w) (get_or w i 0 ∷ []) old (omega arith) ∙ ap (λ (l : List ℕ). written at l old) q))
+-- a number of 64 bits, digit by digit
+module _ (n : ℕ) (h : n < 2 ^ 64) where
+  pub adds_small : {u v : Writer} → n < 10 → Adds 1 (digit n ∷ []) u v → Adds 20 (decimal_of n) u v
+  adds_small s x = let e : 48 + n ≡ digit n = omega arith in adds_within 20 (omega arith) (decimal-small n s ∙ ap (λ (d : ℕ). d ∷ []) e) x
 
-pub word-start : (w old : List ℕ) (at : ℕ) → old ≡ written at (take 0 w) old
-unfolding written
-word-start w old at = rw add-zero (sym (take-append-drop at old))
-
-pub word_end : (w old : List ℕ) (at i : ℕ) {now : List ℕ} → i ≡ length w → at + length w ≤ length old → now ≡ written at (take i w) old → Put w at old now (at + i)
-word_end w old at i e h s = record { room = h; same = s ∙ ap (λ (l : List ℕ). written at l old) (take_all i w (omega arith)); place = ap (λ (n : ℕ). at + n) e }
-
--- a number, digit by digit
-pub small_put : (n at : ℕ) {old now : List ℕ} {r : ℕ} → n < 10 → Put ((48 + n) ∷ []) at old now r → Put (decimal_of n) at old now r
-small_put n at h p = rw (decimal-small n h) p
-
-pub large-put : (n : ℕ) {at m r : ℕ} {old mid now : List ℕ} → 10 ≤ n → Put (decimal_of (n / 10)) at old mid m → Put (digit n ∷ []) m mid now r → Put (decimal_of n) at old now r
-large-put n h p q = rw (decimal-large n h) (joined p q)
+  pub adds_large : {u v w : Writer} → 10 ≤ n → Adds 20 (decimal_of (n / 10)) u v → Adds 1 (digit n ∷ []) v w → Adds 20 (decimal_of n) u w
+  adds_large l x y =
+      let j = adds_joined x y in
+      rw (decimal-large n h l) (record { short = omega (arith, ap length (decimal-large n h l), decimal-most n h); put = j.put; lent = j.lent })
 
 -- what stands before the answered place
 pub front_of : {new old now : List ℕ} {at r : ℕ} → Put new at old now r → take r now ≡ take at old ++ new
@@ -86,6 +90,10 @@ module _ {new old now : List ℕ} (most at : ℕ) {r : ℕ} where
 
   pub writes-put : at + most ≤ length old → Writes most new at old now r → Put new at old now r
   writes-put h w = record { room = w.enough h; same = rw (le-leb _ _ h) at w.same; place = rw (le-leb _ _ h) at w.place }
+
+-- what a writer that was lent this buffer has added
+pub adds_writes : (most : ℕ) {new now : List ℕ} {u v : Writer} → u.at + most ≤ length u.buf.now → Adds most new u v → now ≡ v.buf.now → Writes most new u.at u.buf.now now v.at
+adds_writes most {new} {now} {u} {v} h a e = put-writes most u.at h (rw e (a.put (omega (arith, a.short))))
 
 pub nothing_written : (most : ℕ) (new : List ℕ) (at : ℕ) (old : List ℕ) → length old < at + most → Writes most new at old old at
 nothing_written most new at old h = record { same = rw (lt-leb _ _ h); place = rw (lt-leb _ _ h); enough = λ k. absurd (omega arith) }

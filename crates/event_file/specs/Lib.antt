@@ -2,6 +2,7 @@ pub mod Text
 pub mod Records
 pub mod Lines
 pub mod Buffers
+pub mod Writer
 pub mod Files
 pub mod Example
 pub mod Pieces

@@ -1,18 +1,16 @@
 -- Document 01, "Event file and the program `events`", and document 02, order 11: one line a record, and the last line. Assumes nothing.
-use Rattle.std.specs.Prelude.{ℕ, List, [], ◌∷◌, ◌++◌, eqb}
+use Rattle.std.specs.Prelude.{ℕ, List, [], ◌∷◌, ◌++◌, eqb, Option, Some, None, Result, Ok, Err}
 use Prim.Native.Char.{code}
 use Rattle.refusal.specs.Checks.{Said}
+use Rattle.refusal.specs.Numbers.{number_of}
+use Rattle.refusal.specs.declared.Refusal.{Refusal}
 use Rattle.refusal.specs.Checks.Said.{refused, answers}
 use Rattle.std.specs.Prelude.{if◌then◌else◌}
 use Rattle.calls.specs.Calls.{Verdict, handed_up, duplicate, rogue, Answer, arrived, placed, done, swept}
 use Rattle.calls.specs.Said.{said_arrival, said_opened, said_done, said_swept}
 use Rattle.event_file.specs.Text.{text, decimal_of}
-use Rattle.event_file.specs.declared.line.Numeral.{Numeral}
-use Rattle.event_file.specs.declared.line.Numeral.TheVariants.{One, Two, Other}
 use Rattle.event_file.specs.declared.line.Reply.{Reply}
 use Rattle.event_file.specs.declared.line.Reply.TheVariants.{Open, Close, Reset, Arrival, Tick}
-use Rattle.event_file.specs.declared.line.Told.{Told}
-use Rattle.event_file.specs.declared.line.Told.TheVariants.{Bad, Answered}
 
 -- ---- the answer, parted by single spaces, numbers in decimal
 
@@ -57,12 +55,7 @@ line_of number (told letter said) = decimal_of number ++ text " " ++ (letter ∷
 unfoldable pub last_line : (left : ℕ) → List ℕ
 last_line left = if eqb left 0 then text "end\n" else text "cut\n"
 
--- ---- what each case of the writer's enums stands for
-
-abbrev pub numeral_of : Numeral → List ℕ
-numeral_of (One a) = a ∷ []
-numeral_of (Two a b) = a ∷ b ∷ []
-numeral_of (Other n) = decimal_of n
+-- ---- what each case of a reply stands for
 
 abbrev pub letter_of : Reply → ℕ
 letter_of (Open o) = code "O"
@@ -71,6 +64,11 @@ letter_of (Reset d) = code "R"
 letter_of (Arrival a) = code "A"
 letter_of (Tick s) = code "T"
 
+-- of a call whose answers say this
+abbrev pub said_by : {A : Type 0} → (A → Answer) → Result A Refusal → Said Answer
+said_by says (Err refusal) = refused (number_of refusal)
+said_by says (Ok a) = answers (says a)
+
 abbrev pub said_reply : Reply → Said Answer
 said_reply (Open o) = said_opened o
 said_reply (Close d) = said_done d
@@ -78,6 +76,7 @@ said_reply (Reset d) = said_done d
 said_reply (Arrival a) = said_arrival a
 said_reply (Tick s) = said_swept s
 
-abbrev pub said_told : Told → Entry
-said_told Bad = bad
-said_told (Answered r) = told (letter_of r) (said_reply r)
+-- of a bad record there is no reply
+abbrev pub said_told : Option Reply → Entry
+said_told None = bad
+said_told (Some r) = told (letter_of r) (said_reply r)

@@ -1,14 +1,13 @@
 -- Document 01, "Event file and the program `events`": the records of a byte string, and what the body of one asks for.
 -- Assumes nothing.
-use Rattle.std.specs.Prelude.{ℕ, zero, suc, ◌+◌, ◌*◌, Bool, ◌&&◌, List, [], ◌∷◌, length, get_or, take, drop, ltb, leb, eqb}
+use Rattle.std.specs.Prelude.{ℕ, zero, suc, ◌+◌, ◌*◌, Bool, ◌&&◌, List, [], ◌∷◌, length, get_or, take, drop, ltb, leb, eqb, Option, Some, None}
 use Rattle.std.specs.Prelude.{if◌then◌else◌}
 use Rattle.frame.specs.Bytes.{word}
 use Rattle.calls.specs.Calls.{Call, arriving, opening, closing, resetting, ticking}
-use Rattle.event_file.specs.declared.reader.Read.{Read}
-use Rattle.event_file.specs.declared.reader.Read.TheVariants.{More, Body}
+use Rattle.event_file.specs.declared.reader.Body.{Body}
 use Rattle.event_file.specs.declared.reader.Settings.{Settings}
 use Rattle.event_file.specs.declared.reader.Event.{Event}
-use Rattle.event_file.specs.declared.reader.Event.TheVariants.{Bad, Open, Close, Reset, Arrival, Tick}
+use Rattle.event_file.specs.declared.reader.Event.TheVariants.{Open, Close, Reset, Arrival, Tick}
 
 -- ---- records, each a length of two bytes, big-endian, and a body of that length
 
@@ -32,11 +31,11 @@ records_of s = records_in (length s) s
 
 -- What stands at a place of the bytes that are there so far: a whole record, whose body starts at the first number and
 -- ends before the second, where the next record is; or more bytes are needed.
-unfoldable pub read_at : List ℕ → (at : ℕ) → Read
+unfoldable pub read_at : List ℕ → (at : ℕ) → Option Body
 read_at s at =
-    if ltb (length s) (at + 2) then More
-    else if ltb (length s) (at + 2 + word s at) then More
-    else Body (at + 2) (at + 2 + word s at)
+    if ltb (length s) (at + 2) then None
+    else if ltb (length s) (at + 2 + word s at) then None
+    else Some (record { start = at + 2; end = at + 2 + word s at })
 
 -- ---- the body's first byte is its kind
 
@@ -79,28 +78,28 @@ abbrev pub wide_settings_of : List ℕ → Settings
 wide_settings_of b = record { vlan = word b 7; rule = get_or b 9 0; window = word b 10; time = word b 12 }
 
 -- What a body says. A body of length 0, an unknown kind or a wrong length is bad.
-unfoldable pub event_of : List ℕ → Event
+unfoldable pub event_of : List ℕ → Option Event
 event_of b =
-    if is_body OPEN 13 b then Open (settings_of b)
-    else if is_body WIDE 14 b then Open (wide_settings_of b)
-    else if is_body CLOSE 2 b then Close (get_or b 1 0)
-    else if is_body RESET 2 b then Reset (get_or b 1 0)
-    else if is_arrival b then Arrival (get_or b 1 0)
-    else if is_body TICK 1 b then Tick
-    else Bad
+    if is_body OPEN 13 b then Some (Open (settings_of b))
+    else if is_body WIDE 14 b then Some (Open (wide_settings_of b))
+    else if is_body CLOSE 2 b then Some (Close (get_or b 1 0))
+    else if is_body RESET 2 b then Some (Reset (get_or b 1 0))
+    else if is_arrival b then Some (Arrival (get_or b 1 0))
+    else if is_body TICK 1 b then Some Tick
+    else None
 
 -- What an event asks for, with its body and the output buffer: a call, or nothing.
 pub data Asked : Type 0 where
   nothing : Asked
   asks : Call → Asked
 
-unfoldable pub asked_by : (out b : List ℕ) → Event → Asked
-asked_by out b Bad = nothing
-asked_by out b (Open s) = asks (opening (destination_of b) s.vlan s.rule s.window s.time)
-asked_by out b (Close slot) = asks (closing slot)
-asked_by out b (Reset slot) = asks (resetting slot)
-asked_by out b (Arrival network) = asks (arriving network (drop 2 b) out)
-asked_by out b Tick = asks ticking
+unfoldable pub asked_by : (out b : List ℕ) → Option Event → Asked
+asked_by out b None = nothing
+asked_by out b (Some (Open s)) = asks (opening (destination_of b) s.vlan s.rule s.window s.time)
+asked_by out b (Some (Close slot)) = asks (closing slot)
+asked_by out b (Some (Reset slot)) = asks (resetting slot)
+asked_by out b (Some (Arrival network)) = asks (arriving network (drop 2 b) out)
+asked_by out b (Some Tick) = asks ticking
 
 unfoldable pub asked : (out b : List ℕ) → Asked
 asked out b = asked_by out b (event_of b)

@@ -3,3 +3,4 @@
 
 pub mod line;
 pub mod reader;
+mod writer;

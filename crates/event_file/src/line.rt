@@ -1,28 +1,26 @@
-// The line that answers a record (document 01, "Event file and the program `events`"): numbers, letters and words. Each
-// writer puts its bytes at a place of a buffer and answers the place behind them.
-ghost use Rattle.std.specs.Prelude.{◌≡◌, ◌+◌, ◌≤◌, [], ◌∷◌, ◌++◌, length};
-ghost use Rattle.calls.specs.Said.{said_verdict, said_arrival, said_opened, said_done, said_swept};
+// The line that answers a record (document 01, "Event file and the program `events`"): numbers, letters and words.
+ghost use Rattle.std.specs.Prelude.{◌≡◌, ◌≤◌, length};
+ghost use Rattle.refusal.specs.Numbers.{number_of};
+ghost use Rattle.refusal.specs.Checks.Said.{answers};
+ghost use Rattle.calls.specs.Calls.{Answer, arrived, placed, done, swept};
+ghost use Rattle.calls.specs.Said.{said_verdict};
 ghost use Rattle.event_file.specs.Text.{text, decimal_of};
-ghost use Rattle.event_file.specs.Lines.{pair_of, verdict_word, priority_of, answer_of, line_of, bad, told, last_line, numeral_of, letter_of, said_reply, said_told};
-ghost use Rattle.event_file.specs.Buffers.{Put, Writes, line_most, last_most};
+ghost use Rattle.event_file.specs.Lines.{pair_of, verdict_word, priority_of, answer_of, line_of, last_line, letter_of, said_by, said_reply, said_told};
+ghost use Rattle.event_file.specs.Buffers.{Writes, line_most, last_most};
+ghost use Rattle.event_file.specs.Writer.{Adds};
 
-use calls::{Answer, Done, Opened, Swept, Verdict};
+use crate::writer::Writer;
+use calls::{Arrived, Sums, Verdict};
+use refusal::Refusal;
 
 // The answer of the call that a record asked for.
 #[derive(Clone, Copy)]
 pub enum Reply {
-    Open(Opened),
-    Close(Done),
-    Reset(Done),
-    Arrival(Answer),
-    Tick(Swept),
-}
-
-// What is told of a record: that it is bad, or the answer.
-#[derive(Clone, Copy)]
-pub enum Told {
-    Bad,
-    Answered(Reply),
+    Open(Result<usize, Refusal>),
+    Close(Result<(), Refusal>),
+    Reset(Result<(), Refusal>),
+    Arrival(Result<Arrived, Refusal>),
+    Tick(Result<Sums, Refusal>),
 }
 
 // A line takes no more bytes than this, and the last line this many.
@@ -30,187 +28,118 @@ pub const LINE: usize = 92;
 
 pub const LAST: usize = 4;
 
-fn byte(b: u8, buf: &mut [u8], at: usize) -> usize
-    requires { at + 1 ≤ length buf.old }
-    ensures { Put (b ∷ []) at buf.old buf.new result }
+// A refusal's number as it is printed. (Document 01, "Which form goes where": a match on refusal numbers for printing.)
+#[tactic(auto, unfolding(crate::specs::Text::decimal_of, crate::specs::Text::digits_of))]
+fn in_digits(refusal: Refusal) -> &'static [u8]
+    ensures value { result.now ≡ decimal_of (number_of refusal) }
+    ensures short { length result.now ≤ 2 }
 {
-    buf[at] = b;
-    at + 1
-}
-
-fn word(w: &[u8], buf: &mut [u8], at: usize) -> usize
-    requires { at + length w.now ≤ length buf.old }
-    ensures { Put w.now at buf.old buf.new result }
-{
-    let mut i = 0;
-    while i < w.len() {
-        buf[at + i] = w[i];
-        i += 1;
+    match refusal {
+        Refusal::Table => b"1",
+        Refusal::Network => b"2",
+        Refusal::Long => b"3",
+        Refusal::Short => b"4",
+        Refusal::Untagged => b"5",
+        Refusal::Unknown => b"6",
+        Refusal::Damaged => b"7",
+        Refusal::Room => b"8",
+        Refusal::Setting => b"9",
+        Refusal::Taken => b"10",
+        Refusal::Full => b"11",
+        Refusal::Slot => b"12",
+        Refusal::Tagged => b"13",
+        Refusal::Group => b"14",
+        Refusal::Batch => b"15",
+        Refusal::Trailer => b"16",
+        Refusal::Index => b"18",
     }
-    at + i
 }
 
-fn digits(n: u64, buf: &mut [u8], at: usize) -> usize
-    requires { at + length (decimal_of n) ≤ length buf.old }
-    ensures { Put (decimal_of n) at buf.old buf.new result }
+fn verdict_word(v: Verdict) -> &'static [u8]
+    ensures value { result.now ≡ verdict_word (said_verdict v) }
+    ensures short { length result.now ≤ 5 }
 {
-    if n < 10 {
-        return byte(b'0' + n as u8, buf, at);
+    match v {
+        Verdict::HandedUp(_) => b"up",
+        Verdict::Duplicate => b"dup",
+        Verdict::Rogue => b"rogue",
     }
-    let next = digits(n / 10, buf, at);
-    byte(b'0' + (n % 10) as u8, buf, next)
-}
-
-// A number in decimal: at most 20 digits.
-fn decimal(n: u64, buf: &mut [u8], at: usize) -> usize
-    requires { at + 20 ≤ length buf.old }
-    ensures { (Put (decimal_of n) at buf.old buf.new result) × (result ≤ at + 20) }
-{
-    digits(n, buf, at)
 }
 
 // Two numbers, parted by a space.
-fn pair(a: u64, b: u64, buf: &mut [u8], at: usize) -> usize
-    requires { at + 41 ≤ length buf.old }
-    ensures { (Put (pair_of a b) at buf.old buf.new result) × (result ≤ at + 41) }
+fn pair(a: u64, b: u64, to: &mut Writer)
+    ensures { Adds 41 (pair_of a b) to.old to.new }
 {
-    let x = decimal(a, buf, at);
-    let y = byte(b' ', buf, x);
-    decimal(b, buf, y)
-}
-
-// A refusal's number in decimal: its digits, or a number that no refusal has. (Document 01, "Which form goes where": a match
-// on refusal numbers for printing.)
-#[derive(Clone, Copy)]
-enum Numeral {
-    One(u8),
-    Two(u8, u8),
-    Other(u8),
-}
-
-#[tactic(auto, unfolding(crate::specs::Text::decimal_of, crate::specs::Text::digits_of))]
-fn in_digits(n: u8) -> Numeral
-    ensures { numeral_of result ≡ decimal_of n }
-{
-    match n {
-        refusal::TABLE => Numeral::One(b'1'),
-        refusal::NETWORK => Numeral::One(b'2'),
-        refusal::LONG => Numeral::One(b'3'),
-        refusal::SHORT => Numeral::One(b'4'),
-        refusal::UNTAGGED => Numeral::One(b'5'),
-        refusal::UNKNOWN => Numeral::One(b'6'),
-        refusal::DAMAGED => Numeral::One(b'7'),
-        refusal::ROOM => Numeral::One(b'8'),
-        refusal::SETTING => Numeral::One(b'9'),
-        refusal::TAKEN => Numeral::Two(b'1', b'0'),
-        refusal::FULL => Numeral::Two(b'1', b'1'),
-        refusal::SLOT => Numeral::Two(b'1', b'2'),
-        refusal::TAGGED => Numeral::Two(b'1', b'3'),
-        refusal::GROUP => Numeral::Two(b'1', b'4'),
-        refusal::BATCH => Numeral::Two(b'1', b'5'),
-        refusal::TRAILER => Numeral::Two(b'1', b'6'),
-        refusal::INDEX => Numeral::Two(b'1', b'8'),
-        0 | 17 | 19..=255 => Numeral::Other(n),
-    }
-}
-
-fn write_numeral(n: Numeral, buf: &mut [u8], at: usize) -> usize
-    requires { at + 20 ≤ length buf.old }
-    ensures { (Put (numeral_of n) at buf.old buf.new result) × (result ≤ at + 20) }
-{
-    match n {
-        Numeral::One(a) => byte(a, buf, at),
-        Numeral::Two(a, b) => {
-            let x = byte(a, buf, at);
-            byte(b, buf, x)
-        }
-        Numeral::Other(a) => decimal(a as u64, buf, at),
-    }
-}
-
-// A refusal: `no` and its number.
-fn refused(n: u8, buf: &mut [u8], at: usize) -> usize
-    requires { at + 23 ≤ length buf.old }
-    ensures { (Put (text "no " ++ decimal_of n) at buf.old buf.new result) × (result ≤ at + 23) }
-{
-    let x = word(b"no ", buf, at);
-    write_numeral(in_digits(n), buf, x)
-}
-
-fn verdict_word(v: Verdict, buf: &mut [u8], at: usize) -> usize
-    requires { at + 5 ≤ length buf.old }
-    ensures { (Put (verdict_word (said_verdict v)) at buf.old buf.new result) × (result ≤ at + 5) }
-{
-    match v {
-        Verdict::HandedUp(_) => word(b"up", buf, at),
-        Verdict::Duplicate => word(b"dup", buf, at),
-        Verdict::Rogue => word(b"rogue", buf, at),
-    }
+    to.number(a);
+    to.text(b" ");
+    to.number(b);
 }
 
 // The priority, of a frame that is handed up (document 02, order 11).
-fn priority(v: Verdict, n: u8, buf: &mut [u8], at: usize) -> usize
-    requires { at + 21 ≤ length buf.old }
-    ensures { (Put (priority_of (said_verdict v) n) at buf.old buf.new result) × (result ≤ at + 21) }
+fn priority(a: Arrived, to: &mut Writer)
+    ensures { Adds 21 (priority_of (said_verdict a.verdict) a.rank.priority) to.old to.new }
 {
-    match v {
-        Verdict::HandedUp(_) => {
-            let x = byte(b' ', buf, at);
-            write_numeral(in_digits(n), buf, x)
-        }
-        Verdict::Duplicate => at,
-        Verdict::Rogue => at,
+    if let Verdict::HandedUp(_) = a.verdict {
+        to.text(b" ");
+        to.number(u64::from(a.rank.priority));
     }
 }
 
-// An answer takes at most 68 bytes: a word of five, a space, a pair of numbers, a space and a number.
-fn arrival(a: Answer, buf: &mut [u8], at: usize) -> usize
-    requires { at + 68 ≤ length buf.old }
-    ensures { (Put (answer_of (said_arrival a)) at buf.old buf.new result) × (result ≤ at + 68) }
+// What a call answers where it does not refuse.
+trait Print {
+    // What document 01 says of it.
+    ghost said: { Self → Answer };
+
+    fn print(self, to: &mut Writer)
+        ensures { Adds 68 (answer_of (answers (said self))) to.old to.new };
+}
+
+// The slot.
+impl Print for usize {
+    ghost said = { placed };
+
+    fn print(self, to: &mut Writer) {
+        to.number(self as u64);
+    }
+}
+
+impl Print for () {
+    ghost said = { λ _. done };
+
+    fn print(self, to: &mut Writer) {
+        to.text(b"ok");
+    }
+}
+
+impl Print for Arrived {
+    ghost said = { λ a. arrived a.slot a.number a.rank (said_verdict a.verdict) };
+
+    fn print(self, to: &mut Writer) {
+        to.text(verdict_word(self.verdict));
+        to.text(b" ");
+        pair(self.slot as u64, u64::from(self.number), to);
+        priority(self, to);
+    }
+}
+
+impl Print for Sums {
+    ghost said = { λ s. swept s.resets s.damaged };
+
+    fn print(self, to: &mut Writer) {
+        pair(self.resets, self.damaged, to);
+    }
+}
+
+// What a call answers, or `no` and the number of its refusal.
+fn write_result<A: Print>(a: Result<A, Refusal>, to: &mut Writer)
+    ensures { Adds 68 (answer_of (said_by A.said a)) to.old to.new }
 {
     match a {
-        Answer::Refused(n) => refused(n, buf, at),
-        Answer::Arrival {
-            slot,
-            number,
-            rank,
-            verdict,
-        } => {
-            let x = verdict_word(verdict, buf, at);
-            let y = byte(b' ', buf, x);
-            let z = pair(slot as u64, number as u64, buf, y);
-            priority(verdict, rank.priority, buf, z)
+        Ok(a) => a.print(to),
+        Err(refusal) => {
+            to.text(b"no ");
+            to.text(in_digits(refusal));
         }
-    }
-}
-
-fn opened(o: Opened, buf: &mut [u8], at: usize) -> usize
-    requires { at + 68 ≤ length buf.old }
-    ensures { (Put (answer_of (said_opened o)) at buf.old buf.new result) × (result ≤ at + 68) }
-{
-    match o {
-        Opened::Refused(n) => refused(n, buf, at),
-        Opened::At(slot) => decimal(slot as u64, buf, at),
-    }
-}
-
-fn done(d: Done, buf: &mut [u8], at: usize) -> usize
-    requires { at + 68 ≤ length buf.old }
-    ensures { (Put (answer_of (said_done d)) at buf.old buf.new result) × (result ≤ at + 68) }
-{
-    match d {
-        Done::Refused(n) => refused(n, buf, at),
-        Done::Ok => word(b"ok", buf, at),
-    }
-}
-
-fn swept(s: Swept, buf: &mut [u8], at: usize) -> usize
-    requires { at + 68 ≤ length buf.old }
-    ensures { (Put (answer_of (said_swept s)) at buf.old buf.new result) × (result ≤ at + 68) }
-{
-    match s {
-        Swept::Refused(n) => refused(n, buf, at),
-        Swept::Counted(streams, records) => pair(streams as u64, records as u64, buf, at),
     }
 }
 
@@ -226,85 +155,61 @@ fn letter(r: Reply) -> u8
     }
 }
 
-fn write_reply(r: Reply, buf: &mut [u8], at: usize) -> usize
-    requires { at + 68 ≤ length buf.old }
-    ensures { (Put (answer_of (said_reply r)) at buf.old buf.new result) × (result ≤ at + 68) }
+fn write_reply(r: Reply, to: &mut Writer)
+    ensures { Adds 68 (answer_of (said_reply r)) to.old to.new }
 {
     match r {
-        Reply::Open(o) => opened(o, buf, at),
-        Reply::Close(d) => done(d, buf, at),
-        Reply::Reset(d) => done(d, buf, at),
-        Reply::Arrival(a) => arrival(a, buf, at),
-        Reply::Tick(s) => swept(s, buf, at),
+        Reply::Open(a) => write_result(a, to),
+        Reply::Close(a) => write_result(a, to),
+        Reply::Reset(a) => write_result(a, to),
+        Reply::Arrival(a) => write_result(a, to),
+        Reply::Tick(a) => write_result(a, to),
     }
 }
 
-// The line of a record that asked for a call: its number, a letter, the answer.
-fn line(number: u64, r: Reply, buf: &mut [u8], at: usize) -> usize
-    requires { at + line_most ≤ length buf.old }
-    ensures { Put (line_of number (told (letter_of r) (said_reply r))) at buf.old buf.new result }
+// The line of a record: its number, a letter and the answer of the call that it asked for, or that it is bad.
+fn line(number: u64, told: Option<Reply>, to: &mut Writer)
+    ensures { Adds line_most (line_of number (said_told told)) to.old to.new }
 {
-    let n = decimal(number, buf, at);
-    let x = byte(b' ', buf, n);
-    let y = byte(letter(r), buf, x);
-    let z = byte(b' ', buf, y);
-    let e = write_reply(r, buf, z);
-    byte(b'\n', buf, e)
-}
-
-// The line of a bad record.
-fn bad(number: u64, buf: &mut [u8], at: usize) -> usize
-    requires { at + line_most ≤ length buf.old }
-    ensures { Put (line_of number bad) at buf.old buf.new result }
-{
-    let n = decimal(number, buf, at);
-    word(b" bad\n", buf, n)
-}
-
-fn either(number: u64, told: Told, buf: &mut [u8], at: usize) -> usize
-    requires { at + line_most ≤ length buf.old }
-    ensures { Put (line_of number (said_told told)) at buf.old buf.new result }
-{
-    match told {
-        Told::Bad => bad(number, buf, at),
-        Told::Answered(r) => line(number, r, buf, at),
-    }
+    to.number(number);
+    let Some(reply) = told else {
+        return to.text(b" bad\n");
+    };
+    to.text(&[b' ', letter(reply), b' ']);
+    write_reply(reply, to);
+    to.text(b"\n");
 }
 
 // Writes the line of a record at a place, and answers the place behind it. Where there may not be room for it, it writes
-// nothing, and answers the place itself.
-pub fn say(number: u64, told: Told, buf: &mut [u8], at: usize) -> usize
+// nothing, and answers the place itself. Of a bad record nothing is told.
+pub fn say(number: u64, told: Option<Reply>, buf: &mut [u8], at: usize) -> usize
     ensures { Writes line_most (line_of number (said_told told)) at buf.old buf.new result }
 {
-    if buf.len() < LINE {
+    if buf.len().saturating_sub(at) < LINE {
         return at;
     }
-    if buf.len() - LINE < at {
-        return at;
-    }
-    either(number, told, buf, at)
+    let mut to = Writer { buf, at };
+    line(number, told, &mut to);
+    to.at
 }
 
-fn last(left: usize, buf: &mut [u8], at: usize) -> usize
-    requires { at + last_most ≤ length buf.old }
-    ensures { Put (last_line left) at buf.old buf.new result }
+// The last line, when so many bytes are left behind the last whole record: `end` if none is, `cut` otherwise.
+#[tactic(auto, unfolding(crate::specs::Lines::last_line))]
+fn last(left: usize) -> &'static [u8]
+    ensures value { result.now ≡ last_line left }
+    ensures short { length result.now ≤ last_most }
 {
-    if left == 0 {
-        word(b"end\n", buf, at)
-    } else {
-        word(b"cut\n", buf, at)
-    }
+    if left == 0 { b"end\n" } else { b"cut\n" }
 }
 
-// Writes the last line, when so many bytes are left behind the last whole record: `end` if none is, `cut` otherwise.
+// Writes the last line at a place, as `say` does a record's.
 pub fn say_last(left: usize, buf: &mut [u8], at: usize) -> usize
     ensures { Writes last_most (last_line left) at buf.old buf.new result }
 {
-    if buf.len() < LAST {
+    if buf.len().saturating_sub(at) < LAST {
         return at;
     }
-    if buf.len() - LAST < at {
-        return at;
-    }
-    last(left, buf, at)
+    let mut to = Writer { buf, at };
+    to.text(last(left));
+    to.at
 }

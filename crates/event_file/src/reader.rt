@@ -1,19 +1,17 @@
 // Reading an event file: where the next record's body is, and what a body says.
-ghost use Rattle.std.specs.Prelude.{◌≡◌, ◌+◌, ◌≤◌, ◌<◌, length, get_or};
+ghost use Rattle.std.specs.Prelude.{◌≡◌, ◌+◌, ◌≤◌, ◌<◌, length, get_or, None};
 ghost use Rattle.frame.specs.Bytes.{word};
-ghost use Rattle.event_file.specs.Records.{OPEN, WIDE, read_at, event_of, destination_of};
+ghost use Rattle.event_file.specs.Records.{read_at, event_of, destination_of};
 
-// What stands at a place of the bytes read so far.
-#[derive(Clone, Copy)]
-pub enum Read {
-    // Not a whole record yet.
-    More,
-    // A whole record: its body starts at the first place and ends before the second, where the next record is.
-    Body(usize, usize),
+// Where the body of a whole record is: it starts at the first place and ends before the second, where the next record is.
+#[derive(Clone, Copy, Debug, PartialEq, Eq)]
+pub struct Body {
+    pub start: usize,
+    pub end: usize,
 }
 
 // What an open asks for, beside the destination: that is the six bytes behind the kind.
-#[derive(Clone, Copy)]
+#[derive(Clone, Copy, Debug, PartialEq, Eq)]
 pub struct Settings {
     pub vlan: u16,
     pub rule: u8,
@@ -21,11 +19,9 @@ pub struct Settings {
     pub time: u16,
 }
 
-// What a body says.
-#[derive(Clone, Copy)]
+// What a body asks for.
+#[derive(Clone, Copy, Debug, PartialEq, Eq)]
 pub enum Event {
-    // A body of length 0, an unknown kind or a wrong length.
-    Bad,
     Open(Settings),
     // The slot.
     Close(usize),
@@ -48,10 +44,23 @@ const TICK: u8 = 5;
 
 const WIDE_OPEN: u8 = 6;
 
-fn wide(x: u8) -> u16
-    ensures { (result ≡ x) × (result < 256) }
+// The record at a place, or nothing where none is whole yet: fewer than 65537 bytes are left then, since a body has 65535
+// at most.
+#[tactic(auto, unfolding(crate::specs::Records::read_at))]
+pub fn next(s: &[u8], at: usize) -> Option<Body>
+    ensures value { result ≡ read_at s.now at }
+    ensures s_len_bound { result ≡ None → length s.now < at + 65537 }
 {
-    x as u16
+    let (size, rest) = s.get(at..)?.split_first_chunk::<2>()?;
+    let size = usize::from(u16::from_be_bytes(*size));
+    if rest.len() < size {
+        return None;
+    }
+    let start = at + 2;
+    Some(Body {
+        start,
+        end: start + size,
+    })
 }
 
 // The two bytes at a place, high byte first.
@@ -59,120 +68,42 @@ fn word_at(s: &[u8], at: usize) -> u16
     requires { at + 2 ≤ length s.now }
     ensures { result ≡ word s.now at }
 {
-    let high = wide(s[at]);
-    let low = wide(s[at + 1]);
-    high * 256 + low
+    u16::from_be_bytes([s[at], s[at + 1]])
 }
 
-// The record at a place. Where none is whole, fewer than 65537 bytes are left: a body has 65535 at most.
-pub fn next(s: &[u8], at: usize) -> Read
-    ensures value { result ≡ read_at s.now at }
-    ensures s_len_bound { result ≡ Read.More → length s.now < at + 65537 }
-{
-    if s.len() < 2 {
-        return Read::More;
-    }
-    if s.len() - 2 < at {
-        return Read::More;
-    }
-    let size = word_at(s, at) as usize;
-    let start = at + 2;
-    if s.len() - start < size {
-        return Read::More;
-    }
-    Read::Body(start, start + size)
-}
-
-fn decode_open(body: &[u8]) -> Event
-    requires { get_or body.now 0 0 ≡ OPEN }
+// What a body says, by its first byte, the kind, and its length: nothing for a body of length 0, an unknown kind or a
+// wrong length. An open of kind 6 has two bytes for L.
+#[tactic(auto, unfolding(crate::specs::Records::event_of))]
+pub fn decode(body: &[u8]) -> Option<Event>
     ensures { result ≡ event_of body.now }
 {
-    if body.len() != 13 {
-        return Event::Bad;
-    }
-    Event::Open(Settings {
-        vlan: word_at(body, 7),
-        rule: body[9],
-        window: wide(body[10]),
-        time: word_at(body, 11),
-    })
-}
-
-// An open whose L has two bytes.
-fn decode_wide_open(body: &[u8]) -> Event
-    requires { get_or body.now 0 0 ≡ WIDE }
-    ensures { result ≡ event_of body.now }
-{
-    if body.len() != 14 {
-        return Event::Bad;
-    }
-    Event::Open(Settings {
-        vlan: word_at(body, 7),
-        rule: body[9],
-        window: word_at(body, 10),
-        time: word_at(body, 12),
-    })
-}
-
-// What a body says, by its first byte, the kind, and its length.
-pub fn decode(body: &[u8]) -> Event
-    ensures { result ≡ event_of body.now }
-{
-    if body.len() == 0 {
-        return Event::Bad;
-    }
-    let kind = body[0];
-    match kind {
-        OPEN => decode_open(body),
-        CLOSE => {
-            if body.len() != 2 {
-                return Event::Bad;
-            }
-            Event::Close(body[1] as usize)
-        }
-        RESET => {
-            if body.len() != 2 {
-                return Event::Bad;
-            }
-            Event::Reset(body[1] as usize)
-        }
-        ARRIVAL => {
-            if body.len() < 2 {
-                return Event::Bad;
-            }
-            Event::Arrival(body[1])
-        }
-        TICK => {
-            if body.len() != 1 {
-                return Event::Bad;
-            }
-            Event::Tick
-        }
-        WIDE_OPEN => decode_wide_open(body),
-        0 | 7..=255 => Event::Bad,
+    match *body.first()? {
+        OPEN if body.len() == 13 => Some(Event::Open(Settings {
+            vlan: word_at(body, 7),
+            rule: body[9],
+            window: u16::from(body[10]),
+            time: word_at(body, 11),
+        })),
+        WIDE_OPEN if body.len() == 14 => Some(Event::Open(Settings {
+            vlan: word_at(body, 7),
+            rule: body[9],
+            window: word_at(body, 10),
+            time: word_at(body, 12),
+        })),
+        CLOSE if body.len() == 2 => Some(Event::Close(usize::from(body[1]))),
+        RESET if body.len() == 2 => Some(Event::Reset(usize::from(body[1]))),
+        ARRIVAL if body.len() >= 2 => Some(Event::Arrival(body[1])),
+        TICK if body.len() == 1 => Some(Event::Tick),
+        // A wrong length; an unknown kind.
+        OPEN..=WIDE_OPEN => None,
+        0 | 7..=255 => None,
     }
 }
 
-// A byte of a body, and 0 beyond it.
-fn byte_at(body: &[u8], i: usize) -> u8
-    ensures { result ≡ get_or body.now i 0 }
-{
-    if i < body.len() {
-        return body[i];
-    }
-    0
-}
-
-// The destination of an open: the six bytes behind the kind.
+// The destination of an open: the six bytes behind the kind. (A byte beyond the body counts as 0.)
 pub fn destination(body: &[u8]) -> [u8; 6]
     ensures { result ≡ destination_of body.now }
 {
-    [
-        byte_at(body, 1),
-        byte_at(body, 2),
-        byte_at(body, 3),
-        byte_at(body, 4),
-        byte_at(body, 5),
-        byte_at(body, 6),
-    ]
+    let byte = |at: usize| body.get(at).copied().unwrap_or(0);
+    [byte(1), byte(2), byte(3), byte(4), byte(5), byte(6)]
 }

@@ -2,5 +2,4 @@
 pub mod Running
 -- What the proofs of the functions rest on.
 mod Answers
-mod Moves
 mod Turning

@@ -5,7 +5,7 @@ use native.Mathlib.Omega.{arith}
 use mathlib.Core.Bool.{true, false}
 use mathlib.Core.List.{List, [], ◌∷◌, ◌++◌, append_assoc}
 use lib.IntN.{ℤ}
-use lib.ListN.{length, take, drop, get_or, set}
+use lib.ListN.{length, take, drop, get_or}
 use lib.Dec.{eqb}
 use Rattle.event_file.specs.Records.{records_of}
 use Rattle.event_file.specs.Lines.{last_line}
@@ -16,10 +16,9 @@ use Rattle.event_turns.specs.declared.Piece.{Piece}
 use Rattle.event_turns.specs.declared.Stand.{Stand}
 use Rattle.event_turns.specs.declared.Stand.TheVariants.{Going, Ended, Failed, Used}
 use Rattle.event_turns.specs.declared.Turn.{Turn}
-use Rattle.event_turns.specs.declared.Over.{Over}
 use Rattle.event_turns.specs.declared.Over.TheVariants.{Printed}
-use Rattle.event_turns.specs.Turns.{Filled, left_of, due_from, piece_of, Turned, starts_one, start_of, version_line, Goes, here, turn, Gone, Stops, Ran, Served, RunsPrint, VersionPrints}
-use Rattle.event_turns.proofs.Turning.{append-nil}
+use Rattle.event_turns.specs.Turns.{Filled, left_of, due_from, piece_of, Turned, starts_one, start_of, Goes, here, turn, Gone, Stops, RunsPrint, VersionPrints}
+use Rattle.std.proofs.lemmas.List.{append-nil}
 
 -- ---- the first byte
 
@@ -35,20 +34,8 @@ first_byte (a ∷ s) = refl
 
 pub starts-some : (s : List ℕ) → starts_one s ≡ true → 1 ≤ length s
 unfolding starts_one
-starts-some [] e = absurd (let z : ◌≡◌ {A = ℕ} 0 1 = cc in omega arith)
+starts-some [] e = absurd (cc)
 starts-some (a ∷ s) e = omega arith
-
--- the eight letters of `version` and the line's end, one behind the other
-pub version-stored : (s : List ℕ) → 8 ≤ length s → take 8 (set (set (set (set (set (set (set (set s 0 118) 1 101) 2 114) 3 115) 4 105) 5 111) 6 110) 7 10) ≡ version_line
-version-stored (a ∷ b ∷ c ∷ d ∷ e ∷ f ∷ g ∷ h ∷ s) l = refl
-version-stored [] l = absurd (omega arith)
-version-stored (a ∷ []) l = absurd (omega arith)
-version-stored (a ∷ b ∷ []) l = absurd (omega arith)
-version-stored (a ∷ b ∷ c ∷ []) l = absurd (omega arith)
-version-stored (a ∷ b ∷ c ∷ d ∷ []) l = absurd (omega arith)
-version-stored (a ∷ b ∷ c ∷ d ∷ e ∷ []) l = absurd (omega arith)
-version-stored (a ∷ b ∷ c ∷ d ∷ e ∷ f ∷ []) l = absurd (omega arith)
-version-stored (a ∷ b ∷ c ∷ d ∷ e ∷ f ∷ g ∷ []) l = absurd (omega arith)
 
 -- ---- a run
 
@@ -61,35 +48,29 @@ goes-due {from} {onto} {h} {old} (turn {n} {k} {now} {after} {lines} {read} {wri
 
 one-starts : (s later : List ℕ) → starts_one s ≡ true → lines_from free_table 1 (records_of (drop 1 s ++ later)) ≡ lines_of (s ++ later)
 unfolding starts_one lines_of
-one-starts [] later e = absurd (let z : ◌≡◌ {A = ℕ} 0 1 = cc in omega arith)
+one-starts [] later e = absurd (cc)
 one-starts (a ∷ s) later e = rw e refl
 
 -- one turn more
 pub gone-on : {from onto : ℤ} {h : Held} {old : List ℕ} {n : ℕ} {k : Held} {now after lines : List ℕ} {r : Turn} → Gone from onto h old n Going k now → Turned from onto k now after lines r
-    → (m : ℕ) (s : Stand) → n + 1 ≡ m → r.stand ≡ s → Gone from onto h old m s r.held after
-gone-on {after = after} {lines = lines} {r = r} g t m s e f = record { read = g.read ++ piece_of r after; written = g.written ++ take r.sent.wrote lines; goes = rw (← e, ← f) (turn g.goes t) }
+    → (s : Stand) → r.stand ≡ s → Gone from onto h old (n + 1) s r.held after
+gone-on {after = after} {lines = lines} {r = r} g t s e = record { read = g.read ++ piece_of r after; written = g.written ++ take r.sent.wrote lines; goes = rw (← e) (turn g.goes t) }
 
 -- a descriptor goes to a call as bits, and comes back as the same number
 pub filled-as : {from from' : ℤ} {left : ℕ} {old now : List ℕ} {p : Piece} → from ≡ from' → Filled from left old now p → Filled from' left old now p
 filled-as e f = rw (← e) f
 
-pub ran-as : {from onto from' onto' : ℤ} {h : Held} {old now lines : List ℕ} {o : Over} → from ≡ from' → onto ≡ onto' → Ran from onto h old now lines o → Ran from' onto' h old now lines o
-ran-as e f r = rw (← e, ← f) r
-
-pub served-as : {from onto from' onto' : ℤ} {now lines : List ℕ} {o : Over} → from ≡ from' → onto ≡ onto' → Served from onto now lines o → Served from' onto' now lines o
-served-as e f s = rw (← e, ← f) s
-
 -- at the end of the input the last line is due
 goes_last : {from onto : ℤ} {h : Held} {old : List ℕ} {n : ℕ} {s : Stand} {k : Held} {now read written : List ℕ} → Goes from onto h old n s k now read written → s ≡ Ended → due_from k now [] ≡ last_line (left_of k)
-goes_last here e = absurd (let z : ◌≡◌ {A = ℕ} 0 1 = cc in omega arith)
+goes_last here e = absurd (cc)
 goes_last (turn g t) e = t.last e
 
 printed : (onto : ℤ) (left : ℕ) (lines : List ℕ) (s : Stand) (last : Sent) → Stops onto left lines s (Printed last) → (s ≡ Ended) × (take last.wrote lines ≡ last_line left)
 unfolding Stops
 printed onto left lines Ended last p = let e : last ≡ p.0 = cc in (refl, rw e p.1.1.front)
-printed onto left lines Failed last p = absurd (let z : ◌≡◌ {A = ℕ} 0 1 = cc in omega arith)
-printed onto left lines Used last p = absurd (let z : ◌≡◌ {A = ℕ} 0 1 = cc in omega arith)
-printed onto left lines Going last p = absurd (let z : ◌≡◌ {A = ℕ} 0 1 = cc in omega arith)
+printed onto left lines Failed last p = absurd (cc)
+printed onto left lines Used last p = absurd (cc)
+printed onto left lines Going last p = absurd (cc)
 
 pub runs-print : RunsPrint
 unfolding due_from

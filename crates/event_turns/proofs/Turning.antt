@@ -4,10 +4,13 @@ use Prim.Native.Nat.{ℕ, ◌+◌, ◌-◌, ◌≤◌, ◌<◌}
 use native.Mathlib.Decide.{dec_lt}
 use native.Mathlib.Omega.{arith}
 use mathlib.Core.Bool.{Bool, true, false}
-use mathlib.Core.List.{List, [], ◌∷◌, ◌++◌, append_assoc}
+use mathlib.Core.List.{List, [], ◌++◌, append_assoc}
 use lib.ListN.{length, take, drop, length-take, drop_of_length-le, take-append-drop}
-use lib.Seq.{length-take-le, take-take, take-add, drop_at}
-use lib.IntN.{ℤ, pos}
+use lib.Seq.{length-take-le, take-take}
+use Rattle.std.proofs.lemmas.List.{append-nil, drop-take}
+use lib.IntN.{ℤ}
+use Rattle.std.specs.Prelude.{Result, Ok, None}
+use Rattle.std.specs.declared.io.Error.{Error}
 use borrow.Author.Tests.{lt-leb, eq-eqb, ne_eqb}
 use Rattle.record.specs.Sizes.{frame_most}
 use Rattle.calls.specs.Table.{Table}
@@ -15,7 +18,6 @@ use Rattle.event_file.specs.Records.{records_of, read_at}
 use Rattle.event_file.specs.Lines.{last_line}
 use Rattle.event_file.specs.Buffers.{Writes, line_most, last_most}
 use Rattle.event_file.specs.Files.{lines_from}
-use Rattle.event_file.specs.declared.reader.Read.TheVariants.{More}
 use Rattle.event_file.proofs.Framing.{last-record}
 use Rattle.event_file.proofs.Writing.{front_of, writes-put}
 use Rattle.event_run.specs.declared.Place.{Place}
@@ -40,7 +42,7 @@ drained-to {t} {u} {p} {r} to input {old} {new} {out} pre d =
 -- ---- the last line
 
 -- where no whole record is left, the last line is all that is due
-pub last-due : (t : Table) (number : ℕ) (input : List ℕ) (at : ℕ) → at ≤ length input → More ≡ read_at input at
+pub last-due : (t : Table) (number : ℕ) (input : List ℕ) (at : ℕ) → at ≤ length input → None ≡ read_at input at
     → lines_from t number (records_of (drop at input)) ≡ last_line (length input - at)
 unfolding lines_from last_line
 last-due t number input at h m = elim (dec_lt at (length input)) [ yes q ↦ some q | no q ↦ none (omega arith) ]
@@ -67,27 +69,21 @@ last_written left {old} {now} {r} w h = front_of (writes-put last_most 0 h w)
 
 -- ---- parts of a list
 
-pub append-nil : (l : List ℕ) → l ++ [] ≡ l
-append-nil [] = refl
-append-nil (a ∷ l) = ap (λ (m : List ℕ). a ∷ m) (append-nil l)
-
-drop-take : (at to : ℕ) (l : List ℕ) → at ≤ to → to ≤ length l → drop at (take to l) ≡ take (to - at) (drop at l)
-drop-take at to l h k =
-    let e : at + (to - at) ≡ to = omega arith in
-    ap (λ (n : ℕ). drop at (take n l)) (sym e) ∙ (ap (drop at) (take-add at (to - at) l) ∙ drop_at (take at l) (take (to - at) (drop at l)) at (length-take-le at l (omega arith)))
+drop-to : (at to : ℕ) (l : List ℕ) → at ≤ to → drop at (take to l) ≡ take (to - at) (drop at l)
+drop-to at to l h = let e : at + (to - at) ≡ to = omega arith in rw e at (drop-take at (to - at) l)
 
 none-behind : (to : ℕ) (l : List ℕ) → drop (to - 0) (take to l) ≡ []
 none-behind to l = let n : length (take to l) ≤ to - 0 = omega (arith, length-take to l) in drop_of_length-le (take to l) n
 
 -- ---- a turn
 
-module _ (from onto : ℤ) (h : Held) (u : Table) (r : Place) (input old new : List ℕ) (k : Kept h.table (place_of h) (take h.to input) old u r new) (s : Sent) (so : (s.onto ≡ onto) × (s.wrote ≡ r.used)) (a : r.at ≤ h.to) (x : next_of r (take h.to input) (length new) ≡ More) (fits : line_most ≤ length new) where
+module _ (from onto : ℤ) (h : Held) (u : Table) (r : Place) (input old new : List ℕ) (k : Kept h.table (place_of h) (take h.to input) old u r new) (s : Sent) (so : (s.onto ≡ onto) × (s.wrote ≡ r.used)) (a : r.at ≤ h.to) (x : next_of r (take h.to input) (length new) ≡ None) (fits : line_most ≤ length new) where
   -- what is due after the records were answered
   due-held : (rest : List ℕ) → take s.wrote new ++ lines_from u r.number (records_of (drop r.at (take h.to input) ++ rest)) ≡ due_from h input rest
   unfolding due due_from
   due-held rest = rw so.1 (k.same rest)
 
-  pub stay-turned : (f : ℤ) → f ≡ from → (stand : Stand) → stand ≡ stand_of s.out (is_whole (read_at (take h.to input) r.at)) r.number (pos 0) → (stand ≡ Ended → ⊥)
+  pub stay-turned : (f : ℤ) → f ≡ from → (stand : Stand) → stand ≡ stand_of s.out (is_whole (read_at (take h.to input) r.at)) r.number (Ok 0) → (stand ≡ Ended → ⊥)
       → Turned from onto h input input new (stays (record { table = u; number = r.number; at = r.at; to = h.to }) s f stand)
   unfolding due_from lines_from
   stay-turned f w stand e n =
@@ -108,7 +104,7 @@ module _ (from onto : ℤ) (h : Held) (u : Table) (r : Place) (input old new : L
   module _ (now : List ℕ) (left : ℕ) (l : left ≡ h.to - r.at) (b : h.to ≤ length input) (e : take left now ≡ take left (drop r.at input)) where
     -- what is left stands at the front
     front : take left now ≡ drop r.at (take h.to input)
-    front = e ∙ (ap (λ (n : ℕ). take n (drop r.at input)) l ∙ sym (drop-take r.at h.to input a b))
+    front = e ∙ (ap (λ (n : ℕ). take n (drop r.at input)) l ∙ sym (drop-to r.at h.to input a))
 
     -- and the piece that was read stands behind it
     behind : (to : ℕ) → left ≤ to → take to now ≡ drop r.at (take h.to input) ++ drop left (take to now)
@@ -120,7 +116,7 @@ module _ (from onto : ℤ) (h : Held) (u : Table) (r : Place) (input old new : L
         ap (λ (l : List ℕ). take s.wrote new ++ lines_from u r.number (records_of l)) (ap (λ (l : List ℕ). l ++ later) (behind to m) ∙ append_assoc (drop r.at (take h.to input)) (drop left (take to now)) later)
         ∙ due-held (drop left (take to now) ++ later)
 
-    pub read-turned : (to : ℕ) (f got : ℤ) → f ≡ from → to ≡ left + bytes_in got → s.out ≡ true → false ≡ is_whole (read_at (take h.to input) r.at) → (stand : Stand) → stand ≡ after_read got
+    pub read-turned : (to : ℕ) (f : ℤ) (got : Result ℕ Error) → f ≡ from → to ≡ left + bytes_in got → s.out ≡ true → false ≡ is_whole (read_at (take h.to input) r.at) → (stand : Stand) → stand ≡ after_read got
         → Turned from onto h input now new (record { held = record { table = u; number = r.number; at = 0; to = to }; sent = s; from = f; got = got; stand = stand })
     unfolding due_from lines_from
     read-turned to f got ff t o w stand st =
@@ -130,7 +126,7 @@ module _ (from onto : ℤ) (h : Held) (u : Table) (r : Place) (input old new : L
           room = fits;
           none = rw (at_left, so.1) x;
           stand = rw (at_left, o, ← w) st;
-          unread = λ z. absurd (let y : ◌≡◌ {A = Bool} true false = rw (at_left, o, ← w) at z in let x : ◌≡◌ {A = ℕ} 0 1 = cc in omega arith);
+          unread = λ z. absurd (let y : ◌≡◌ {A = Bool} true false = rw (at_left, o, ← w) at z in cc);
           there = so.0;
           whence = ff;
         }

@@ -2,18 +2,17 @@
 -- over to be written, and reads a piece more. No contract can speak of the bytes that go through a descriptor; these speak
 -- of the bytes that stand in the buffers when the calls are made, of the descriptors that the calls name and of their
 -- answers. Assumes nothing.
-use Rattle.std.specs.Prelude.{ℕ, zero, suc, ◌+◌, ◌-◌, ◌≤◌, ◌≡◌, Bool, true, false, not, ◌&&◌, List, [], ◌∷◌, ◌++◌, ℤ, pos, negsuc, length, take, drop, eqb, ltb}
-use Rattle.std.specs.Int.Signed.{non_neg}
+use Rattle.std.specs.Prelude.{ℕ, zero, suc, ◌+◌, ◌-◌, ◌≤◌, ◌≡◌, Bool, true, false, not, ◌&&◌, List, [], ◌∷◌, ◌++◌, ℤ, Result, Ok, Err, is_ok, Option, Some, None, ⊤, length, take, drop, eqb, ltb}
 use Rattle.std.specs.Prelude.{if◌then◌else◌}
 use Rattle.event_file.specs.Text.{text}
 use Rattle.event_file.specs.Records.{records_of, read_at}
 use Rattle.event_file.specs.Lines.{last_line}
 use Rattle.event_file.specs.Buffers.{line_most}
 use Rattle.event_file.specs.Files.{free_table, lines_from, lines_of}
-use Rattle.event_file.specs.declared.reader.Read.{Read}
-use Rattle.event_file.specs.declared.reader.Read.TheVariants.{Body, More}
+use Rattle.event_file.specs.declared.reader.Body.{Body}
 use Rattle.event_run.specs.Run.{last_number, next_of}
 use Rattle.event_run.specs.declared.Place.{Place}
+use Rattle.std.specs.declared.io.Error.{Error}
 use Rattle.event_turns.specs.declared.Held.{Held}
 use Rattle.event_turns.specs.declared.Sent.{Sent}
 use Rattle.event_turns.specs.declared.Piece.{Piece}
@@ -28,15 +27,15 @@ pub record Handed (onto : ℤ) (bytes lines : List ℕ) (s : Sent) : Type 0 wher
   pub there : s.onto ≡ onto
   pub front : take s.wrote lines ≡ bytes
 
--- what a read answers that has room for so many bytes: how many it brought, or -1
-abbrev pub Moved : (room : ℕ) → ℤ → Type 0
-Moved room (pos n) = n ≤ room
-Moved room (negsuc n) = n ≡ 0
+-- what a read answers that has room for so many bytes: how many it brought, or that it failed
+abbrev pub Moved : (room : ℕ) → Result ℕ Error → Type 0
+Moved room (Ok n) = n ≤ room
+Moved room (Err e) = ⊤
 
 -- how many bytes a read brought that answered so
-abbrev pub bytes_in : ℤ → ℕ
-bytes_in (pos n) = n
-bytes_in (negsuc n) = 0
+abbrev pub bytes_in : Result ℕ Error → ℕ
+bytes_in (Ok n) = n
+bytes_in (Err e) = 0
 
 -- A piece was read behind the bytes that are left, which stay.
 pub record Filled (from : ℤ) (left : ℕ) (old now : List ℕ) (p : Piece) : Type 0 where
@@ -66,15 +65,15 @@ piece_of r input = drop (r.held.to - bytes_in r.got) (take r.held.to input)
 
 -- a turn that reads nothing
 abbrev pub stays : Held → Sent → (from : ℤ) → Stand → Turn
-stays h sent from stand = record { held = h; sent = sent; from = from; got = pos 0; stand = stand }
+stays h sent from stand = record { held = h; sent = sent; from = from; got = Ok 0; stand = stand }
 
 -- where a turn left off answering, before it read: what is held after it, but for what it read, is left
 abbrev pub left_at : Held → Turn → ℕ
 left_at h r = h.to - (left_of r.held - bytes_in r.got)
 
-abbrev pub is_whole : Read → Bool
-is_whole (Body start end) = true
-is_whole More = false
+abbrev pub is_whole : Option Body → Bool
+is_whole (Some b) = true
+is_whole None = false
 
 -- a whole record is left before it reads
 abbrev pub leaves_whole : Held → (old : List ℕ) → Turn → Bool
@@ -84,14 +83,14 @@ leaves_whole h old r = is_whole (read_at (take h.to old) (left_at h r))
 abbrev pub after_whole : (number : ℕ) → Stand
 after_whole number = if ltb number last_number then Going else Used
 
--- a read that answers 0 has come to the end of the input; one that answers less has failed
-abbrev pub after_read : (got : ℤ) → Stand
-after_read (pos zero) = Ended
-after_read (pos (suc n)) = Going
-after_read (negsuc n) = Failed
+-- a read that answers 0 has come to the end of the input; one that answers an error has failed
+abbrev pub after_read : (got : Result ℕ Error) → Stand
+after_read (Ok zero) = Ended
+after_read (Ok (suc n)) = Going
+after_read (Err e) = Failed
 
 -- How a run stands after a turn, which reads exactly if its lines went out and no whole record is left.
-abbrev pub stand_of : (out whole : Bool) (number : ℕ) (got : ℤ) → Stand
+abbrev pub stand_of : (out whole : Bool) (number : ℕ) (got : Result ℕ Error) → Stand
 stand_of out whole number got = if out then (if whole then after_whole number else after_read got) else Failed
 
 -- What a turn handed over to be written, and all that is printed from then on, is what was due before it with the piece
@@ -101,9 +100,9 @@ pub record Turned (from onto : ℤ) (h : Held) (old now lines : List ℕ) (r : T
   pub same : (later : List ℕ) → take r.sent.wrote lines ++ due_from r.held now later ≡ due_from h old (piece_of r now ++ later)
   pub last : r.stand ≡ Ended → due_from r.held now [] ≡ last_line (left_of r.held)
   pub room : line_most ≤ length lines
-  pub none : next_of (record { number = r.held.number; at = left_at h r; used = r.sent.wrote }) (take h.to old) (length lines) ≡ More
+  pub none : next_of (record { number = r.held.number; at = left_at h r; used = r.sent.wrote }) (take h.to old) (length lines) ≡ None
   pub stand : r.stand ≡ stand_of r.sent.out (leaves_whole h old r) r.held.number r.got
-  pub unread : (r.sent.out && not (leaves_whole h old r)) ≡ false → r.got ≡ pos 0
+  pub unread : (r.sent.out && not (leaves_whole h old r)) ≡ false → r.got ≡ Ok 0
   pub there : r.sent.onto ≡ onto
   pub whence : r.from ≡ from
 
@@ -152,8 +151,8 @@ version_line = text "version\n"
 
 -- A whole run: a first piece is read. If that starts with the version byte, the run goes by turns.
 pub data Served (from onto : ℤ) : (now lines : List ℕ) → Over → Type 0 where
-  failed : {old now lines : List ℕ} {p : Piece} → Filled from 0 old now p → non_neg p.got ≡ false → Served from onto now lines Stopped
-  version : {old now lines : List ℕ} {p : Piece} {last : Sent} → Filled from 0 old now p → non_neg p.got ≡ true
+  failed : {old now lines : List ℕ} {p : Piece} → Filled from 0 old now p → is_ok p.got ≡ false → Served from onto now lines Stopped
+  version : {old now lines : List ℕ} {p : Piece} {last : Sent} → Filled from 0 old now p → is_ok p.got ≡ true
       → starts_one (take p.to now) ≡ false → Handed onto version_line lines last → Served from onto now lines (Version last)
   goes : {old first now lines : List ℕ} {p : Piece} {o : Over} → Filled from 0 old first p → starts_one (take p.to first) ≡ true
       → Ran from onto (start_of p.to) first now lines o → Served from onto now lines o

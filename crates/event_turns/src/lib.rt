@@ -3,42 +3,57 @@
 // depends on how the input is cut into reads.
 #![tactic(auto)]
 
-ghost use Rattle.std.specs.Prelude.{ℤ, IfSome, ◌≡◌, true, false, not, ◌+◌, ◌-◌, ◌≤◌, ◌<◌, length, take, drop};
-ghost use Rattle.std.specs.Int.Signed.{non_neg};
-ghost use Rattle.record.specs.Sizes.{frame_most};
+ghost use Rattle.std.specs.Prelude.{ℤ, IfSome, ◌≡◌, false, ◌+◌, ◌-◌, ◌≤◌, ◌<◌, length, take, drop};
+ghost use Rattle.std.specs.Io.KnownBytes.{ReadConsumes};
 ghost use Rattle.event_file.specs.Records.{read_at};
-ghost use Rattle.event_file.specs.Buffers.{line_most, last_most};
 ghost use Rattle.event_run.specs.Run.{Drained};
 ghost use Rattle.event_turns.specs.Turns.{Moved, Filled, place_of, left_of, stays, is_whole, after_whole, after_read, Turned, Stops, Ran, starts_one, start_of, version_line, Served, Runs};
 
-use event_file::reader::Read;
 use event_run::{Place, Round};
 use record::Stream;
-use std::io::Read as Reads;
+use std::io::Read;
 use std::os::fd::AsRawFd;
 
-// The descriptor of standard error.
+// The descriptor of standard error. A number, since no handle comes this far: `run` takes a reader and a number.
 const STDERR_FILENO: i32 = 2;
 
-// Moves the bytes from a place up to another to the front, and answers how many.
-fn shift(input: &mut [u8], at: usize, to: usize) -> usize
+// Bytes of the input buffer (a record and its length bytes fit, 65537, and a read brings a large piece), and of the lines (a
+// line fits, 92).
+const INPUT: usize = 262144;
+
+const LINES: usize = 65536;
+
+// The buffers of a run: what was read and is still to be answered, the lines of a turn, and the output that each arrival gets.
+#[derive(Drop)]
+struct Buffers {
+    input: [u8; INPUT],
+    lines: [u8; LINES],
+    out: [u8; Stream::FRAME_MOST],
+}
+
+// The descriptors of a run: the one that its reader names, and the one onto which its lines go. The reader and the buffers
+// are lent beside it: in one struct with them, each contract would have to say that the two numbers stay.
+#[derive(Clone, Copy)]
+struct Ends {
+    from: i32,
+    onto: i32,
+}
+
+// Moves the bytes from a place up to another to the front, and answers how many. Where they stand there already, as the front
+// of a long record does that comes in small pieces, nothing moves.
+fn shift(input: &mut [u8; INPUT], at: usize, to: usize) -> usize
     requires { (at ≤ to) × (to ≤ length input.old) }
     ensures { (result ≡ to - at) × (take result input.new ≡ take result (drop at input.old)) }
 {
-    if at == 0 {
-        return to;
+    if at > 0 {
+        input.copy_within(at..to, 0);
     }
-    let n = to - at;
-    let mut i = 0;
-    while i < n {
-        input[i] = input[at + i];
-        i += 1;
-    }
-    n
+    to - at
 }
 
-// The descriptor onto which bytes were handed over to be written, how many, and whether they went out.
-#[derive(Clone, Copy)]
+// The descriptor onto which bytes were handed over to be written, how many, and whether they went out. A flag and no `Result`:
+// `Turned` and `Handed` of specs/Turns.antt say the other two of bytes that did not go out as well.
+#[derive(Clone, Copy, Debug, PartialEq, Eq)]
 pub struct Sent {
     pub onto: i32,
     pub wrote: usize,
@@ -46,7 +61,8 @@ pub struct Sent {
 }
 
 // Hands bytes over to be written, and says so on standard error where they did not go out. That a call is made as it is
-// told is what no contract can say, here and in `fill`.
+// told is what no contract can say, here and in `fill`. It writes onto a number, by the kit's `io`, and not by
+// `std::io::Write`: `run` takes any number, as `Runs` says, and of std only a handle writes.
 fn hand_over(onto: i32, bytes: &[u8]) -> Sent
     ensures { (result.onto ≡ onto) × (result.wrote ≡ length bytes.now) }
 {
@@ -61,51 +77,36 @@ fn hand_over(onto: i32, bytes: &[u8]) -> Sent
     }
 }
 
-// Hands over the first bytes of the lines.
-fn flush(onto: i32, lines: &[u8], used: usize) -> Sent
-    requires { used ≤ length lines.now }
-    ensures { (result.onto ≡ onto) × (result.wrote ≡ used) }
-{
-    hand_over(onto, &lines[..used])
-}
-
 // What one read brought: the descriptor that it came from, the place up to which the buffer is read now, and the read's
 // answer.
 #[derive(Clone, Copy)]
 struct Piece {
     from: i32,
     to: usize,
-    got: isize,
+    got: std::io::Result<usize>,
 }
 
-// Did a read fail that answered so?
-fn failed(got: isize) -> bool
-    ensures { result ≡ not (non_neg got) }
+// One read. Where it fails, standard error says so.
+fn read<R: Read>(reader: &mut R, buf: &mut [u8]) -> std::io::Result<usize>
+    ensures moved { Moved (length buf.old) result }
+    ensures bytes { ReadConsumes (R.remaining reader.old) (R.remaining reader.new) result buf.new }
 {
-    got < 0
-}
-
-// One read, as the C library tells it: how many bytes it brought, or less than 0 where it failed.
-fn read<R: Reads>(reader: &mut R, buf: &mut [u8]) -> isize
-    ensures { Moved (length buf.old) result }
-{
-    match reader.read(buf) {
-        Ok(n) => n as isize,
-        Err(_) => -1,
+    let got = reader.read(buf);
+    if got.is_err() {
+        io::write_all(STDERR_FILENO, b"events: cannot read\n");
     }
+    got
 }
 
 // Reads a piece behind the bytes that are left, by the reader of a descriptor. There is room for one, so that no byte read
-// means the end of the input.
-fn fill<R: Reads>(reader: &mut R, from: i32, input: &mut [u8], left: usize) -> Piece
+// means the end of the input. Where the reader's bytes are known, the piece is the next of them.
+fn fill<R: Read>(reader: &mut R, from: i32, input: &mut [u8; INPUT], left: usize) -> Piece
     requires { left < length input.old }
-    ensures { Filled from left input.old input.new result }
+    ensures filled { Filled from left input.old input.new result }
+    ensures bytes { ReadConsumes (R.remaining reader.old) (R.remaining reader.new) result.got (drop left input.new) }
 {
     let got = read(reader, &mut input[left..]);
-    if failed(got) {
-        io::write_all(STDERR_FILENO, b"events: cannot read\n");
-    }
-    let n = io::count(got, &input[left..]);
+    let n = got.unwrap_or(0);
     Piece {
         from,
         to: left + n,
@@ -114,7 +115,8 @@ fn fill<R: Reads>(reader: &mut R, from: i32, input: &mut [u8], left: usize) -> P
 }
 
 // Where a run is between two turns: the table, the next record's number, and the part of the input buffer, from a place up
-// to another, that is still to be answered.
+// to another, that is still to be answered. The functions ask that the two places are in order, and the type does not hold it:
+// `start_of` and `RunsPrint` of specs/Turns.antt speak of a run that starts at 1, up to whatever place.
 #[derive(Clone, Copy)]
 struct Held {
     table: [Stream; 8],
@@ -125,7 +127,7 @@ struct Held {
 
 // How a run stands after a turn: it goes on, its input has ended, a read or a write has failed, or the numbers for records
 // are used up.
-#[derive(Clone, Copy)]
+#[derive(Clone, Copy, PartialEq, Eq)]
 enum Stand {
     Going,
     Ended,
@@ -134,42 +136,43 @@ enum Stand {
 }
 
 // What a turn came to: where the run is then, what of the first bytes of the lines was handed over to be written, the
-// descriptor that it reads from and what the read answered (0 where it did not read), and how the run stands.
+// descriptor that it reads from and what the read answered (0 where it did not read, as `Turned` says), and how the run
+// stands.
 #[derive(Clone, Copy)]
 struct Turn {
     held: Held,
     sent: Sent,
     from: i32,
-    got: isize,
+    got: std::io::Result<usize>,
     stand: Stand,
 }
 
-// The records that can be answered, of the part of the input buffer that is held.
-fn drain_to(h: Held, input: &[u8], lines: &mut [u8], out: &mut [u8]) -> Round
-    requires { (h.at ≤ h.to) × (h.to ≤ length input.now) × (length out.old ≡ frame_most) }
+// The records that can be answered, of the part of the input buffer that is held. (Of two fields that it lends at once a
+// caller is not told that they keep the length of their type: the last clause says it.)
+fn drain_to(
+    h: Held,
+    input: &[u8; INPUT],
+    lines: &mut [u8; LINES],
+    out: &mut [u8; Stream::FRAME_MOST],
+) -> Round
+    requires { (h.at ≤ h.to) × (h.to ≤ length input.now) }
     ensures drained { Drained h.table (place_of h) (take h.to input.now) lines.old out.old result.table result.place lines.new }
     ensures at_le_to { (result.place.at ≤ h.to) × (result.place.used ≤ length lines.new) }
+    ensures room { length lines.new ≡ LINES }
 {
-    let to = h.to;
-    let table = h.table;
-    let p = Place {
+    let place = Place {
         number: h.number,
         at: h.at,
         used: 0,
     };
-    event_run::drain8(table, p, &input[..to], lines, out)
+    event_run::drain8(h.table, place, &input[..h.to], lines, out)
 }
 
-// Is a whole record left?
-fn whole(input: &[u8], at: usize, to: usize) -> bool
-    requires { to ≤ length input.now }
-    ensures { (result ≡ is_whole (read_at (take to input.now) at)) × (result ≡ false → to < at + 65537) }
+// Does a whole record stand there?
+fn whole(input: &[u8], at: usize) -> bool
+    ensures { (result ≡ is_whole (read_at input.now at)) × (result ≡ false → length input.now < at + 65537) }
 {
-    let next = event_file::reader::next(&input[..to], at);
-    let Read::Body(_, _) = next else {
-        return false;
-    };
-    true
+    event_file::reader::next(input, at).is_some()
 }
 
 // How a run stands after a turn that left a whole record, with this number: it had no room for its line, which is there
@@ -178,66 +181,50 @@ fn after_whole(number: u64) -> Stand
     ensures { result ≡ after_whole number }
 {
     if number < u64::MAX {
-        return Stand::Going;
+        Stand::Going
+    } else {
+        Stand::Used
     }
-    Stand::Used
 }
 
 // How a run stands after a read that answered so.
-fn after_read(got: isize) -> Stand
+fn after_read(got: std::io::Result<usize>) -> Stand
     ensures { result ≡ after_read got }
 {
-    if failed(got) {
-        return Stand::Failed;
+    match got {
+        Ok(0) => Stand::Ended,
+        Ok(_) => Stand::Going,
+        Err(_) => Stand::Failed,
     }
-    if got == 0 {
-        return Stand::Ended;
-    }
-    Stand::Going
 }
 
 // One turn: answers what can be answered and writes the lines; then, if no whole record is left, reads a piece more.
-fn go_on<R: Reads>(
-    reader: &mut R,
-    from: i32,
-    onto: i32,
-    h: Held,
-    input: &mut [u8],
-    lines: &mut [u8],
-    out: &mut [u8],
-) -> Turn
-    requires in_bounds { (65537 ≤ length input.old) × (length out.old ≡ frame_most) × (line_most ≤ length lines.old) }
-    requires at_le_to { (h.at ≤ h.to) × (h.to ≤ length input.old) }
-    ensures turned { Turned from onto h input.old input.new lines.new result }
-    ensures at_le_to_2 { (result.held.at ≤ result.held.to) × (result.held.to ≤ length input.new) }
+fn go_on<R: Read>(reader: &mut R, ends: Ends, h: Held, buffers: &mut Buffers) -> Turn
+    requires { (h.at ≤ h.to) × (h.to ≤ length buffers.old.input) }
+    ensures turned { Turned ends.from ends.onto h buffers.old.input buffers.new.input buffers.new.lines result }
+    ensures at_le_to { (result.held.at ≤ result.held.to) × (result.held.to ≤ length buffers.new.input) }
 {
-    let d = drain_to(h, input, lines, out);
-    let table = d.table;
-    let number = d.place.number;
-    let at = d.place.at;
-    let used = d.place.used;
-    let to = h.to;
+    let Round { table, place } = drain_to(h, &buffers.input, &mut buffers.lines, &mut buffers.out);
     let held = Held {
         table,
-        number,
-        at,
-        to,
+        number: place.number,
+        at: place.at,
+        to: h.to,
     };
-    let sent = flush(onto, lines, used);
+    let sent = hand_over(ends.onto, &buffers.lines[..place.used]);
     if !sent.out {
-        return stay(held, sent, from, Stand::Failed);
+        return stay(held, sent, ends.from, Stand::Failed);
     }
-    if whole(input, at, to) {
-        return stay(held, sent, from, after_whole(number));
+    if whole(&buffers.input[..held.to], held.at) {
+        return stay(held, sent, ends.from, after_whole(held.number));
     }
-    let left = shift(input, at, to);
-    let p = fill(reader, from, input, left);
+    let left = shift(&mut buffers.input, held.at, held.to);
+    let p = fill(reader, ends.from, &mut buffers.input, left);
     Turn {
         held: Held {
-            table,
-            number,
             at: 0,
             to: p.to,
+            ..held
         },
         sent,
         from: p.from,
@@ -254,14 +241,15 @@ fn stay(held: Held, sent: Sent, from: i32, stand: Stand) -> Turn
         held,
         sent,
         from,
-        got: 0,
+        got: Ok(0),
         stand,
     }
 }
 
 // What a run came to: the input has ended and the last line was handed over; the version byte is absent or different, and
-// `version` was; a read or a write before these has failed; or the numbers for records, or the turns, are used up.
-#[derive(Clone, Copy)]
+// `version` was; a read or a write before these has failed; or the numbers for records, or the turns, are used up. One enum
+// and no `Result`: `Stops` and `Served` of specs/Turns.antt name the five, and `main` ends alike after each.
+#[derive(Clone, Copy, Debug, PartialEq, Eq)]
 pub enum Over {
     Printed(Sent),
     Version(Sent),
@@ -271,25 +259,19 @@ pub enum Over {
 }
 
 // Stops a run as it stands. At the end of the input, where no whole record is left, it writes the last line.
-fn finish(onto: i32, h: Held, stand: Stand, lines: &mut [u8]) -> Over
-    requires { (h.at ≤ h.to) × (last_most ≤ length lines.old) }
+#[tactic(auto, unfolding(crate::specs::Turns::Stops))]
+fn finish(onto: i32, h: Held, stand: Stand, lines: &mut [u8; LINES]) -> Over
+    requires { h.at ≤ h.to }
     ensures { Stops onto (left_of h) lines.new stand result }
 {
     match stand {
         Stand::Ended => {
             let used = event_file::line::say_last(h.to - h.at, lines, 0);
-            let last = flush(onto, lines, used);
-            return Over::Printed(last);
+            Over::Printed(hand_over(onto, &lines[..used]))
         }
-        Stand::Failed => {
-            return Over::Stopped;
-        }
-        Stand::Used => {
-            return Over::LastNumber;
-        }
-        Stand::Going => {
-            return Over::LastTurn;
-        }
+        Stand::Failed => Over::Stopped,
+        Stand::Used => Over::LastNumber,
+        Stand::Going => Over::LastTurn,
     }
 }
 
@@ -306,112 +288,65 @@ fn start(to: usize) -> Held
 }
 
 // Does the input begin with the version byte, 1?
+#[tactic(auto, unfolding(crate::specs::Turns::starts_one))]
 fn versioned(input: &[u8]) -> bool
     ensures { result ≡ starts_one input.now }
 {
-    if input.len() == 0 {
-        return false;
-    }
-    input[0] == 1
+    matches!(input, [1, ..])
 }
 
 // All that is printed of an absent or different version byte, at the front of the lines; and how many bytes.
-fn say_version(lines: &mut [u8]) -> usize
-    requires { 8 ≤ length lines.old }
+fn say_version(lines: &mut [u8; LINES]) -> usize
     ensures { (result ≡ 8) × (take 8 lines.new ≡ version_line) }
 {
-    lines[0] = b'v';
-    lines[1] = b'e';
-    lines[2] = b'r';
-    lines[3] = b's';
-    lines[4] = b'i';
-    lines[5] = b'o';
-    lines[6] = b'n';
-    lines[7] = b'\n';
-    8
+    let line = b"version\n";
+    lines[..line.len()].copy_from_slice(line);
+    line.len()
 }
 
-// Does a run go on that stands so?
-fn going(stand: Stand) -> bool
-    ensures { (result ≡ true → stand ≡ Stand.Going) × (result ≡ false → stand ≡ Stand.Going → ⊥) }
-{
-    match stand {
-        Stand::Going => true,
-        Stand::Ended => false,
-        Stand::Failed => false,
-        Stand::Used => false,
-    }
-}
-
-// A proved loop has to end, and nothing says that an input does: turns are counted down from a number that no run uses up.
-fn turns<R: Reads>(
-    reader: &mut R,
-    from: i32,
-    onto: i32,
-    h: Held,
-    input: &mut [u8],
-    lines: &mut [u8],
-    out: &mut [u8],
-) -> Over
-    requires in_bounds { (65537 ≤ length input.old) × (length out.old ≡ frame_most) × (line_most ≤ length lines.old) }
-    requires at_le_to { (h.at ≤ h.to) × (h.to ≤ length input.old) }
-    ensures { Ran from onto h input.old input.new lines.new result }
+// A proved loop has to end, and nothing says that an input does: there are more turns than any run uses up.
+fn turns<R: Read>(reader: &mut R, ends: Ends, h: Held, buffers: &mut Buffers) -> Over
+    requires { (h.at ≤ h.to) × (h.to ≤ length buffers.old.input) }
+    ensures { Ran ends.from ends.onto h buffers.old.input buffers.new.input buffers.new.lines result }
 {
     let mut held = h;
-    let mut left = u64::MAX;
-    while left > 0 {
-        let t = go_on(reader, from, onto, held, input, lines, out);
-        let h = t.held;
-        let stand = t.stand;
-        if !going(stand) {
-            return finish(onto, h, stand, lines);
+    for _turn in 0..u64::MAX {
+        let t = go_on(reader, ends, held, buffers);
+        if t.stand != Stand::Going {
+            return finish(ends.onto, t.held, t.stand, &mut buffers.lines);
         }
-        held = h;
-        left -= 1;
+        held = t.held;
     }
-    finish(onto, held, Stand::Going, lines)
+    finish(ends.onto, held, Stand::Going, &mut buffers.lines)
 }
 
 // Reads a first piece, and goes on where it starts with the version byte.
-fn serve<R: Reads>(
-    reader: &mut R,
-    from: i32,
-    onto: i32,
-    input: &mut [u8],
-    lines: &mut [u8],
-    out: &mut [u8],
-) -> Over
-    requires { (65537 ≤ length input.old) × (length out.old ≡ frame_most) × (line_most ≤ length lines.old) }
-    ensures { Served from onto input.new lines.new result }
+fn serve<R: Read>(reader: &mut R, ends: Ends, buffers: &mut Buffers) -> Over
+    ensures { Served ends.from ends.onto buffers.new.input buffers.new.lines result }
 {
-    let p = fill(reader, from, input, 0);
-    if failed(p.got) {
+    let p = fill(reader, ends.from, &mut buffers.input, 0);
+    if p.got.is_err() {
         return Over::Stopped;
     }
-    let to = p.to;
-    if !versioned(&input[..to]) {
-        let used = say_version(lines);
-        let said = flush(onto, lines, used);
-        return Over::Version(said);
+    if !versioned(&buffers.input[..p.to]) {
+        let used = say_version(&mut buffers.lines);
+        return Over::Version(hand_over(ends.onto, &buffers.lines[..used]));
     }
-    turns(reader, from, onto, start(to), input, lines, out)
+    turns(reader, ends, start(p.to), buffers)
 }
-
-// Bytes of the input buffer (a record and its length bytes fit, 65537, and a read brings a large piece), and of the lines (a
-// line fits, 92).
-const INPUT: usize = 262144;
-
-const LINES: usize = 65536;
 
 // Runs the event file that the reader of a descriptor gives, and writes the lines onto another. No contract can say that the
 // bytes go through the descriptors: specs/Turns.antt says what is shown of the turns.
-pub fn run<R: Reads + AsRawFd>(from: &mut R, onto: i32) -> Over
+pub fn run<R: Read + AsRawFd>(from: &mut R, onto: i32) -> Over
     ensures runs { (number : ℤ) × Runs number onto result }
     ensures number { IfSome (R.raw_fd from.old) (λ number. Runs number onto result) }
 {
     let number = from.as_raw_fd();
-    let mut input = [0u8; INPUT];
-    let mut lines = [0u8; LINES];
-    let mut out = [0u8; Stream::FRAME_MOST];
-    serve(from, number, onto, &mut input, &mut lines, &mut out)
+    let ends = Ends { from: number, onto };
+    let mut buffers = Buffers {
+        input: [0; INPUT],
+        lines: [0; LINES],
+        out: [0; Stream::FRAME_MOST],
+    };
+    serve(from, ends, &mut buffers)
 }

@@ -2,10 +2,10 @@
 // `events`").
 #![tactic(auto)]
 
-// The descriptor of standard output.
-const STDOUT_FILENO: i32 = 1;
+use std::os::fd::AsRawFd;
 
 fn main(rt: HostRuntime) {
     let mut input = rt.stdin();
-    event_turns::run(&mut input, STDOUT_FILENO);
+    let output = rt.stdout();
+    event_turns::run(&mut input, output.as_raw_fd());
 }

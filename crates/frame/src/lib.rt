@@ -4,18 +4,18 @@
 
 mod link;
 
-ghost use Rattle.std.specs.Prelude.{◌≡◌, ◌+◌, ◌*◌, ◌≤◌, ◌<◌, length};
+ghost use Rattle.std.specs.Prelude.{◌≡◌, true, ◌+◌, ◌*◌, ◌≤◌, ◌<◌, length};
 ghost use Rattle.record.specs.Sizes.{frame_most};
 ghost use Rattle.frame.specs.Bytes.{word, overlay};
 ghost use Rattle.frame.specs.Frame.{head_of, dest_of, group_source, read_of, tag_bytes, cut_at, tag_at, place_of};
-ghost use Rattle.frame.specs.TagCalls.{said_head, said_read, said_place, said_taken, said_written, take_tag, write_tag, written_without, written_with};
+ghost use Rattle.frame.specs.TagCalls.{type_place, said_head, said_read, said_place, said_taken, said_written, take_tag, write_tag, written_without, written_with};
 
 pub use link::{read_link, write_shorter};
 use record::Stream;
 use refusal::Refusal;
 
 // What stands before a frame's data.
-#[derive(Clone, Copy)]
+#[derive(Clone, Copy, Debug, PartialEq, Eq)]
 pub struct Header {
     // The destination's six bytes as one number, high byte first.
     pub dest: u64,
@@ -29,28 +29,28 @@ pub struct Header {
 
 // The VLAN tag's three priority bits, 0 to 7, and whether such a tag is there: 1, or 0 and priority 0 (order 11).
 #[repr(C)]
-#[derive(Clone, Copy)]
+#[derive(Clone, Copy, Debug, Default, PartialEq, Eq)]
 pub struct Rank {
     pub priority: u8,
     pub vlantag: u8,
 }
 
 // A tagged frame's header and number.
-#[derive(Clone, Copy)]
+#[derive(Clone, Copy, Debug, PartialEq, Eq)]
 pub struct Tag {
     pub header: Header,
     pub number: u16,
 }
 
 // A virtual link's destination and number.
-#[derive(Clone, Copy)]
+#[derive(Clone, Copy, Debug, PartialEq, Eq)]
 pub struct LinkTag {
     pub dest: u64,
     pub number: u16,
 }
 
 // A tag taken out: its number, and the length of the frame without it.
-#[derive(Clone, Copy)]
+#[derive(Clone, Copy, Debug, PartialEq, Eq)]
 pub struct Bare {
     pub number: u16,
     pub length: usize,
@@ -99,16 +99,12 @@ pub fn read_head(frame: &[u8]) -> Option<Header>
     let dest = dest_of(frame);
     let first = word_at(frame, 12);
     if first != 0x8100 {
-        let rank = Rank {
-            priority: 0,
-            vlantag: 0,
-        };
         return Some(Header {
             dest,
             vlan: 0,
             at: 12,
             tagged: first == 0xF1C1,
-            rank,
+            rank: Rank::default(),
         });
     }
     if frame.len() < 18 {
@@ -175,6 +171,36 @@ fn write_six(number: u16, dst: &mut [u8])
     dst[..6].copy_from_slice(&[0xF1, 0xC1, 0, 0, high, low]);
 }
 
+// Writes a frame without the tag at a place, 12 or 16, to the start of out: nothing for any other place, or where the bytes
+// do not fit.
+pub fn write_without(frame: &[u8], at: usize, out: &mut [u8])
+    ensures { out.new ≡ written_without frame.now at out.old }
+{
+    if at == 12 {
+        take_out::<12>(frame, out);
+    } else if at == 16 {
+        take_out::<16>(frame, out);
+    }
+}
+
+// The same at one place. With a constant for it the front is one or two moves.
+fn take_out<const AT: usize>(frame: &[u8], out: &mut [u8])
+    requires place { type_place AT ≡ true }
+    requires at_bound { AT ≤ 16 }
+    ensures { out.new ≡ written_without frame.now AT out.old }
+{
+    if frame.len() > Stream::FRAME_MOST {
+        return;
+    }
+    if frame.len() < AT + 6 {
+        return;
+    }
+    if out.len() < frame.len() - 6 {
+        return;
+    }
+    cut_at(frame, AT, out);
+}
+
 // The frame without the six bytes at a place, at the start of out.
 fn cut_at(frame: &[u8], at: usize, out: &mut [u8])
     requires at_in_bounds { at + 6 ≤ length frame.now }
@@ -184,6 +210,34 @@ fn cut_at(frame: &[u8], at: usize, out: &mut [u8])
 {
     copy(&frame[..at], out);
     copy(&frame[at + 6..], &mut out[at..]);
+}
+
+// Writes a frame with a tag put in at a place, 12 or 16, to the start of out, in the same way.
+pub fn write_with(frame: &[u8], at: usize, number: u16, out: &mut [u8])
+    ensures { out.new ≡ written_with frame.now at number out.old }
+{
+    if at == 12 {
+        put_in::<12>(frame, number, out);
+    } else if at == 16 {
+        put_in::<16>(frame, number, out);
+    }
+}
+
+fn put_in<const AT: usize>(frame: &[u8], number: u16, out: &mut [u8])
+    requires place { type_place AT ≡ true }
+    requires at_bound { AT ≤ 16 }
+    ensures { out.new ≡ written_with frame.now AT number out.old }
+{
+    if frame.len() > Stream::UNTAGGED_MOST {
+        return;
+    }
+    if frame.len() < AT {
+        return;
+    }
+    if out.len() < frame.len() + 6 {
+        return;
+    }
+    tag_at(frame, AT, number, out);
 }
 
 // The frame with a tag put in at a place, at the start of out.
@@ -196,59 +250,6 @@ fn tag_at(frame: &[u8], at: usize, number: u16, out: &mut [u8])
     copy(&frame[..at], out);
     write_six(number, &mut out[at..]);
     copy(&frame[at..], &mut out[at + 6..]);
-}
-
-// Writes a frame without the tag at a place, 12 or 16, to the start of out: nothing for any other place, or where the bytes
-// do not fit. With a constant for the place the front is one or two moves.
-pub fn write_without(frame: &[u8], at: usize, out: &mut [u8])
-    ensures { out.new ≡ written_without frame.now at out.old }
-{
-    if frame.len() > Stream::FRAME_MOST {
-        return;
-    }
-    if frame.len() < 18 {
-        return;
-    }
-    if out.len() < frame.len() - 6 {
-        return;
-    }
-    if at == 12 {
-        cut_at(frame, 12, out);
-        return;
-    }
-    if at != 16 {
-        return;
-    }
-    if frame.len() < 22 {
-        return;
-    }
-    cut_at(frame, 16, out);
-}
-
-// Writes a frame with a tag put in at a place, 12 or 16, to the start of out, in the same way.
-pub fn write_with(frame: &[u8], at: usize, number: u16, out: &mut [u8])
-    ensures { out.new ≡ written_with frame.now at number out.old }
-{
-    if frame.len() > Stream::UNTAGGED_MOST {
-        return;
-    }
-    if frame.len() < 12 {
-        return;
-    }
-    if out.len() < frame.len() + 6 {
-        return;
-    }
-    if at == 12 {
-        tag_at(frame, 12, number, out);
-        return;
-    }
-    if at != 16 {
-        return;
-    }
-    if frame.len() < 16 {
-        return;
-    }
-    tag_at(frame, 16, number, out);
 }
 
 // Take a tag out: the frame without its tag, at the start of out.

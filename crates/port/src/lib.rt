@@ -3,7 +3,7 @@
 #![tactic(auto)]
 
 ghost use Rattle.std.specs.Prelude.{◌≡◌, []};
-ghost use Rattle.frame.specs.TagCalls.{take_tag, write_tag};
+ghost use Rattle.frame.specs.TagCalls.{said_taken, take_tag, write_tag};
 ghost use Rattle.calls.specs.Calls.{arriving, opening, closing, resetting};
 ghost use Rattle.calls.specs.Said.{said_opened, said_done};
 ghost use Rattle.calls.specs.Told.{tell_arrival};
@@ -12,9 +12,10 @@ ghost use Rattle.port.specs.Answers.{tell_opened, tell_done, MeetsInC, MeetsInde
 ghost use Rattle.port.specs.Sending.{SendsInC, tell_sent};
 ghost use Rattle.sender.specs.Sender.{sender_at_first, said_sent};
 
-use calls::{ArrivalAnswer, Done, Opened};
-use frame::{Taken, Written};
+use calls::ArrivalAnswer;
+use frame::Bare;
 use record::Stream;
+use refusal::Refusal;
 use sender::{Sender, Sent};
 
 // The answer of a tag call. Where it is refused, refusal is the number and the rest is 0; otherwise refusal is 0.
@@ -26,24 +27,31 @@ pub struct TagAnswer {
     pub refusal: u8,
 }
 
+impl From<Result<Bare, Refusal>> for TagAnswer {
+    ghost from_gives = { λ taken told. told ≡ tell_taken (said_taken taken) };
+
+    fn from(taken: Result<Bare, Refusal>) -> TagAnswer {
+        match taken {
+            Ok(Bare { number, length }) => TagAnswer {
+                length,
+                number,
+                refusal: 0,
+            },
+            Err(refusal) => TagAnswer {
+                length: 0,
+                number: 0,
+                refusal: refusal.into(),
+            },
+        }
+    }
+}
+
 // Take a tag out.
 pub fn nippitsun_take_tag(frame: &[u8], out: &mut [u8]) -> TagAnswer
     ensures value { result ≡ tell_taken (take_tag frame.now out.old).said }
     ensures out_after { out.new ≡ (take_tag frame.now out.old).bytes }
 {
-    let taken = frame::take_tag(frame, out);
-    match taken {
-        Taken::Refused(refusal) => TagAnswer {
-            length: 0,
-            number: 0,
-            refusal,
-        },
-        Taken::Out(number, length) => TagAnswer {
-            length,
-            number,
-            refusal: 0,
-        },
-    }
+    frame::take_tag(frame, out).into()
 }
 
 // Write a tag.
@@ -51,37 +59,38 @@ pub fn nippitsun_write_tag(frame: &[u8], number: u16, out: &mut [u8]) -> TagAnsw
     ensures value { result ≡ tell_written number (write_tag frame.now number out.old).said }
     ensures out_after { out.new ≡ (write_tag frame.now number out.old).bytes }
 {
-    let written = frame::write_tag(frame, number, out);
-    match written {
-        Written::Refused(refusal) => TagAnswer {
-            length: 0,
-            number: 0,
-            refusal,
-        },
-        Written::Out(length) => TagAnswer {
+    match frame::write_tag(frame, number, out) {
+        Ok(length) => TagAnswer {
             length,
             number,
             refusal: 0,
+        },
+        Err(refusal) => TagAnswer {
+            length: 0,
+            number: 0,
+            refusal: refusal.into(),
         },
     }
 }
 
 // ---- the sending side. A sender is lent as its one field, the next number.
 
-fn tell_sent(a: Sent) -> TagAnswer
-    ensures { result ≡ tell_sent (said_sent a) }
-{
-    match a {
-        Sent::Refused(refusal) => TagAnswer {
-            length: 0,
-            number: 0,
-            refusal,
-        },
-        Sent::Out(number, length) => TagAnswer {
-            length,
-            number,
-            refusal: 0,
-        },
+impl From<Result<Sent, Refusal>> for TagAnswer {
+    ghost from_gives = { λ sent told. told ≡ tell_sent (said_sent sent) };
+
+    fn from(sent: Result<Sent, Refusal>) -> TagAnswer {
+        match sent {
+            Ok(Sent { number, length }) => TagAnswer {
+                length,
+                number,
+                refusal: 0,
+            },
+            Err(refusal) => TagAnswer {
+                length: 0,
+                number: 0,
+                refusal: refusal.into(),
+            },
+        }
     }
 }
 
@@ -92,16 +101,14 @@ pub fn nippitsun_send(sender: &mut u16, frame: &[u8], out0: &mut [u8], out1: &mu
     let s = Sender { next: *sender };
     let r = sender::send(s, frame, out0, out1);
     *sender = r.sender.next;
-    let a = r.answer;
-    tell_sent(a)
+    r.answer.into()
 }
 
 // Reset of a sender.
 pub fn nippitsun_reset_sender(sender: &mut u16)
     ensures { sender.new ≡ sender_at_first.next }
 {
-    let s = sender::at_first();
-    *sender = s.next;
+    *sender = sender::at_first().next;
 }
 
 // ---- the calls on a table
@@ -114,29 +121,28 @@ pub struct SlotAnswer {
     pub refusal: u8,
 }
 
-fn tell_opened(a: Opened) -> SlotAnswer
-    ensures { result ≡ tell_opened (said_opened a) }
-{
-    match a {
-        Opened::Refused(refusal) => SlotAnswer { slot: 0, refusal },
-        Opened::At(slot) => SlotAnswer { slot, refusal: 0 },
+impl From<Result<usize, Refusal>> for SlotAnswer {
+    ghost from_gives = { λ opened told. told ≡ tell_opened (said_opened opened) };
+
+    fn from(opened: Result<usize, Refusal>) -> SlotAnswer {
+        match opened {
+            Ok(slot) => SlotAnswer { slot, refusal: 0 },
+            Err(refusal) => SlotAnswer {
+                slot: 0,
+                refusal: refusal.into(),
+            },
+        }
     }
 }
 
-fn tell_done(a: Done) -> u8
-    ensures { result ≡ tell_done (said_done a) }
+// The answer of a close, a reset and a rebuild: the refusal's number, or 0. (No `From`: neither type is this crate's.)
+fn tell_done(done: Result<(), Refusal>) -> u8
+    ensures { result ≡ tell_done (said_done done) }
 {
-    match a {
-        Done::Refused(refusal) => refusal,
-        Done::Ok => 0,
+    match done {
+        Ok(()) => 0,
+        Err(refusal) => refusal.into(),
     }
-}
-
-// The six bytes of a destination, copied out.
-fn six_of(dest: &[u8; 6]) -> [u8; 6]
-    ensures { result ≡ dest.now }
-{
-    *dest
 }
 
 // Arrival.
@@ -148,16 +154,14 @@ pub fn nippitsun_arrival(
 ) -> ArrivalAnswer
     ensures { MeetsInC tell_arrival table.old (arriving network frame.now out.old) result table.new out.new }
 {
-    let a = receiver::arrival(table, network, frame, out);
-    calls::tell_arrival(a)
+    receiver::arrival(table, network, frame, out).into()
 }
 
 // Reset.
 pub fn nippitsun_reset(table: &mut [Stream], slot: usize) -> u8
     ensures { MeetsInC tell_done table.old (resetting slot) result table.new [] }
 {
-    let a = receiver::reset(table, slot);
-    tell_done(a)
+    tell_done(receiver::reset(table, slot))
 }
 
 // ---- the calls that take the index beside the table. A slice of any length may be lent: 18 refuses one that is not of 128
@@ -175,23 +179,19 @@ pub fn nippitsun_open(
 ) -> SlotAnswer
     ensures { MeetsIndexedInC tell_opened index.old table.old (opening dest.now vlan rule window time) result table.new index.new }
 {
-    let d = six_of(dest);
-    let a = receiver::open(table, index, d, vlan, rule, window, time);
-    tell_opened(a)
+    receiver::open(table, index, *dest, vlan, rule, window, time).into()
 }
 
 // Close.
 pub fn nippitsun_close(table: &mut [Stream], index: &mut [u8], slot: usize) -> u8
     ensures { MeetsIndexedInC tell_done index.old table.old (closing slot) result table.new index.new }
 {
-    let a = receiver::close(table, index, slot);
-    tell_done(a)
+    tell_done(receiver::close(table, index, slot))
 }
 
 // Rebuild of the index from the table, which stays as it is.
 pub fn nippitsun_rebuild(table: &[Stream], index: &mut [u8]) -> u8
     ensures { MeetsRebuildInC index.old table.now result index.new }
 {
-    let a = receiver::rebuild(table, index);
-    tell_done(a)
+    tell_done(receiver::rebuild(table, index))
 }

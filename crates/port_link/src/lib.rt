@@ -17,6 +17,5 @@ pub fn nippitsun_link_arrival(
 ) -> ArrivalAnswer
     ensures { MeetsInC tell_arrival table.old (linking network frame.now out.old) result table.new out.new }
 {
-    let a = receiver::link_arrival(table, network, frame, out);
-    calls::tell_arrival(a)
+    receiver::link_arrival(table, network, frame, out).into()
 }

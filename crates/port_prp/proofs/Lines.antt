@@ -8,6 +8,8 @@ use Rattle.refusal.specs.Checks.Said.{refused, answers}
 use Rattle.refusal.proofs.Checks.{first-positive}
 use Rattle.frame.specs.Bytes.{overlay}
 use Rattle.frame.specs.Frame.{type_at, has_vlan, is_tagged, tag_at}
+use Rattle.std.specs.Prelude.{Result}
+use Rattle.refusal.specs.declared.Refusal.{Refusal}
 use Rattle.prp.specs.declared.Turned.{Turned}
 use Rattle.prp.specs.Example.{head, payload, old1, new1}
 use Rattle.prp.specs.Prp.{Trailer, Told, from_prp, to_prp, said_turned, width_of, same, network_of, is_lan, after_type, wears, body_of, from_of, turn_into}
@@ -17,12 +19,12 @@ use Rattle.port_prp.specs.declared.PrpAnswer.{PrpAnswer}
 use Rattle.port_prp.specs.Lines.{line_of, tell_turned, LinesTold, FromTold, ToTold}
 
 -- a turn under the line's trailer is told
-pub from_told : {k l : Trailer} (f out : List ℕ) {bytes : List ℕ} (r : Turned) {told : PrpAnswer} → k ≡ l
+pub from_told : {k l : Trailer} (f out : List ℕ) {bytes : List ℕ} (r : Result Turned Refusal) {told : PrpAnswer} → k ≡ l
     → (said_turned r ≡ (from_prp k f out).said) × (bytes ≡ (from_prp k f out).bytes) → told ≡ tell_turned (said_turned r)
     → (told ≡ tell_turned (from_prp l f out).said) × (bytes ≡ (from_prp l f out).bytes)
 from_told f out r e p t = (t ∙ ap tell_turned p.0 ∙ ap (λ (k : Trailer). tell_turned (from_prp k f out).said) e, p.1 ∙ ap (λ (k : Trailer). (from_prp k f out).bytes) e)
 
-pub to-told : {k l : Trailer} (w : ℕ) (f out : List ℕ) {bytes : List ℕ} (r : Turned) {told : PrpAnswer} → k ≡ l
+pub to-told : {k l : Trailer} (w : ℕ) (f out : List ℕ) {bytes : List ℕ} (r : Result Turned Refusal) {told : PrpAnswer} → k ≡ l
     → (said_turned r ≡ (to_prp k w f out).said) × (bytes ≡ (to_prp k w f out).bytes) → told ≡ tell_turned (said_turned r)
     → (told ≡ tell_turned (to_prp l w f out).said) × (bytes ≡ (to_prp l w f out).bytes)
 to-told w f out r e p t = (t ∙ ap tell_turned p.0 ∙ ap (λ (k : Trailer). tell_turned (to_prp k w f out).said) e, p.1 ∙ ap (λ (k : Trailer). (to_prp k w f out).bytes) e)

@@ -6,6 +6,7 @@ ghost use Rattle.prp.specs.Prp.{trailer_of, from_prp, to_prp, said_turned};
 ghost use Rattle.port_prp.specs.Lines.{line_of, tell_turned};
 
 use prp::{Kind, Turned};
+use refusal::Refusal;
 
 // The answer of a turn. Where it is refused, refusal is the number and the rest is 0; otherwise refusal is 0.
 #[repr(C)]
@@ -17,22 +18,30 @@ pub struct PrpAnswer {
     pub refusal: u8,
 }
 
-fn tell_turned(a: Turned) -> PrpAnswer
-    ensures { result ≡ tell_turned (said_turned a) }
-{
-    match a {
-        Turned::Refused(refusal) => PrpAnswer {
-            length: 0,
-            number: 0,
-            network: 0,
-            refusal,
-        },
-        Turned::Out(network, number, length) => PrpAnswer {
-            length,
-            number,
-            network,
-            refusal: 0,
-        },
+impl From<Result<Turned, Refusal>> for PrpAnswer {
+    ghost from_gives = { λ turned told. told ≡ tell_turned (said_turned turned) };
+
+    fn from(turned: Result<Turned, Refusal>) -> PrpAnswer {
+        match turned {
+            Ok(
+                Turned {
+                    network,
+                    number,
+                    length,
+                },
+            ) => PrpAnswer {
+                length,
+                number,
+                network,
+                refusal: 0,
+            },
+            Err(refusal) => PrpAnswer {
+                length: 0,
+                number: 0,
+                network: 0,
+                refusal: refusal.into(),
+            },
+        }
     }
 }
 
@@ -52,9 +61,7 @@ pub fn nippitsun_from_prp(frame: &[u8], kind: u8, out: &mut [u8]) -> PrpAnswer
     ensures value { result ≡ tell_turned (from_prp (line_of kind) frame.now out.old).said }
     ensures out_after { out.new ≡ (from_prp (line_of kind) frame.now out.old).bytes }
 {
-    let k = kind_of(kind);
-    let a = prp::from_prp(frame, k, out);
-    tell_turned(a)
+    prp::from_prp(frame, kind_of(kind), out).into()
 }
 
 // To PRP.
@@ -62,7 +69,5 @@ pub fn nippitsun_to_prp(frame: &[u8], network: u8, kind: u8, out: &mut [u8]) -> 
     ensures value { result ≡ tell_turned (to_prp (line_of kind) network frame.now out.old).said }
     ensures out_after { out.new ≡ (to_prp (line_of kind) network frame.now out.old).bytes }
 {
-    let k = kind_of(kind);
-    let a = prp::to_prp(frame, network, k, out);
-    tell_turned(a)
+    prp::to_prp(frame, network, kind_of(kind), out).into()
 }

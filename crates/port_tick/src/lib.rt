@@ -8,8 +8,9 @@ ghost use Rattle.calls.specs.Said.{said_swept};
 ghost use Rattle.port.specs.Answers.{MeetsInC};
 ghost use Rattle.port_tick.specs.Tick.{tell_swept};
 
-use calls::Swept;
+use calls::Sums;
 use record::Stream;
+use refusal::Refusal;
 
 // The answer of a tick. Where it is refused, refusal is the number and the rest is 0; otherwise refusal is 0.
 #[repr(C)]
@@ -20,20 +21,22 @@ pub struct TickAnswer {
     pub refusal: u8,
 }
 
-fn tell_swept(a: Swept) -> TickAnswer
-    ensures { result ≡ tell_swept (said_swept a) }
-{
-    match a {
-        Swept::Refused(refusal) => TickAnswer {
-            resets: 0,
-            damaged: 0,
-            refusal,
-        },
-        Swept::Counted(resets, damaged) => TickAnswer {
-            resets,
-            damaged,
-            refusal: 0,
-        },
+impl From<Result<Sums, Refusal>> for TickAnswer {
+    ghost from_gives = { λ swept told. told ≡ tell_swept (said_swept swept) };
+
+    fn from(swept: Result<Sums, Refusal>) -> TickAnswer {
+        match swept {
+            Ok(Sums { resets, damaged }) => TickAnswer {
+                resets,
+                damaged,
+                refusal: 0,
+            },
+            Err(refusal) => TickAnswer {
+                resets: 0,
+                damaged: 0,
+                refusal: refusal.into(),
+            },
+        }
     }
 }
 
@@ -41,6 +44,5 @@ fn tell_swept(a: Swept) -> TickAnswer
 pub fn nippitsun_tick(table: &mut [Stream]) -> TickAnswer
     ensures { MeetsInC tell_swept table.old ticking result table.new [] }
 {
-    let a = receiver::tick(table);
-    tell_swept(a)
+    receiver::tick(table).into()
 }

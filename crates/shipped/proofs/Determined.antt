@@ -3,7 +3,7 @@ use Prim.Native.Nat.{ℕ}
 use mathlib.Core.Path.{◌≡◌, sym, ap, ◌∙◌}
 use mathlib.Core.List.{List}
 use Rattle.refusal.specs.Checks.{Said}
-use Rattle.refusal.proofs.Checks.{same-value}
+use Rattle.refusal.proofs.Checks.{said-tells}
 use Rattle.frame.specs.TagCalls.{Outcome}
 use Rattle.frame.specs.Laws.{Telling}
 use Rattle.calls.specs.Table.{Table}
@@ -15,8 +15,9 @@ use Rattle.index.proofs.Kept.{indexed-determined}
 use Rattle.batch.specs.Batch.{Bundle}
 use Rattle.sender.specs.Sender.{Numbered, Sends}
 use Rattle.prp.specs.Prp.{said_turned}
+use Rattle.std.specs.Prelude.{Result as Answered}
+use Rattle.refusal.specs.declared.Refusal.{Refusal}
 use Rattle.prp.specs.declared.Turned.{Turned}
-use Rattle.prp.specs.declared.Turned.TheVariants as cases
 use Rattle.port.specs.Sending.{sender_at}
 use Rattle.shipped.specs.Exports.{PlainFields}
 
@@ -69,8 +70,5 @@ outcomes {S} said tell {a = a} {b = b} p q =
     let e = p ∙ sym q in
     (tell a b (ap (λ (r : Outcome S). r.said) e), ap (λ (r : Outcome S). r.bytes) e)
 
-pub turneds : (r s : Turned) → said_turned r ≡ said_turned s → r ≡ s
-turneds (cases.Refused n) (cases.Refused m) e = cc
-turneds (cases.Refused n) (cases.Out w m l) e = cc
-turneds (cases.Out v n k) (cases.Refused m) e = cc
-turneds (cases.Out v n k) (cases.Out w m l) e = let t = same-value e in λ i. cases.Out (t i).network (t i).number (t i).length
+pub turneds : (r s : Answered Turned Refusal) → said_turned r ≡ said_turned s → r ≡ s
+turneds r s e = said-tells _ r s e

@@ -4,10 +4,10 @@ use Rattle.event_run.proofs.Dues.{drains-keep}
 use Rattle.event_turns.proofs.Turning.{drained-to}
 use Rattle.event_turns.proofs.drain_to.Goals as goal
 
-pub returns : goal.returns
-returns c =
-    let k = drains-keep _ _ _ _ _ _ _ _ _ c.drain8.auto.lines c.drain8.ensures in
-    record {
-      drained = k;
-      at_le_to = drained-to c.args.h.to c.args.input.now (c.requires.0, c.requires.1, omega arith, c.requires.2) k;
-    }
+pub returns-clause-drained : goal.returns-clause-drained
+returns-clause-drained c = drains-keep _ _ _ _ _ _ _ _ _ c.drain8.auto.lines c.drain8.ensures
+
+pub returns-clause-at_le_to : goal.returns-clause-at_le_to
+returns-clause-at_le_to c =
+    drained-to c.args.h.to c.args.input.now (c.requires.0, c.requires.1, omega arith, c.told-out)
+    (drains-keep _ _ _ _ _ _ _ _ _ c.drain8.auto.lines c.drain8.ensures)

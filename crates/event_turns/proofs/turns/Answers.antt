@@ -1,54 +1,46 @@
 -- `event_turns::turns` meets its contract: its loop goes by turns, each with the answer to go on.
-use Rattle.std.proofs.Common.{◌≡◌, ◌+◌, ◌-◌, [], refl, arith, rules, true, false}
+use Rattle.std.proofs.Common.{◌≡◌, ◌+◌, [], refl, arith, rules, SFits, w32}
 use Rattle.std.proofs.Math.Facts.{to_z-of_z}
-use Rattle.event_run.specs.Run.{last_number}
 use Rattle.event_turns.specs.declared.Stand.TheVariants.{Going}
 use Rattle.event_turns.specs.Turns.{here}
-use Rattle.event_turns.proofs.Running.{gone-on, ran-as}
+use Rattle.event_turns.proofs.Running.{gone-on}
 use Rattle.event_turns.proofs.turns.Goals as goal
 
-pub loop-left-init : goal.loop-left-init
-loop-left-init g c =
-    record {
-      in_order = c.requires.at_le_to.0;
-      within = c.requires.at_le_to.1;
-      counted = omega arith;
-      gone = record { read = []; written = []; goes = here };
-    }
+pub loop-turn-init : goal.loop-turn-init
+loop-turn-init g c = record { in_order = c.requires.0; within = c.requires.1; gone = record { read = []; written = []; goes = here } }
 
-pub returns-then-not-going : goal.returns-then-not-going
-returns-then-not-going g c =
+pub returns-then-ne : goal.returns-then-ne
+returns-then-ne g c =
     let t = c.go_on-t in
-    let n : c.going.result ≡ false = search rules in
-    ran-as (to_z-of_z c.ranges.from) (to_z-of_z c.ranges.onto)
-    (record {
-      turns = last_number - c.loop-left.left + 1;
+    let onto : SFits w32 c.args.ends.onto = search rules in
+    let n : (t.result.stand ≡ Going → ⊥) = search rules in
+    record {
+      turns = c.loop-turn._turn + 1;
       stand = t.result.stand;
       held = t.result.held;
-      gone = gone-on c.loop-left.invariant.gone t.ensures.turned _ _ refl refl;
-      stops = c.finish.ensures;
-      all = λ e. absurd (c.going.ensures.1 n e);
-    })
+      gone = gone-on c.loop-turn.invariant.gone t.ensures.turned _ refl;
+      stops = rw (to_z-of_z onto) at c.finish.ensures;
+      all = λ e. absurd (n e);
+    }
 
-pub loop-left-preserved : goal.loop-left-preserved
-loop-left-preserved g c =
+pub loop-turn-preserved : goal.loop-turn-preserved
+loop-turn-preserved g c =
     let t = c.go_on-t in
-    let n : c.going.result ≡ true = search rules in
+    let e : t.result.stand ≡ Going = search rules in
     record {
-      in_order = t.ensures.at_le_to_2.0;
-      within = t.ensures.at_le_to_2.1;
-      counted = omega (arith, c.loop-left.invariant.counted);
-      gone = gone-on c.loop-left.invariant.gone t.ensures.turned _ _ (omega (arith, c.loop-left.invariant.counted)) (c.going.ensures.0 n);
+      in_order = t.ensures.at_le_to.0;
+      within = t.ensures.at_le_to.1;
+      gone = gone-on c.loop-turn.invariant.gone t.ensures.turned _ e;
     }
 
 pub returns : goal.returns
 returns g c =
-    ran-as (to_z-of_z c.ranges.from) (to_z-of_z c.ranges.onto)
-    (record {
-      turns = last_number - c.loop-left.left;
+    let onto : SFits w32 c.args.ends.onto = search rules in
+    record {
+      turns = c.loop-turn._turn;
       stand = Going;
-      held = c.loop-left.held;
-      gone = c.loop-left.invariant.gone;
-      stops = c.finish-2.ensures;
-      all = λ _. omega (arith, c.loop-left-test.false);
-    })
+      held = c.loop-turn.held;
+      gone = c.loop-turn.invariant.gone;
+      stops = rw (to_z-of_z onto) at c.finish-2.ensures;
+      all = λ _. omega arith;
+    }

@@ -1,25 +1,12 @@
--- `frame::write_without` meets its contract: at each return a law says whether the bytes fit.
-use Rattle.std.proofs.Common.{arith}
-use Rattle.frame.proofs.Writes.{place-12, place-16, without-done, without-elsewhere, without-cut, without-none, without-long, without-small}
+-- `frame::write_without` meets its contract: elsewhere nothing is written.
+use Rattle.frame.proofs.Writes.{place-12, place-16, without-elsewhere}
 use Rattle.frame.proofs.write_without.Goals as goal
 
-pub returns-then-frame-gt-FRAME_MOST : goal.returns-then-frame-gt-FRAME_MOST
-returns-then-frame-gt-FRAME_MOST c = without-long _ _ _ c.if-frame-gt-FRAME_MOST.true
+pub take_out-requires-clause-place : goal.take_out-requires-clause-place
+take_out-requires-clause-place c = place-12
 
-pub returns-then-frame-lt18 : goal.returns-then-frame-lt18
-returns-then-frame-lt18 c = without-none _ _ _ c.if-frame-lt18.true
+pub take_out-requires-then-at-eq16-clause-place : goal.take_out-requires-then-at-eq16-clause-place
+take_out-requires-then-at-eq16-clause-place c = place-16
 
-pub returns-then-out-frame : goal.returns-then-out-frame
-returns-then-out-frame c = without-small _ _ _ (omega arith)
-
-pub returns-then-at-eq12 : goal.returns-then-at-eq12
-returns-then-at-eq12 c = without-done _ 12 _ c.if-at-eq12.true place-12 (omega arith) (omega arith) (omega arith) c.cut_at.ensures
-
-pub returns-then-at-ne16 : goal.returns-then-at-ne16
-returns-then-at-ne16 c = without-elsewhere _ _ _ c.if-at-eq12.false c.if-at-ne16.true
-
-pub returns-then-frame-lt22 : goal.returns-then-frame-lt22
-returns-then-frame-lt22 c = without-cut _ _ _ (omega arith)
-
-pub returns : goal.returns
-returns c = without-done _ 16 _ c.if-at-ne16.false place-16 (omega arith) (omega arith) (omega arith) c.cut_at-2.ensures
+pub returns-else-at-eq16 : goal.returns-else-at-eq16
+returns-else-at-eq16 c = without-elsewhere _ _ _ c.if-at-eq12.false c.if-at-eq16.false

@@ -5,9 +5,9 @@ use Rattle.frame.proofs.Writes.{written-fits}
 use Rattle.tag.proofs.main.Goals as goal
 
 pub slice_bounds-out-end : goal.slice_bounds-out-end
-slice_bounds-out-end c = omega (arith, written-fits _ 7 _ (sym c.write_tag-written.ensures.result_value ∙ ap said_written c.in-Out.is))
+slice_bounds-out-end c = omega (arith, written-fits _ 7 _ (sym c.write_tag.ensures.result_value ∙ ap said_written c.in-Ok-write_tag.is))
 
 pub slice_bounds-write_all-end : goal.slice_bounds-write_all-end
 slice_bounds-write_all-end c =
-    let fits : c.in-Out.length ≤ 2000 = written-fits _ 7 _ (sym c.write_tag-written.ensures.result_value ∙ ap said_written c.in-Out.is) in
+    let fits : c.in-Ok-write_tag.length ≤ 2000 = written-fits _ 7 _ (sym c.write_tag.ensures.result_value ∙ ap said_written c.in-Ok-write_tag.is) in
     simp length-take (omega arith)

@@ -1,16 +1,15 @@
--- `calls::link::ask_link` meets its contract: at each return it is known which refusals are passed.
-use borrow.Author.Tests.{lt-ltb, le-ltb}
+-- `calls::link::ask_link` meets its contract: 1 and 2, and then what the reader says.
+use Rattle.std.proofs.Common.{ap, sym, ◌∙◌}
+use Rattle.refusal.specs.Checks.{said}
+use Rattle.refusal.proofs.Checks.{passed-on}
 use Rattle.calls.specs.Steps.{link_asked}
+use Rattle.calls.proofs.Steps.{begun-refused, begun-passed}
 use Rattle.calls.proofs.link.ask_link.Goals as goal
 
-pub returns-then-slots-gt-SLOTS_MOST : goal.returns-then-slots-gt-SLOTS_MOST
+pub returns-in_err-begin : goal.returns-in_err-begin
 unfolding link_asked
-returns-then-slots-gt-SLOTS_MOST c = simp (lt-ltb _ _ c.if-slots-gt-SLOTS_MOST.true)
-
-pub returns-then-network-gt1 : goal.returns-then-network-gt1
-unfolding link_asked
-returns-then-network-gt1 c = simp (le-ltb _ _ c.if-slots-gt-SLOTS_MOST.false, lt-ltb _ _ c.if-network-gt1.true)
+returns-in_err-begin c = ap said (passed-on _ c.from_residual.ensures.1) ∙ begun-refused _ _ _ (sym c.begin.ensures ∙ c.in_err-begin.was)
 
 pub returns : goal.returns
 unfolding link_asked
-returns c = simp (le-ltb _ _ c.if-slots-gt-SLOTS_MOST.false, le-ltb _ _ c.if-network-gt1.false) c.read_link.ensures
+returns c = c.read_link.ensures ∙ begun-passed _ _ _ (sym c.begin.ensures ∙ c.in_ok-begin.was)

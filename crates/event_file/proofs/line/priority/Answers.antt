@@ -1,25 +1,19 @@
--- `event_file::line::priority` meets its contract. Assumes nothing.
-use Rattle.std.proofs.Common.{ℕ, ◌+◌, ◌≤◌, ◌≡◌, ap, sym, List, [], length, arith}
-use lib.ListN.{take-append-drop}
+-- `event_file::line::priority` meets its contract: nothing is written of an arrival that is not handed up. Assumes nothing.
+use Rattle.std.proofs.Common.{ℕ, ◌≡◌, [], refl}
 use Rattle.calls.specs.Said.{said_verdict}
 use Rattle.calls.specs.declared.Verdict.{Verdict}
-use Rattle.event_file.specs.Buffers.{Put, written}
+use Rattle.calls.specs.declared.Verdict.TheVariants.{HandedUp, Duplicate, Rogue}
 use Rattle.event_file.specs.Lines.{priority_of}
-use Rattle.event_file.proofs.Writing.{joined, renamed}
+use Rattle.event_file.proofs.Writing.{adds_joined, adds_nothing}
 use Rattle.event_file.proofs.line.priority.Goals as goal
 
-put_none : (at : ℕ) (old : List ℕ) → at ≤ length old → Put [] at old old at
-unfolding written
-put_none at old h =
-    let z : at + 0 ≡ at = omega arith in
-    record { room = omega arith; same = rw z (sym (take-append-drop at old)); place = omega arith }
+none : (v : Verdict) (n : ℕ) → ((l : ℕ) → v ≡ HandedUp l → ⊥) → priority_of (said_verdict v) n ≡ []
+none (HandedUp l) n f = absurd (f l refl)
+none Duplicate n f = refl
+none Rogue n f = refl
 
 pub returns-in-HandedUp : goal.returns-in-HandedUp
-returns-in-HandedUp c =
-    (renamed (ap (λ (v : Verdict). priority_of (said_verdict v) c.args.n) c.in-HandedUp.is) (joined c.byte-x.ensures (renamed (sym c.in_digits.ensures) c.write_numeral.ensures.0)), omega (arith, c.byte-x.ensures.place, c.write_numeral.ensures.1))
+returns-in-HandedUp c = rw c.in-HandedUp.is (adds_joined c.text.ensures (rw c.from.ensures at c.number.ensures))
 
-pub returns-in-Duplicate : goal.returns-in-Duplicate
-returns-in-Duplicate c = (renamed (ap (λ (v : Verdict). priority_of (said_verdict v) c.args.n) c.in-Duplicate.is) (put_none c.args.at _ (omega arith)), omega arith)
-
-pub returns-in-Rogue : goal.returns-in-Rogue
-returns-in-Rogue c = (renamed (ap (λ (v : Verdict). priority_of (said_verdict v) c.args.n) c.in-Rogue.is) (put_none c.args.at _ (omega arith)), omega arith)
+pub returns-in_default : goal.returns-in_default
+returns-in_default c = rw (none c.args.a.verdict c.args.a.rank.priority c.in_default.not-HandedUp) (adds_nothing 21 c.args.to.now)

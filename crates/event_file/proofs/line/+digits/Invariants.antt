@@ -1,5 +1,0 @@
--- `event_file::line::digits` calls itself with a tenth of the number. The measure is the number. Assumes nothing.
-use Rattle.event_file.proofs.line.+digits.Given as goal
-
-abbrev pub decreases-digits : goal.decreases-digits
-decreases-digits l = l.n
