@@ -52,7 +52,7 @@ two (a ∷ b ∷ d ∷ l) e = absurd (omega arith)
 abbrev pub EndsSo : (k : Trailer) (f : List ℕ) → Bool
 EndsSo k f = same (drop (end_at k f + 4) f) k.last
 
--- which is what std's comparison with them says,
+-- std's comparison says the same, with the two lists the other way round;
 swapped : (x y : ℕ) → eqb x y ≡ eqb y x
 swapped x y = go (eqb x y) refl
   where
@@ -73,7 +73,7 @@ ends-compared k f p h e =
     let o : length f - length k.last ≡ end_at k f + 4 = omega arith in
     e ∙ ap (ends_with eqb f) p ∙ compared _ k.last ∙ ap (λ (i : ℕ). same (drop i f) k.last) o
 
--- and what the bytes at its end say.
+-- and so do the bytes at its end.
 none_left : (f : List ℕ) → 4 ≤ length f → true ≡ EndsSo first f
 unfolding width_of same
 none_left f h =

@@ -12,7 +12,7 @@ use borrow.Rule.Slice.PartMut.{mid_of, put_mid}
 use Rattle.refusal.specs.Checks.{Said}
 use Rattle.refusal.specs.Checks.Said.{refused, answers}
 use Rattle.refusal.specs.declared.Refusal.{Refusal}
-use Rattle.std.specs.Prelude.{Result, Ok, Err}
+use Rattle.std.specs.Prelude.{Result, Err}
 use Rattle.refusal.specs.Numbers.{number_of, NETWORK, LONG, SHORT, ROOM, TAGGED, TRAILER}
 use Rattle.record.specs.Sizes.{frame_most}
 use Rattle.frame.specs.Bytes.{overlay}
@@ -21,7 +21,7 @@ use Rattle.frame.specs.Frame.{type_at, has_vlan, is_tagged, head_short, read_of,
 use Rattle.frame.specs.TagCalls.{said_read, written_with, written_without}
 use Rattle.frame.specs.declared.Header.{Header}
 use Rattle.frame.proofs.Bytes.{tail-over}
-use Rattle.frame.proofs.Heads.{type-least, head-short, head-cut, head-whole, HeadIs, TagIs, tag_is}
+use Rattle.frame.proofs.Heads.{type-least, head-short, head-cut, head-whole, HeadIs, TagIs, tag_of}
 use Rattle.frame.proofs.Words.{word-take, Place, plain, vlan, place}
 use Rattle.frame.proofs.TakeThenPut.{cut-length}
 use Rattle.frame.proofs.Writes.{type-place, with-fits, without-fits, tag-length}
@@ -182,21 +182,21 @@ module _ (k : Trailer) (w : ℕ) (f : List ℕ) where
     unfolding to_of to_as_read
     to-refused p q = rw (sym p ∙ ap said_read q) (simp (le-ltb _ _ known))
 
-    module _ {r : Result Tag Refusal} (t : Tag) (p : said_read r ≡ read_of f) (q : r ≡ Ok t) where
+    module _ {t : Tag} (tag : read_of f ≡ answers t) where
       is : TagIs f t.header t.number
-      is = tag_is f t p q
+      is = tag_of f t tag
 
       pub bare-length : length (untagged f) ≡ length f - 6
       bare-length = let i = is in cut-length f (type_at f) (omega arith)
 
       pub to-short : length f - 6 < type_at (untagged f) + 2 → to_of k w f ≡ refused SHORT
       unfolding to_of to_as_read
-      to-short s = rw (sym p ∙ ap said_read q) (simp (le-ltb _ _ known, head-cut (untagged f) (omega (arith, bare-length))))
+      to-short s = rw tag (simp (le-ltb _ _ known, head-cut (untagged f) (omega (arith, bare-length))))
 
       module _ (room : type_at (untagged f) + 2 ≤ length f - 6) where
         pub to_is : to_of k w f ≡ answers (to_turn k w t.number f)
         unfolding to_of to_as_read
-        to_is = rw (sym p ∙ ap said_read q) (simp (le-ltb _ _ known, head-whole (untagged f) (omega (arith, bare-length))))
+        to_is = rw tag (simp (le-ltb _ _ known, head-whole (untagged f) (omega (arith, bare-length))))
 
         pub to-length : length (trailed k w t.number (untagged f)) ≡ length f - 6 + width_of k
         to-length = trailed-length k w t.number (untagged f) ∙ ap (λ (l : ℕ). l + width_of k) bare-length

@@ -76,9 +76,7 @@ fn is_lan(lan: u16) -> bool
 // Does a frame with its type field at a place have a trailer of this kind at its end, with a fitting size and a LAN of A or B?
 #[tactic(auto, using(crate::proofs::Trailers::width_is))]
 fn has_trailer(frame: &[u8], at: usize, end: usize, kind: Kind) -> bool
-    requires at_value { at ≡ type_at frame.now }
-    requires kind_in_bounds { at + 2 + width_of (trailer_of kind) ≤ length frame.now }
-    requires end_value { end ≡ end_at (trailer_of kind) frame.now }
+    requires { Headed (trailer_of kind) frame.now at end }
     ensures { result ≡ wears (trailer_of kind) frame.now }
 {
     let both = u16::from_be_bytes([frame[end + 2], frame[end + 3]]);
@@ -123,7 +121,9 @@ fn from_at<const AT: usize>(
 }
 
 // From PRP: the tagged frame, at the start of out. No frame is both short and too long, so that the order of the first two tests
-// is open: like this the compiler knows the frame's length where it is written.
+// is open: like this the compiler knows the frame's length where it is written. Frame, kind and output come one by one, here and in
+// to_prp, since README names the two calls so and C passes them so.
+#[tactic(auto, using(crate::proofs::Trailers::width_is))]
 pub fn from_prp(frame: &[u8], kind: Kind, out: &mut [u8]) -> Result<Turned, Refusal>
     ensures result_value { said_turned result ≡ (from_prp (trailer_of kind) frame.now out.old).said }
     ensures out_after { out.new ≡ (from_prp (trailer_of kind) frame.now out.old).bytes }
@@ -185,6 +185,7 @@ fn type_without(frame: &[u8], at: usize) -> usize
 
 // The frame without the tag at a place and with a trailer, at the start of out. The trailer is written first: so less has to be
 // kept while the frame is copied. The place is a constant, as above.
+#[tactic(auto, using(crate::proofs::Trailers::width_is))]
 fn to_at<const AT: usize>(
     frame: &[u8],
     number: u16,

@@ -21,7 +21,8 @@ pub struct Sent {
     pub length: usize,
 }
 
-// What a send leaves: the sender as it is then, and the answer.
+// What a send leaves: the sender as it is then, and the answer. The calls are functions that take a sender and give one back, and not
+// methods of one that is lent: README names them so, and the laws of a run (`ran`, `sent`) go from sender to sender.
 #[derive(Clone, Copy, Debug, PartialEq, Eq)]
 pub struct Sending {
     pub sender: Sender,

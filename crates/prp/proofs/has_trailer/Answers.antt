@@ -14,7 +14,7 @@ pub returns-then-from-frame : goal.returns-then-from-frame
 unfolding after_type
 returns-then-from-frame c =
     let e : c.from_be_bytes-both.result ≡ word c.args.frame.now (end_at (trailer_of c.args.kind) c.args.frame.now + 2) = grind arith in
-    wears-no-size _ _ (λ z. c.if-from-frame.true (c.from.ensures ∙ ap (λ x. x % 4096) e ∙ z ∙ ap (λ x. length c.args.frame.now - (x + 2)) (sym c.requires.at_value)))
+    wears-no-size _ _ (λ z. c.if-from-frame.true (c.from.ensures ∙ ap (λ x. x % 4096) e ∙ z ∙ ap (λ x. length c.args.frame.now - (x + 2)) (sym c.requires.here)))
 
 pub returns : goal.returns
 unfolding after_type
@@ -22,4 +22,4 @@ returns c =
     let e : c.from_be_bytes-both.result ≡ word c.args.frame.now (end_at (trailer_of c.args.kind) c.args.frame.now + 2) = grind arith in
     c.ends_so.ensures
     ∙ wears-last _ _ (ap is_lan (ap (λ x. x / 4096) (sym e)) ∙ sym c.is_lan.ensures ∙ c.if-not-is_lan.false)
-    (ap (λ x. x % 4096) (sym e) ∙ sym c.from.ensures ∙ c.if-from-frame.false ∙ ap (λ x. length c.args.frame.now - (x + 2)) c.requires.at_value)
+    (ap (λ x. x % 4096) (sym e) ∙ sym c.from.ensures ∙ c.if-from-frame.false ∙ ap (λ x. length c.args.frame.now - (x + 2)) c.requires.here)
