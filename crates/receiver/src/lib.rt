@@ -59,7 +59,7 @@ fn record_at(t: &[Stream], i: usize) -> Stream
 fn sweep(t: &mut [Stream]) -> Sums
     ensures { (result ≡ sums t.old) × (t.new ≡ ticked_all t.old) }
 {
-    let mut sums = calls::no_sums();
+    let mut sums = Sums::default();
     for s in t.iter_mut() {
         let visited = calls::visit(sums, *s);
         *s = visited.stream;
