@@ -95,8 +95,5 @@ module _ {new old now : List ℕ} (most at : ℕ) {r : ℕ} where
 pub adds_writes : (most : ℕ) {new now : List ℕ} {u v : Writer} → u.at + most ≤ length u.buf.now → Adds most new u v → now ≡ v.buf.now → Writes most new u.at u.buf.now now v.at
 adds_writes most {new} {now} {u} {v} h a e = put-writes most u.at h (rw e (a.put (omega (arith, a.short))))
 
-pub nothing_written : (most : ℕ) (new : List ℕ) (at : ℕ) (old : List ℕ) → length old < at + most → Writes most new at old old at
-nothing_written most new at old h = record { same = rw (lt-leb _ _ h); place = rw (lt-leb _ _ h); enough = λ k. absurd (omega arith) }
-
 pub writes-coincide : WritesCoincide
 writes-coincide most new at old now other next behind a b = (a.same ∙ sym b.same, a.place ∙ sym b.place)
