@@ -1,6 +1,5 @@
 -- What ends the proof of `handle`: a call that meets document 01 is the answer of its record. Assumes nothing.
-use Rattle.std.proofs.Common.{◌≡◌, ℕ, zero, suc, ◌+◌, ◌-◌, ◌≤◌, Bool, true, false, ◌&&◌, eqb, leb, List, [], ◌∷◌, length, get_or, take, drop, Option, Some, None, Result, sym, refl, ap, ◌∙◌, arith, length-take, drop-drop, leb-true}
-use native.Mathlib.Numerals.{unary_clauses}
+use Rattle.std.proofs.Common.{◌≡◌, ℕ, ◌≤◌, Bool, true, false, ◌&&◌, eqb, leb, List, length, get_or, drop, Option, Some, None, Result, sym, refl, ap, ◌∙◌, leb-true}
 use Rattle.refusal.specs.Checks.{Said}
 use Rattle.std.specs.Prelude.{if◌then◌else◌}
 use Rattle.calls.specs.Table.{Table}
@@ -9,7 +8,7 @@ use Rattle.calls.specs.Said.{said_arrival, said_opened, said_done, said_swept}
 use Rattle.refusal.specs.declared.Refusal.{Refusal}
 use Rattle.calls.specs.declared.Arrived.{Arrived}
 use Rattle.calls.specs.declared.Sums.{Sums}
-use Rattle.event_file.specs.Records.{Asked, asks, asked_by, asked, event_of, settings_of, wide_settings_of, WIDE, destination_of, is_body, is_arrival, OPEN, CLOSE, RESET, ARRIVAL, TICK}
+use Rattle.event_file.specs.Records.{Asked, asks, asked_by, asked, event_of, WIDE, destination_of, is_body, is_arrival, OPEN, CLOSE, RESET, ARRIVAL, TICK}
 use Rattle.event_file.specs.Lines.{told, said_told}
 use Rattle.event_file.specs.Files.{letter_for, entry_for, table_after}
 use Rattle.event_file.specs.declared.reader.Settings.{Settings}

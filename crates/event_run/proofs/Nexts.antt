@@ -1,9 +1,6 @@
 -- The next record that can be answered. Assumes nothing.
-use Rattle.std.proofs.Common.{◌≡◌, ℕ, ◌+◌, ◌<◌, ◌≤◌, Bool, true, false, ◌&&◌, ltb, leb, List, length, Option, Some, None, refl, arith, ltb-true, le-ltb, lt-ltb, le-leb, leb-true}
-use mathlib.Core.Bool.{and-false}
-use borrow.Author.Tests.{lt-leb}
+use Rattle.std.proofs.Common.{◌≡◌, ℕ, ◌+◌, ◌<◌, ◌≤◌, Bool, true, false, ◌&&◌, ltb, leb, List, length, Option, Some, None, refl, arith, ltb-true, leb-true}
 use Rattle.std.specs.Prelude.{if◌then◌else◌}
-use Rattle.event_file.specs.Records.{read_at}
 use Rattle.event_file.specs.Buffers.{line_most}
 use Rattle.event_file.specs.declared.reader.Body.{Body}
 use Rattle.event_file.proofs.Framing.{Whole, whole_is}

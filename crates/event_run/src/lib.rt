@@ -45,7 +45,8 @@ fn note(p: Place, end: usize, told: Option<Reply>, lines: &mut [u8]) -> Place
 
 // ---- open and close without an index, which document 01 does not know (document 02, order 9)
 // Each makes an index of its own, which is rebuilt from the table before the call: so 18 is never given. What the rebuild
-// answers is not looked at, since the call gives 1 by itself.
+// answers is not looked at, since the call gives 1 by itself. (One function for both would take the call as a closure, and
+// its clause would say what a call leaves of the table and of the index: that is longer than these two lines, twice.)
 
 fn open_here(table: &mut [Stream], dest: [u8; 6], s: Settings) -> Result<usize, Refusal>
     ensures { Meets table.old (opening dest s.vlan s.rule s.window s.time) (record { said = said_opened result; table = table.new; output = [] }) }
@@ -69,17 +70,29 @@ fn close_here(table: &mut [Stream], slot: usize) -> Result<(), Refusal>
 fn handle(table: &mut [Stream], body: &[u8], out: &mut [u8]) -> Option<Reply>
     ensures { Handled table.old body.now out.old table.new result out.new }
 {
-    Some(match event_file::reader::decode(body)? {
+    let event = event_file::reader::decode(body)?;
+    Some(match event {
         Event::Open(s) => Reply::Open(open_here(table, event_file::reader::destination(body), s)),
         Event::Close(slot) => Reply::Close(close_here(table, slot)),
         Event::Reset(slot) => Reply::Reset(receiver::reset(table, slot)),
-        Event::Arrival(network) => Reply::Arrival(receiver::arrival(table, network, &body[2..], out)),
+        Event::Arrival(network) => Reply::Arrival(receiver::arrival(
+            table,
+            network,
+            &body[2..],
+            out,
+        )),
         Event::Tick => Reply::Tick(receiver::tick(table)),
     })
 }
 
 // All records that can be answered: each is answered, and its line is noted.
-fn drain(table: &mut [Stream], mut p: Place, input: &[u8], lines: &mut [u8], out: &mut [u8]) -> Place
+fn drain(
+    table: &mut [Stream],
+    mut p: Place,
+    input: &[u8],
+    lines: &mut [u8],
+    out: &mut [u8],
+) -> Place
     ensures { Drains table.old p input.now lines.old out.old table.new result lines.new out.new }
 {
     while let Some(body) = seek(p, input, lines.len()) {
@@ -96,8 +109,14 @@ pub struct Round {
     pub place: Place,
 }
 
-// `drain` with a table of 8 by value, which is lent once for a whole buffer.
-pub fn drain8(mut table: [Stream; 8], p: Place, input: &[u8], lines: &mut [u8], out: &mut [u8]) -> Round
+// `drain` with a table of 8 by value, as the run above keeps it: it is lent once for a whole buffer.
+pub fn drain8(
+    mut table: [Stream; 8],
+    p: Place,
+    input: &[u8],
+    lines: &mut [u8],
+    out: &mut [u8],
+) -> Round
     ensures { Drains table p input.now lines.old out.old result.table result.place lines.new out.new }
 {
     let place = drain(&mut table, p, input, lines, out);
