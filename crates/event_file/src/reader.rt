@@ -1,5 +1,5 @@
 // Reading an event file: where the next record's body is, and what a body says.
-ghost use Rattle.std.specs.Prelude.{◌≡◌, ◌+◌, ◌≤◌, ◌<◌, length, get_or, None};
+ghost use Rattle.std.specs.Prelude.{◌≡◌, ◌+◌, ◌≤◌, ◌<◌, length, None};
 ghost use Rattle.frame.specs.Bytes.{word};
 ghost use Rattle.event_file.specs.Records.{read_at, event_of, destination_of};
 
