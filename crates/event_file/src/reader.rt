@@ -31,7 +31,7 @@ pub enum Event {
     Tick,
 }
 
-// The kinds.
+// The kinds, as bytes. (Document 01, "Which form goes where": a match on the kind byte, with ranges for unknown kinds.)
 const OPEN: u8 = 1;
 
 const CLOSE: u8 = 2;

@@ -56,27 +56,12 @@ pub struct Bare {
     pub length: usize,
 }
 
-// A byte as a wider number; the contract keeps that it is below 256.
-pub fn wide(x: u8) -> u32
-    ensures { (result ≡ x) × (result < 256) }
-{
-    x as u32
-}
-
 // The two bytes at a place, high byte first.
 fn word_at(s: &[u8], at: usize) -> u16
     requires { at + 2 ≤ length s.now }
     ensures { result ≡ word s.now at }
 {
-    ((wide(s[at]) << 8) | wide(s[at + 1])) as u16
-}
-
-// The first four bytes, high byte first. By shifts, which the compiler makes one load with its bytes swapped.
-fn first_four(s: &[u8]) -> u32
-    requires { 4 ≤ length s.now }
-    ensures { result ≡ word s.now 0 * 65536 + word s.now 2 }
-{
-    (wide(s[0]) << 24) | (wide(s[1]) << 16) | (wide(s[2]) << 8) | wide(s[3])
+    u16::from_be_bytes([s[at], s[at + 1]])
 }
 
 // The destination at the start of a frame, as one number.
@@ -84,7 +69,7 @@ fn dest_of(s: &[u8]) -> u64
     requires { 6 ≤ length s.now }
     ensures { result ≡ dest_of s.now }
 {
-    ((first_four(s) as u64) << 16) | (word_at(s, 4) as u64)
+    u64::from_be_bytes([0, 0, s[0], s[1], s[2], s[3], s[4], s[5]])
 }
 
 // A destination by itself as the same number: what an open is given.
@@ -166,48 +151,28 @@ pub fn read_tag(frame: &[u8]) -> Result<Tag, Refusal>
     Ok(Tag { header, number })
 }
 
-// Copies src to the start of dst, byte by byte.
-fn copy_bytes(src: &[u8], dst: &mut [u8])
+// Copies src to the start of dst.
+#[tactic(auto, unfolding(crate::specs::Bytes::overlay))]
+fn copy(src: &[u8], dst: &mut [u8])
     requires { length src.now ≤ length dst.old }
     ensures { dst.new ≡ overlay src.now dst.old }
 {
-    let mut i = 0;
-    while i < src.len() {
-        dst[i] = src[i];
-        i += 1;
-    }
-}
-
-// The same through a room of its own: so the compiler knows that src and dst do not overlap, leaves the room out and calls
-// memmove once.
-fn copy(src: &[u8], dst: &mut [u8])
-    requires src_len_bound { length src.now ≤ frame_most }
-    requires src_in_bounds { length src.now ≤ length dst.old }
-    ensures { dst.new ≡ overlay src.now dst.old }
-{
-    let n = src.len();
-    let mut room = [0u8; Stream::FRAME_MOST];
-    copy_bytes(src, &mut room);
-    copy_bytes(&room[..n], dst);
+    dst[..src.len()].copy_from_slice(src);
 }
 
 // The six bytes of a tag, at the start of dst.
+#[tactic(auto, unfolding(crate::specs::Bytes::overlay))]
 fn write_six(number: u16, dst: &mut [u8])
     requires { 6 ≤ length dst.old }
     ensures { dst.new ≡ overlay (tag_bytes number) dst.old }
 {
-    dst[0] = 0xF1;
-    dst[1] = 0xC1;
-    dst[2] = 0;
-    dst[3] = 0;
-    dst[4] = (number / 256) as u8;
-    dst[5] = (number % 256) as u8;
+    let [high, low] = number.to_be_bytes();
+    dst[..6].copy_from_slice(&[0xF1, 0xC1, 0, 0, high, low]);
 }
 
 // The frame without the six bytes at a place, at the start of out.
 fn cut_at(frame: &[u8], at: usize, out: &mut [u8])
     requires at_in_bounds { at + 6 ≤ length frame.now }
-    requires frame_len_bound { length frame.now ≤ frame_most }
     requires frame_in_bounds { length frame.now ≤ length out.old + 6 }
     ensures { out.new ≡ overlay (cut_at frame.now at) out.old }
 {
@@ -218,7 +183,6 @@ fn cut_at(frame: &[u8], at: usize, out: &mut [u8])
 // The frame with a tag put in at a place, at the start of out.
 fn tag_at(frame: &[u8], at: usize, number: u16, out: &mut [u8])
     requires at_in_bounds { at ≤ length frame.now }
-    requires frame_len_bound { length frame.now ≤ frame_most }
     requires frame_in_bounds { length frame.now + 6 ≤ length out.old }
     ensures { out.new ≡ overlay (tag_at frame.now at number) out.old }
 {

@@ -3,7 +3,7 @@
 ghost use Rattle.std.specs.Prelude.{◌≡◌};
 ghost use Rattle.frame.specs.Link.{link_of, said_link, written_shorter};
 
-use super::{LinkTag, copy, dest_of, group_source, wide};
+use super::{LinkTag, copy, dest_of, group_source};
 use record::Stream;
 use refusal::Refusal;
 
@@ -24,7 +24,7 @@ pub fn read_link(frame: &[u8]) -> Result<LinkTag, Refusal>
         return Err(Refusal::Group);
     }
     let dest = dest_of(frame);
-    let number = wide(frame[frame.len() - 1]) as u16;
+    let number = u16::from(frame[frame.len() - 1]);
     Ok(LinkTag { dest, number })
 }
 

@@ -9,7 +9,8 @@ use lib.Dec.{eqb}
 use lib.ListN.{length, get_or}
 use borrow.Author.Tests.{leb-true, le-leb, eqb-true, eqb-false}
 use Rattle.calls.specs.Table.{Table, at, search}
-use Rattle.index.specs.Index.{Key, key_of, keyed, used, Index, places, home, named, walk, follow, Agrees, agrees_at, every_to, agrees}
+use Rattle.calls.specs.declared.Key.{Key}
+use Rattle.index.specs.Index.{key_of, keyed, used, Index, places, home, named, walk, follow, Agrees, agrees_at, every_to, agrees}
 use Rattle.index.specs.Laws.{AgreesTested}
 use Rattle.index.proofs.Search.{key-own, key-only, within, found, lowest, at_most}
 

@@ -16,7 +16,8 @@ use Rattle.stream.specs.Record.{lawful, closed}
 use Rattle.stream.specs.Decisions.{decided, reset, expires, ticked}
 use Rattle.calls.specs.Table.{Table, at, has_key, of_links, hears, search}
 use Rattle.calls.specs.Calls.{Act, refuse, arrive, opens, closes, resets, ticks, after, answer}
-use Rattle.index.specs.Index.{Key, key_of, keyed, used, Index, places, home, named, walk, follow, Agrees, agrees, indexed, rebuilt}
+use Rattle.calls.specs.declared.Key.{Key}
+use Rattle.index.specs.Index.{key_of, keyed, used, Index, places, home, named, walk, follow, Agrees, agrees, indexed, rebuilt}
 use Rattle.index.specs.Indexed.{guarded, index_after, rebuild_checks, rebuilt_by}
 use Rattle.index.specs.Laws.{RebuiltAgrees, AsWithout, IndexedDetermined}
 use Rattle.index.proofs.Agree.{agrees-iff}

@@ -11,7 +11,8 @@ use lib.ListN.{length, get_or, set, replicate, length-set, length-replicate}
 use lib.Seq.{get_or-set_same, get_or-set_other}
 use borrow.Author.Tests.{eqb-true, eqb-false}
 use Rattle.calls.specs.Table.{Table, at}
-use Rattle.index.specs.Index.{Key, key_of, keyed, used, Index, places, home, named, walk, follow, Agrees, vacant, probe, entered, built, rebuilt}
+use Rattle.calls.specs.declared.Key.{Key}
+use Rattle.index.specs.Index.{key_of, keyed, used, Index, places, home, named, walk, follow, Agrees, vacant, probe, entered, built, rebuilt}
 use Rattle.index.proofs.Search.{key-own}
 use Rattle.index.proofs.Agree.{Good, good-agrees}
 

@@ -12,7 +12,8 @@ use Rattle.calls.specs.Table.{Table, at, search, some_slot, has_key, of_links, h
 use Rattle.calls.proofs.Lowest.{lowest-found, none_passes}
 use Rattle.record.specs.declared.Stream.{Stream}
 use Rattle.record.specs.Words as words
-use Rattle.index.specs.Index.{Key, key_of, keyed, used}
+use Rattle.calls.specs.declared.Key.{Key}
+use Rattle.index.specs.Index.{key_of, keyed, used}
 use Rattle.stream.proofs.Logic.{tests}
 
 key-path : {a b : Key} → a.dest ≡ b.dest → a.vlan ≡ b.vlan → a.link ≡ b.link → a ≡ b

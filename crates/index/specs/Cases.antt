@@ -6,7 +6,8 @@ use Rattle.record.specs.declared.Stream.{Stream}
 use Rattle.stream.specs.Record.{opened}
 use Rattle.calls.specs.Table.{blank}
 use Rattle.calls.specs.Calls.{Call, opening, closing, refuse, opens, closes, after, done}
-use Rattle.index.specs.Index.{Index, Key, places, place_of, follow, indexed, rebuilt}
+use Rattle.calls.specs.declared.Key.{Key}
+use Rattle.index.specs.Index.{Index, places, place_of, follow, indexed, rebuilt}
 use Rattle.index.specs.Indexed.{guarded, index_after, rebuild_checks, rebuilt_by, unfit_of}
 
 -- A slot in use with this key. Destinations 87 and 174 have the same place, the last.

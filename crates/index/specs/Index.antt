@@ -3,14 +3,10 @@ use Rattle.std.specs.Prelude.{ℕ, zero, suc, ◌+◌, ◌*◌, ◌/◌, ◌%◌
 use Rattle.record.specs.declared.Stream.{Stream}
 use Rattle.record.specs.Words.{yes}
 use Rattle.calls.specs.Table.{Table, at, of_links, hears, search}
+use Rattle.calls.specs.declared.Key.{Key}
 
--- A key that is asked for, and that of a record. "Order 9's agreement is asked of each key twice, among slots of rule 3 and among the
--- rest" (order 10): `link` says among which.
-pub record Key : Type 0 where
-  pub dest : ℕ
-  pub vlan : ℕ
-  pub link : Bool
-
+-- A key that is asked for, and that of a record: the type that the code has. "Order 9's agreement is asked of each key twice, among
+-- slots of rule 3 and among the rest" (order 10): its `link` says among which.
 abbrev pub key_of : Stream → Key
 key_of s = record { dest = s.dest; vlan = s.vlan; link = of_links s }
 

@@ -1,7 +1,8 @@
 -- Document 02, order 9: the calls that take the index. Each is the call as without the index, behind 1 and 18. Assumes nothing.
-use Rattle.std.specs.Prelude.{ℕ, ◌≡◌, not, List, [], ◌∷◌, eqb, ltb, length}
+use Rattle.std.specs.Prelude.{ℕ, ◌≡◌, not, List, [], ◌∷◌, eqb, ltb, length, Result, Ok, Err}
 use Rattle.refusal.specs.Checks.{Said, Check, first_of}
-use Rattle.refusal.specs.Numbers.{TABLE, INDEX}
+use Rattle.refusal.specs.Numbers.{TABLE, INDEX, number_of}
+use Rattle.refusal.specs.declared.Refusal.{Refusal}
 use Rattle.std.specs.Prelude.{if◌then◌else◌}
 use Rattle.record.specs.Sizes.{slots_most}
 use Rattle.calls.specs.Table.{Table}
@@ -57,3 +58,8 @@ checks_with ix t c = behind_first (record { number = INDEX; holds = not (indexed
 -- 1 or 18 as a number, and 0 where neither is given: what the code asks once.
 unfoldable pub unfit_of : Index → Table → ℕ
 unfit_of ix t = if ltb slots_most (length t) then TABLE else if not (indexed ix t) then INDEX else 0
+
+-- What the code answers of it, as that number.
+abbrev pub told_unfit : Result Unit Refusal → ℕ
+told_unfit (Ok u) = 0
+told_unfit (Err refusal) = number_of refusal

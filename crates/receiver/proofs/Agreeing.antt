@@ -6,16 +6,22 @@ use native.Mathlib.Decide.{dec_lt}
 use native.Mathlib.Omega.{arith}
 use lib.Dec.{eqb, ltb, leb}
 use lib.ListN.{length, get_or}
+use mathlib.Core.List.{[], ◌∷◌}
+use mathlib.Core.Path.{subst}
+use Rattle.std.specs.List.{list_all, range_with_len, enumerate_from}
+use Rattle.record.specs.declared.Stream.{Stream}
+use denote.Ref.{Bor}
+use Rattle.std.specs.Option.{unwrap_or, option_map}
+use Rattle.receiver.proofs.Lists.{some_then}
 use borrow.Author.Tests.{le-leb, lt-leb, lt-ltb, le-ltb, eqb-true, ltb-false, eq-eqb, ne_eqb}
 use Rattle.record.specs.Words as words
 use Rattle.calls.specs.Table.{Table, at, blank}
-use Rattle.calls.specs.declared.Found.{Found}
-use Rattle.calls.specs.declared.Found.TheVariants.{At, Nothing}
-use Rattle.index.specs.Index.{Key, key_of, keyed, Index, places, place_of, home, named, walk, follow, agrees_at, every_to, agrees}
+use Rattle.std.specs.Prelude.{Option, Some, None}
+use Rattle.calls.specs.declared.Key.{Key}
+use Rattle.index.specs.Index.{key_of, used, keyed, Index, places, home, named, walk, follow, agrees_at, every_to, agrees}
 use Rattle.receiver.specs.Seek.{place_as, holder_of, sure_from, sure_at, sure_in, sure_all, not_above, agrees_by}
 use Rattle.index.proofs.Search.{key-own}
-use Rattle.receiver.proofs.Lists.{one_more}
-use Rattle.receiver.specs.declared.Holder.{Holder}
+use Rattle.receiver.proofs.Lists.{one_more, get_d_past}
 
 or_no : (a b : Bool) → (a || b) ≡ false → b ≡ false
 or_no true b e = absurd (false≢true (sym e))
@@ -52,25 +58,35 @@ module _ (ix : Index) (t : Table) (k : Key) (i : ℕ) (own : keyed k (at t i) �
       go false e true f h more = absurd (false≢true h)
       go false e false f h more = named-lower (get_or ix (p % places) 0) (walk ix t k n (suc p)) f (more h)
 
-place_in : (t : Table) (m : ℕ) → m < length t → place_as t m ≡ At m
+place_in : (t : Table) (m : ℕ) → m < length t → place_as t m ≡ Some m
 unfolding place_as
 place_in t m b = rw (lt-ltb m (length t) b)
 
-place-past : (t : Table) (m : ℕ) → length t ≤ m → place_as t m ≡ Nothing
+place-past : (t : Table) (m : ℕ) → length t ≤ m → place_as t m ≡ None
 unfolding place_as
 place-past t m b = rw (le-ltb m (length t) b)
 
-above_at : (j i : ℕ) → not_above (At j) i ≡ leb j i
+above_at : (j i : ℕ) → not_above (Some j) i ≡ leb j i
 unfolding not_above
 above_at j i = refl
 
-above-none : (i : ℕ) → not_above Nothing i ≡ false
+above-none : (i : ℕ) → not_above None i ≡ false
 unfolding not_above
 above-none i = refl
 
 and_no : (b : Bool) → (b && false) ≡ false
 and_no true = refl
 and_no false = refl
+
+none-free : (k : Key) → Some k ≡ holder_of blank → ⊥
+unfolding words.yes
+none-free k g = let f : Some k ≡ None = g in cc
+
+-- the key of a record that is there, and of none
+pub holder-made : (o : Option (Bor Stream)) → some_then (λ s. holder_of s.now) o ≡ holder_of (unwrap_or (option_map (λ s. s.now) o) blank)
+unfolding words.yes
+holder-made None = refl
+holder-made (Some s) = refl
 
 -- ---- a slot
 module _ (ix : Index) (t : Table) (i : ℕ) where
@@ -84,21 +100,50 @@ module _ (ix : Index) (t : Table) (i : ℕ) where
           let f : sure_from ix i places (home (key_of (at t i))) ≡ true = rw e at h in
           rw (e, le-leb _ i (sure-low ix t (key_of (at t i)) i (key-own (at t i) e) places (home (key_of (at t i))) f)) refl
 
-  pub sure-made : (h : Holder) → h ≡ holder_of (get_or t i blank) → (r : Bool) → r ≡ sure_at ix h i → r ≡ sure_in ix t i
+  pub sure-made : (h : Option Key) → h ≡ holder_of (get_or t i blank) → (r : Bool) → r ≡ sure_at ix h i → r ≡ sure_in ix t i
   unfolding sure_in
-  sure-made h held r said = said ∙ ap (λ (x : Holder). sure_at ix x i) held
+  sure-made h held r said = said ∙ ap (λ (x : Option Key). sure_at ix x i) held
 
-  pub follow-agrees : i < length t → (h : Holder) → h ≡ holder_of (get_or t i blank) → (f : Found) → f ≡ place_as t (follow ix t (record { dest = h.dest; vlan = h.vlan; link = h.link }))
-      → (r : Bool) → r ≡ agrees_by h f i → r ≡ agrees_at ix t i
-  unfolding agrees_by agrees_at
-  follow-agrees l h held f said r by =
-      by ∙ (λ j. not (held j).used || not_above (said j) i) ∙ ap (λ (x : Holder). not (words.yes (at t i).used) || not_above (place_as t (follow ix t (record { dest = x.dest; vlan = x.vlan; link = x.link }))) i) held
-      ∙ ap (λ (b : Bool). not (words.yes (at t i).used) || b) (above (follow ix t (key_of (at t i))))
+  -- a slot that is not in use agrees, and one in use where following finds a slot that is not above it
+  pub free-agrees : None ≡ holder_of (at t i) → true ≡ agrees_at ix t i
+  unfolding agrees_at
+  free-agrees h = go (used (at t i)) refl h
     where
+      go : (u : Bool) → used (at t i) ≡ u → None ≡ cond (used (at t i)) (Some (key_of (at t i))) None
+          → true ≡ (not (used (at t i)) || leb (follow ix t (key_of (at t i))) i)
+      go false e h = rw e refl
+      go true e h = let g : None ≡ Some (key_of (at t i)) = rw e at h in cc
+
+  pub holds-within : (k : Key) → Some k ≡ holder_of (at t i) → i < length t
+  holds-within k h = elim (dec_lt i (length t)) [
+    | yes l ↦ l
+    | no l ↦ absurd (let a : length t ≤ i = omega (arith, l) in let g : Some k ≡ holder_of blank = rw (get_d_past t i blank a) at h in none-free k g)
+  ]
+
+  -- a slot whose key is k
+  key-agrees : (k : Key) → Some k ≡ holder_of (at t i) → leb (follow ix t k) i ≡ agrees_at ix t i
+  unfolding agrees_at
+  key-agrees k h = go (used (at t i)) refl h
+    where
+      go : (u : Bool) → used (at t i) ≡ u → Some k ≡ cond (used (at t i)) (Some (key_of (at t i))) None
+          → leb (follow ix t k) i ≡ (not (used (at t i)) || leb (follow ix t (key_of (at t i))) i)
+      go true e h = let g : Some k ≡ Some (key_of (at t i)) = rw e at h in let q : k ≡ key_of (at t i) = cc in rw (e, q) refl
+      go false e h = let g : Some k ≡ None = rw e at h in cc
+
+  pub follow-agrees : (h : Option Key) → h ≡ holder_of (get_or t i blank) → (f : Option ℕ) → ((k : Key) → h ≡ Some k → f ≡ place_as t (follow ix t k))
+      → (r : Bool) → r ≡ agrees_by h f i → r ≡ agrees_at ix t i
+  unfolding agrees_by
+  follow-agrees None held f said r by = by ∙ free-agrees held
+  follow-agrees (Some k) held f said r by =
+      by ∙ ap (λ (g : Option ℕ). not_above g i) (said k refl) ∙ above (follow ix t k) ∙ key-agrees k held
+    where
+      l : i < length t
+      l = holds-within k held
+
       above : (m : ℕ) → not_above (place_as t m) i ≡ leb m i
       above m = elim (dec_lt m (length t)) [
-        | yes b ↦ ap (λ (g : Found). not_above g i) (place_in t m b) ∙ above_at m i
-        | no b ↦ (let a : length t ≤ m = omega (arith, b) in ap (λ (g : Found). not_above g i) (place-past t m a) ∙ above-none i ∙ sym (lt-leb m i (omega (arith, a, l))))
+        | yes b ↦ ap (λ (g : Option ℕ). not_above g i) (place_in t m b) ∙ above_at m i
+        | no b ↦ (let a : length t ≤ m = omega (arith, b) in ap (λ (g : Option ℕ). not_above g i) (place-past t m a) ∙ above-none i ∙ sym (lt-leb m i (omega (arith, a, l))))
       ]
 
 -- ---- all slots, of any test
@@ -125,6 +170,48 @@ module _ (p : ℕ → Bool) where
 
   pub one-fails : (n i : ℕ) → i < n → {r : Bool} → r ≡ p i → r ≡ false → false ≡ every_to p n
   one-fails n i l said y = sym (fails-on i n l (sym said ∙ y))
+
+-- a test of all numbers below, and of all slots with their records, one after the other
+module _ (p : ℕ → Bool) where
+  and_nothing : (b : Bool) → b ≡ (b && true)
+  and_nothing true = refl
+  and_nothing false = refl
+
+  and_assoc : (a b c : Bool) → ((a && b) && c) ≡ (a && (b && c))
+  and_assoc true b c = refl
+  and_assoc false b c = refl
+
+  all-range : (n k : ℕ) → every_to p (k + n) ≡ (every_to p k && list_all p (range_with_len k n))
+  unfolding every_to
+  all-range zero k = ap (every_to p) (let e : k + 0 ≡ k = omega arith in e) ∙ and_nothing (every_to p k)
+  all-range (suc n) k =
+      ap (every_to p) (let e : k + suc n ≡ k + 1 + n = omega arith in e) ∙ all-range n (k + 1)
+      ∙ ap (λ (b : Bool). b && list_all p (range_with_len (k + 1) n)) (ap (every_to p) (one_more k))
+      ∙ and_assoc (every_to p k) (p k) (list_all p (range_with_len (k + 1) n))
+
+  -- of the numbers below n
+  pub all-below : (n : ℕ) → list_all p (range_with_len 0 n) ≡ every_to p n
+  unfolding every_to
+  all-below n = let e : 0 + n ≡ n = omega arith in sym (subst (λ (m : ℕ). every_to p m ≡ list_all p (range_with_len 0 n)) e (all-range n 0))
+
+  module _ (q : ℕ × Stream → Bool) where
+    all-from : (xs : Table) (k : ℕ) → ((i : ℕ) → q (k + i, at xs i) ≡ p (k + i)) → every_to p (k + length xs) ≡ (every_to p k && list_all q (enumerate_from k xs))
+    unfolding every_to
+    all-from [] k same = ap (every_to p) (let e : k + 0 ≡ k = omega arith in e) ∙ and_nothing (every_to p k)
+    all-from (x ∷ xs) k same =
+        let here : p k ≡ q (k, x) = (let e : k + 0 ≡ k = omega arith in sym (subst (λ (m : ℕ). q (m, x) ≡ p m) e (same 0))) in
+        ap (every_to p) (let e : k + suc (length xs) ≡ k + 1 + length xs = omega arith in e)
+        ∙ all-from xs (k + 1) (λ i. (let e : k + suc i ≡ k + 1 + i = omega arith in subst (λ (m : ℕ). q (m, at xs i) ≡ p m) e (same (suc i))))
+        ∙ ap (λ (b : Bool). b && list_all q (enumerate_from (k + 1) xs)) (ap (every_to p) (one_more k) ∙ ap (λ (b : Bool). every_to p k && b) here)
+        ∙ and_assoc (every_to p k) (q (k, x)) (list_all q (enumerate_from (k + 1) xs))
+
+    -- of the slots of a table
+    pub all-slots : (t : Table) → ((i : ℕ) → q (i, at t i) ≡ p i) → list_all q (enumerate_from 0 t) ≡ every_to p (length t)
+    unfolding every_to
+    all-slots t same =
+        let e : 0 + length t ≡ length t = omega arith in
+        let f : (i : ℕ) → i ≡ 0 + i = λ i. omega arith in
+        sym (subst (λ (m : ℕ). every_to p m ≡ list_all q (enumerate_from 0 t)) e (all-from t 0 (λ i. subst (λ (m : ℕ). q (m, at t i) ≡ p m) (f i) (same i))))
 
 every-gives : (p q : ℕ → Bool) → ((i : ℕ) → p i ≡ true → q i ≡ true) → (n : ℕ) → every_to p n ≡ true → every_to q n ≡ true
 unfolding every_to
@@ -179,21 +266,21 @@ module _ (ix : Index) (i from : ℕ) where
           (omega (arith, l), sym (w ∙ ap (λ (m : ℕ). sure_from ix i m (suc (from + k))) a ∙ ap (sure_from ix i (places - (k + 1))) b))
 
 -- ---- the other tests
-pub sure-free : (ix : Index) (h : Holder) (i : ℕ) → not h.used ≡ true → true ≡ sure_at ix h i
+pub sure-free : (ix : Index) (h : Option Key) (i : ℕ) → h ≡ None → true ≡ sure_at ix h i
 unfolding sure_at
 sure-free ix h i e = rw e
 
-pub sure-used : (ix : Index) (h : Holder) (i : ℕ) {from : ℕ} {r : Bool} → not h.used ≡ false → from ≡ place_of h.dest h.vlan → r ≡ sure_from ix i places from → r ≡ sure_at ix h i
+pub sure-used : (ix : Index) (h : Option Key) (i : ℕ) {k : Key} {from : ℕ} {r : Bool} → h ≡ Some k → from ≡ home k → r ≡ sure_from ix i places from → r ≡ sure_at ix h i
 unfolding sure_at
 sure-used ix h i e f g = g ∙ rw (e, f)
 
-pub above-is : (f : Found) (i j : ℕ) → f ≡ At j → leb j i ≡ not_above f i
-above-is f i j e = sym (ap (λ (g : Found). not_above g i) e ∙ above_at j i)
+pub above-is : (f : Option ℕ) (i j : ℕ) → f ≡ Some j → leb j i ≡ not_above f i
+above-is f i j e = sym (ap (λ (g : Option ℕ). not_above g i) e ∙ above_at j i)
 
-pub by-free : (h : Holder) (f : Found) (i : ℕ) → not h.used ≡ true → true ≡ agrees_by h f i
+pub by-free : (h : Option Key) (f : Option ℕ) (i : ℕ) → h ≡ None → true ≡ agrees_by h f i
 unfolding agrees_by
 by-free h f i e = rw e
 
-pub by-used : (h : Holder) (f : Found) (i : ℕ) {r : Bool} → not h.used ≡ false → r ≡ not_above f i → r ≡ agrees_by h f i
+pub by-used : (h : Option Key) (f : Option ℕ) (i : ℕ) {k : Key} {r : Bool} → h ≡ Some k → r ≡ not_above f i → r ≡ agrees_by h f i
 unfolding agrees_by
 by-used h f i e g = g ∙ rw e

@@ -5,7 +5,7 @@ pub mod Sweeping
 pub mod Deciding
 pub mod Following
 pub mod Agreeing
-mod Wiping
+pub mod Wiping
 pub mod Rebuilding
 pub mod Closing
 pub mod Opening

@@ -1,40 +1,46 @@
 -- Order 9: the steps of an open with an index are the open, and those of a rebuild the rebuild. Assumes nothing.
-use Prim.Native.Nat.{ℕ, ◌≤◌}
+use Prim.Native.Nat.{ℕ, ◌≤◌, ◌<◌}
 use mathlib.Core.Path.{◌≡◌, refl, ap, sym, ◌∙◌}
-use mathlib.Core.Bool.{Bool, true, false, ◌&&◌, ◌||◌, beq, false≢true}
+use mathlib.Core.Bool.{Bool, true, false, ◌&&◌, ◌||◌, beq}
 use mathlib.Core.List.{List, [], ◌∷◌}
 use lib.Dec.{eqb, ltb}
 use lib.ListN.{length}
 use borrow.Author.Tests.{le-ltb, eq-eqb}
 use Rattle.refusal.specs.Checks.{first_of}
 use Rattle.refusal.specs.Checks.Said.{refused, answers}
-use Rattle.refusal.specs.Numbers.{TABLE, INDEX}
 use Rattle.record.specs.declared.Stream.{Stream}
 use Rattle.record.specs.Sizes.{slots_most}
 use Rattle.stream.specs.Record.{settled}
 use Rattle.stream.specs.Record as records
 use Rattle.frame.specs.Frame.{dest_of}
-use Rattle.calls.specs.Table.{Table, search, some_slot, found, surveyed, has_key, of_links, hears, is_free}
+use Rattle.calls.specs.Table.{Table, search, some_slot, found, has_key, of_links, hears, is_free}
 use Rattle.calls.specs.Calls.{opening, act, checked, open-call, Meets}
 use Rattle.calls.specs.Calls as calls
 use Rattle.calls.specs.Said.{said_opened}
-use Rattle.calls.specs.declared.Opened.{Opened}
-use Rattle.calls.specs.declared.Survey.{Survey}
-use Rattle.calls.specs.declared.Found.{Found}
-use Rattle.calls.specs.Steps.{is_at, seen_as, is_opened}
+use Rattle.std.specs.Prelude.{Option, Some, None, is_some, ok_or, Result, Ok, Err}
+use Rattle.refusal.specs.Numbers.{number_of}
+use Rattle.refusal.specs.declared.Refusal.{Refusal}
+use Rattle.refusal.specs.declared.Refusal.TheVariants as refusals
+use Rattle.std.specs.Prelude.{if◌then◌else◌, not}
 use Rattle.calls.proofs.Search.{some-cons}
+use Rattle.calls.proofs.Arrivals.{found_inside}
+use Rattle.calls.specs.Steps.{placing_of}
 use Rattle.index.specs.Index.{Index, places, follow, indexed, rebuilt}
 use Rattle.index.specs.Indexed.{rebuild_checks, rebuilt_by, MeetsIndexed, MeetsRebuild}
 use Rattle.receiver.specs.Seek.{place_as, sizes_unfit}
 use Rattle.index.proofs.Kept.{indexed-is}
-use Rattle.receiver.proofs.Closing.{Stores, indexed-refused, indexed-stored}
+use mathlib.Core.Logic.{inl, inr}
+use mathlib.Core.Path.{subst}
+use Rattle.refusal.specs.Checks.{Said}
+use Rattle.calls.specs.Calls.{Answer}
+use Rattle.receiver.proofs.Closing.{Stores, Told, some-told, indexed-refused, indexed-stored}
 
--- ---- what following finds is what the survey says
-at_place : (t : Table) (m : ℕ) → is_at (place_as t m) ≡ ltb m (length t)
-unfolding is_at place_as
+-- ---- what following finds is what an open has to know
+at_place : (t : Table) (m : ℕ) → is_some (place_as t m) ≡ ltb m (length t)
+unfolding place_as
 at_place t m = go (ltb m (length t)) refl
   where
-    go : (b : Bool) → ltb m (length t) ≡ b → is_at (place_as t m) ≡ ltb m (length t)
+    go : (b : Bool) → ltb m (length t) ≡ b → is_some (place_as t m) ≡ ltb m (length t)
     go true e = rw e
     go false e = rw e
 
@@ -62,22 +68,28 @@ some-either dest vlan (s ∷ t) =
     go false false c d = refl
 
 module _ (ix : Index) (t : Table) (dest vlan : ℕ) (good : indexed ix t ≡ true) where
-  pub placed-found : (link : Bool) {f : Found} → f ≡ place_as t (follow ix t (record { dest = dest; vlan = vlan; link = link })) → f ≡ found (hears link dest vlan) t
+  pub placed-found : (link : Bool) {f : Option ℕ} → f ≡ place_as t (follow ix t (record { dest = dest; vlan = vlan; link = link })) → f ≡ found (hears link dest vlan) t
   unfolding place_as found some_slot
   placed-found link {f} followed = followed ∙ ap (place_as t) (((indexed-is ix t).0 good).1 (record { dest = dest; vlan = vlan; link = link }))
 
-  is_some : (link : Bool) {f : Found} → f ≡ place_as t (follow ix t (record { dest = dest; vlan = vlan; link = link })) → is_at f ≡ some_slot (hears link dest vlan) t
+  some-is : (link : Bool) {f : Option ℕ} → f ≡ place_as t (follow ix t (record { dest = dest; vlan = vlan; link = link })) → is_some f ≡ some_slot (hears link dest vlan) t
   unfolding some_slot
-  is_some link followed =
-      ap is_at (followed ∙ ap (place_as t) (((indexed-is ix t).0 good).1 (record { dest = dest; vlan = vlan; link = link }))) ∙ at_place t (search (hears link dest vlan) t)
+  some-is link followed =
+      ap is_some (followed ∙ ap (place_as t) (((indexed-is ix t).0 good).1 (record { dest = dest; vlan = vlan; link = link }))) ∙ at_place t (search (hears link dest vlan) t)
 
-  pub seen-is : (f : Found) → f ≡ place_as t (follow ix t (record { dest = dest; vlan = vlan; link = false }))
-      → (m : Found) → m ≡ place_as t (follow ix t (record { dest = dest; vlan = vlan; link = true })) → (h : Found) → h ≡ found is_free t
-      → (v : Survey) → v ≡ seen_as f m h → v ≡ surveyed dest vlan t
-  unfolding surveyed seen_as
-  seen-is f followed m linked h freed v known =
-      let a : (is_at f || is_at m) ≡ some_slot (has_key dest vlan) t = rw (is_some false followed, is_some true linked) (sym (some-either dest vlan t)) in
-      known ∙ (λ j. record { taken = a j; free = freed j })
+  pub seen-is : (f : Option ℕ) → f ≡ place_as t (follow ix t (record { dest = dest; vlan = vlan; link = false }))
+      → (m : Option ℕ) → m ≡ place_as t (follow ix t (record { dest = dest; vlan = vlan; link = true })) → (is_some f || is_some m) ≡ some_slot (has_key dest vlan) t
+  seen-is f followed m linked = rw (some-is false followed, some-is true linked) (sym (some-either dest vlan t))
+
+-- an open that is not refused fills a slot within the table
+pub place-within : (key link : Option ℕ) (p : Stream → Bool) (t : Table) {i : ℕ} → placing_of key link (found p t) ≡ Ok i → i < length t
+unfolding placing_of
+place-within key link p t {i} e = go (is_some key || is_some link) (found p t) refl e
+  where
+    go : (b : Bool) (f : Option ℕ) → found p t ≡ f → (if b then Err refusals.Taken else ok_or f refusals.Full) ≡ Ok i → i < length t
+    go true f q e = let g : Err refusals.Taken ≡ Ok i = e in cc
+    go false None q e = let g : Err refusals.Full ≡ Ok i = e in cc
+    go false (Some j) q e = let g : Ok j ≡ Ok i = e in let h : j ≡ i = cc in found_inside t p (q ∙ ap Some h)
 
 -- ---- open
 module _ (t : Table) (dest : List ℕ) (vlan rule window time : ℕ) where
@@ -96,28 +108,28 @@ module _ (t : Table) (dest : List ℕ) (vlan rule window time : ℕ) where
       go false p true q false r false s = rw (p, q, r, s) (Stores.refuses _)
       go false p true q false r true s = rw (p, q, r, s) (Stores.fills _ _)
 
-module _ (ix : Index) (t : Table) (dest : List ℕ) (vlan rule window time : ℕ) (good : indexed ix t ≡ true) (zs : Table) where
-  pub open-refused : (a : Opened) → Meets t (opening dest vlan rule window time) (record { said = said_opened a; table = zs; output = [] }) → {d : Bool} → d ≡ is_opened a → d ≡ false
-      → MeetsIndexed ix t (opening dest vlan rule window time) (record { said = said_opened a; table = zs; index = ix })
-  unfolding is_opened
-  open-refused (Opened.Refused n) met e y = indexed-refused ix t (opening dest vlan rule window time) good met n refl
-  open-refused (Opened.At i) met e y = absurd (false≢true (sym y ∙ e))
+module _ (ix : Index) (t : Table) (dest : List ℕ) (vlan rule window time : ℕ) (good : indexed ix t ≡ true) (zs : Table) (a : Result ℕ Refusal)
+    (met : Meets t (opening dest vlan rule window time) (record { said = said_opened a; table = zs; output = [] })) where
+  pub open-refused : (refusal : Refusal) → a ≡ Err refusal → (r : Result ℕ Refusal) → r ≡ Err refusal
+      → MeetsIndexed ix t (opening dest vlan rule window time) (record { said = said_opened r; table = zs; index = ix })
+  open-refused refusal e r w = rw (w ∙ sym e) (indexed-refused ix t (opening dest vlan rule window time) good met (number_of refusal) (ap said_opened e))
 
-  pub open-stored : (a : Opened) → Meets t (opening dest vlan rule window time) (record { said = said_opened a; table = zs; output = [] }) → {d : Bool} → d ≡ is_opened a → d ≡ true
-      → (jx : Index) → jx ≡ rebuilt zs → MeetsIndexed ix t (opening dest vlan rule window time) (record { said = said_opened a; table = zs; index = jx })
-  unfolding is_opened
-  open-stored (Opened.Refused n) met e y jx b = absurd (false≢true (sym e ∙ y))
-  open-stored (Opened.At i) met e y jx b = indexed-stored ix t (opening dest vlan rule window time) good met (open-stores t dest vlan rule window time) _ refl jx b
+  pub open-stored : {i : ℕ} → a ≡ Ok i → (jx : Index) → jx ≡ rebuilt zs
+      → MeetsIndexed ix t (opening dest vlan rule window time) (record { said = said_opened (Ok i); table = zs; index = jx })
+  open-stored e jx b =
+      subst (λ (w : Said Answer). MeetsIndexed ix t (opening dest vlan rule window time) (record { said = w; table = zs; index = jx })) (ap said_opened e)
+      (indexed-stored ix t (opening dest vlan rule window time) good met (open-stores t dest vlan rule window time) _ (ap said_opened e) jx b)
 
 -- ---- rebuild
-pub rebuild-refused : (ix : Index) (t : Table) (num : ℕ) → num ≡ sizes_unfit (length t) (length ix) → (num ≡ 0 → ⊥) → MeetsRebuild ix t (refused num) ix
+pub rebuild-refused : (ix : Index) (t : Table) (refusal : Refusal) → sizes_unfit (length t) (length ix) ≡ Err refusal → MeetsRebuild ix t (refused (number_of refusal)) ix
 unfolding sizes_unfit first_of rebuild_checks rebuilt_by
-rebuild-refused ix t num said y = go (ltb slots_most (length t)) refl (eqb (length ix) places) refl
-  where
-    go : (a : Bool) → ltb slots_most (length t) ≡ a → (b : Bool) → eqb (length ix) places ≡ b → MeetsRebuild ix t (refused num) ix
-    go true p b q = record { said = rw p (ap refused (let e : num ≡ TABLE = said ∙ rw p refl in e)); index = rw p refl }
-    go false p false q = record { said = rw (p, q) (ap refused (let e : num ≡ INDEX = said ∙ rw (p, q) refl in e)); index = rw (p, q) refl }
-    go false p true q = absurd (y (said ∙ rw (p, q) refl))
+rebuild-refused ix t refusal said = elim (some-told (ltb slots_most (length t)) refusals.Table (if not (eqb (length ix) places) then Err refusals.Index else Ok (tt {0})) said) [
+  | inl p ↦ record { said = rw (p.0, p.1) refl; index = rw p.0 refl }
+  | inr p ↦ elim (some-told (not (eqb (length ix) places)) refusals.Index (Ok (tt {0})) p.1) [
+    | inl q ↦ record { said = rw (p.0, q.0, q.1) refl; index = rw (p.0, q.0) refl }
+    | inr q ↦ (let f : ◌≡◌ {A = Told} (Ok (tt {0})) (Err refusal) = q.1 in cc)
+  ]
+]
 
 pub rebuild-done : (ix : Index) (t : Table) → (length t ≤ slots_most) × (length ix ≡ places) → (jx : Index) → jx ≡ rebuilt t → MeetsRebuild ix t (answers calls.done) jx
 unfolding first_of rebuild_checks rebuilt_by

@@ -1,14 +1,15 @@
 -- Order 9: the steps of a rebuild are the rebuilt index. Assumes nothing.
 use Prim.Native.Nat.{ℕ, zero, suc, ◌+◌, ◌-◌, ◌%◌, ◌≤◌, ◌<◌}
 use mathlib.Core.Path.{◌≡◌, refl, ap, sym, ◌∙◌, subst}
-use mathlib.Core.Bool.{Bool, true, false, not, false≢true}
+use mathlib.Core.Bool.{Bool, true, false, cond}
 use native.Mathlib.Omega.{arith}
 use lib.ListN.{length, get_or, set, replicate}
 use Rattle.record.specs.Sizes.{slots_most}
 use Rattle.calls.specs.Table.{Table, at}
-use Rattle.index.specs.Index.{Index, places, place_of, vacant, probe, entered, built, rebuilt}
+use Rattle.index.specs.Index.{Index, key_of, used, home, places, vacant, probe, entered, built, rebuilt}
 use Rattle.receiver.specs.Seek.{entered_as, holder_of}
-use Rattle.receiver.specs.declared.Holder.{Holder}
+use Rattle.std.specs.Prelude.{Option, Some, None}
+use Rattle.calls.specs.declared.Key.{Key}
 use Rattle.receiver.proofs.Lists.{one_more}
 
 -- ---- the first empty place: what is left to look at comes to what all comes to
@@ -54,25 +55,26 @@ vacant-none ix from k left h f =
     (r ∙ g, f)
 
 -- ---- a slot in use is entered
-pub enter-free : (h : Holder) (i : ℕ) (ix : Index) → not h.used ≡ true → ix ≡ entered_as h i ix
+pub enter-free : (h : Option Key) (i : ℕ) (ix : Index) → h ≡ None → ix ≡ entered_as h i ix
 unfolding entered_as
-enter-free h i ix e = go h.used refl
-  where
-    go : (u : Bool) → h.used ≡ u → ix ≡ entered_as h i ix
-    go false q = rw q
-    go true q = absurd (false≢true (rw q at e))
+enter-free h i ix e = rw e
 
-pub enter-used : (h : Holder) (i : ℕ) (ix : Index) {from p v : ℕ} → not h.used ≡ false → from ≡ place_of h.dest h.vlan → p ≡ probe ix places from → v ≡ suc i → set ix p v ≡ entered_as h i ix
+pub enter-used : (h : Option Key) (i : ℕ) (ix : Index) {k : Key} {from p v : ℕ} → h ≡ Some k → from ≡ home k → p ≡ probe ix places from → v ≡ suc i → set ix p v ≡ entered_as h i ix
 unfolding entered_as
-enter-used h i ix {from} {p} {v} e f q w = go h.used refl
-  where
-    go : (u : Bool) → h.used ≡ u → set ix p v ≡ entered_as h i ix
-    go true z = rw z ((λ j. set ix (q j) (w j)) ∙ ap (λ (x : ℕ). set ix (probe ix places x) (suc i)) f)
-    go false z = absurd (false≢true (sym (rw z at e)))
+enter-used h i ix e f q w = rw e ((λ j. set ix (q j) (w j)) ∙ ap (λ (x : ℕ). set ix (probe ix places x) (suc i)) f)
 
-pub built-more : (t : Table) (i : ℕ) (ix jx : Index) (h : Holder) → ix ≡ built t i → h ≡ holder_of (at t i) → jx ≡ entered_as h i ix → jx ≡ built t (i + 1)
-unfolding built entered entered_as
-built-more t i ix jx h b held e = e ∙ (λ j. entered_as (held j) i (b j)) ∙ ap (built t) (sym (one_more i))
+entered-same : (t : Table) (i : ℕ) (ix : Index) → entered_as (holder_of (at t i)) i ix ≡ entered t i ix
+unfolding entered entered_as
+entered-same t i ix = go (used (at t i)) refl
+  where
+    go : (u : Bool) → used (at t i) ≡ u → entered_as (cond (used (at t i)) (Some (key_of (at t i))) None) i ix
+        ≡ cond (used (at t i)) (set ix (probe ix places (home (key_of (at t i)))) (suc i)) ix
+    go true e = rw e
+    go false e = rw e
+
+pub built-more : (t : Table) (i : ℕ) (ix jx : Index) (h : Option Key) → ix ≡ built t i → h ≡ holder_of (at t i) → jx ≡ entered_as h i ix → jx ≡ built t (i + 1)
+unfolding built
+built-more t i ix jx h b held e = e ∙ (λ j. entered_as (held j) i (b j)) ∙ entered-same t i (built t i) ∙ ap (built t) (sym (one_more i))
 
 pub built-none : (t : Table) (ix : Index) → ix ≡ replicate places 0 → ix ≡ built t 0
 unfolding built

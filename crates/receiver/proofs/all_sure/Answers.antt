@@ -1,18 +1,18 @@
 -- `receiver::all_sure` meets its contract.
-use Rattle.receiver.specs.Seek.{sure_in, sure_all}
-use Rattle.receiver.proofs.Agreeing.{none_yet, one-more-passes, all_pass, one-fails}
+use Rattle.std.proofs.Common.{ℕ, refl, rules, tests, ◌∙◌}
+use Rattle.std.proofs.lemmas.Iterator.{YieldsList-from_slice}
+use Rattle.std.proofs.lemmas.Iterator.Consumers.{YieldsList-from_enumerate}
+use Rattle.std.proofs.lemmas.Iterator.Search.{all_from_yields_List}
+use Rattle.record.specs.declared.Stream.{Stream}
+use Rattle.receiver.specs.Seek.{holder_of, sure_at, sure_in, sure_all}
+use Rattle.receiver.proofs.Agreeing.{all-slots}
 use Rattle.receiver.proofs.all_sure.Goals as goal
 
-pub loop-i-init : goal.loop-i-init
-loop-i-init c = none_yet (sure_in c.args.index.now c.args.t.now) _
-
-pub loop-i-preserved : goal.loop-i-preserved
-loop-i-preserved c = one-more-passes (sure_in c.args.index.now c.args.t.now) _ c.loop-i.i c.if-t-i.false c.loop-i.invariant c.sure_at.ensures c.if-not-sure_at.false
-
-pub returns-then-t-i : goal.returns-then-t-i
-unfolding sure_all
-returns-then-t-i c = all_pass (sure_in c.args.index.now c.args.t.now) _ c.loop-i.i c.loop-i.invariant c.if-t-i.true
-
-pub returns-then-not-sure_at : goal.returns-then-not-sure_at
-unfolding sure_all
-returns-then-not-sure_at c = one-fails (sure_in c.args.index.now c.args.t.now) _ c.loop-i.i c.if-t-i.false c.sure_at.ensures c.if-not-sure_at.true
+pub returns : goal.returns
+unfolding sure_in sure_all
+returns c =
+    let ix = c.args.index.now in
+    let t = c.args.t.now in
+    let test = λ (e : ℕ × Stream). sure_at ix (holder_of e.1) e.0 in
+    all_from_yields_List test _ _ c.all.result c.all.ensures.ran (YieldsList-from_enumerate (YieldsList-from_slice t (cc)) (cc)) (λ x b q k. search (rules, tests))
+    ∙ all-slots (sure_in ix t) test t (λ i. refl)

@@ -1,11 +1,14 @@
--- `receiver::find`: none of the first i records has the key.
-use Rattle.std.proofs.Common.{◌≡◌, ◌≤◌, ◌-◌, length, take}
-use Rattle.calls.specs.Table.{found, hears}
-use Rattle.calls.specs.declared.Found.TheVariants.{Nothing}
+-- `receiver::find`: none of the first i records passes.
+use Rattle.std.proofs.Common.{◌≡◌, ◌≤◌, ◌-◌, Bool, None, length, take}
+use Rattle.record.specs.declared.Stream.{Stream}
+use Rattle.calls.specs.Table.{found}
 use Rattle.receiver.proofs.find.Given as goal
 
 abbrev pub invariant-loop-i : goal.invariant-loop-i
-invariant-loop-i l = record { within : l.i ≤ length l.t; before : found (hears l.link l.dest l.vlan) (take l.i l.t) ≡ Nothing }
+invariant-loop-i g l = record {
+  within : l.i ≤ length l.t;
+  before : (p : Stream → Bool) → ((s : Stream) (r : Bool) → goal.F-post g l.passes s r → r ≡ p s) → found p (take l.i l.t) ≡ None;
+}
 
 abbrev pub decreases-loop-i : goal.decreases-loop-i
-decreases-loop-i l = length l.t - l.i
+decreases-loop-i g l = length l.t - l.i

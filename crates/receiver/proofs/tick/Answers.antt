@@ -1,11 +1,15 @@
 -- `receiver::tick` meets its contract: of a table that is not too long, what the sweep counts and stores is the tick.
-use Rattle.std.proofs.Common.{refl}
+use Rattle.std.proofs.Common.{refl, ap, ◌∙◌, Ok, Err}
+use Rattle.calls.specs.Said.{said_swept}
 use Rattle.calls.proofs.Slots.{many-refused, sweep-meets}
-use Rattle.calls.specs.declared.Swept.{Swept}
+use Rattle.refusal.proofs.Checks.{passed-on}
+use Rattle.receiver.proofs.Closing.{few-slots, many-slots}
 use Rattle.receiver.proofs.tick.Goals as goal
 
-pub returns-then-t-gt-SLOTS_MOST : goal.returns-then-t-gt-SLOTS_MOST
-returns-then-t-gt-SLOTS_MOST c = many-refused _ _ c.if-t-gt-SLOTS_MOST.true refl
+pub returns-in_err-table_fits : goal.returns-in_err-table_fits
+returns-in_err-table_fits c =
+    let m = many-slots c.args.t.now _ c.table_fits.ensures _ c.in_err-table_fits.was in
+    many-refused _ _ m.1 (ap said_swept (passed-on _ c.from_residual.ensures.1 ∙ ap Err m.0))
 
 pub returns : goal.returns
-returns c = sweep-meets _ (Swept.Counted c.sweep-c.result.resets c.sweep-c.result.damaged) c.if-t-gt-SLOTS_MOST.false c.sweep-c.ensures.0 c.sweep-c.ensures.1 refl
+returns c = sweep-meets _ (Ok c.sweep.result) (few-slots c.args.t.now _ c.table_fits.ensures c.in_ok-table_fits.was) c.sweep.ensures.0 c.sweep.ensures.1 refl

@@ -15,4 +15,4 @@ returns-then-group_source c = link-group _ (omega arith) (omega arith) c.group_s
 pub returns : goal.returns
 returns c =
     link-read _ (omega arith) (omega arith) c.group_source.ensures c.if-group_source.false c.dest_of-dest.ensures
-    c.wide-number.ensures.0 c.wide-number.ensures.1
+    c.from-number.ensures (rw c.from-number.ensures (c.type_inv.frame _).fits)

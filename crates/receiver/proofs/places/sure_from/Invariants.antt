@@ -1,11 +1,6 @@
 -- `receiver::places::sure_from`: what is left to look at comes to what all comes to.
-use Rattle.std.proofs.Common.{◌-◌}
-use Rattle.index.specs.Index.{places}
 use Rattle.receiver.proofs.Agreeing.{SureLeft}
 use Rattle.receiver.proofs.places.sure_from.Given as goal
 
 abbrev pub invariant-loop-k : goal.invariant-loop-k
 invariant-loop-k l = SureLeft l.index l.i l.from l.k
-
-abbrev pub decreases-loop-k : goal.decreases-loop-k
-decreases-loop-k l = places - l.k
