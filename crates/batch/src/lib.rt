@@ -258,16 +258,14 @@ pub fn batch(
 {
     let mark = ArrivalAnswer::default();
     let mut answers = [mark; 32];
-    match fill(t, index, network, count, frames, out, &mut answers) {
-        Ok(frames) => Batched {
-            answers,
-            frames,
-            refusal: 0,
-        },
-        Err(refusal) => Batched {
-            answers,
-            frames: 0,
-            refusal: refusal.into(),
-        },
+    let filled = fill(t, index, network, count, frames, out, &mut answers);
+    let (frames, refusal) = match filled {
+        Ok(frames) => (frames, 0),
+        Err(refusal) => (0, refusal.into()),
+    };
+    Batched {
+        answers,
+        frames,
+        refusal,
     }
 }

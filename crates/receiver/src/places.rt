@@ -17,8 +17,11 @@ pub fn name_at(index: &[u8], from: usize, k: usize) -> Option<usize>
     if k >= PLACES {
         return None;
     }
-    let name = index.get((from + k) % PLACES)?;
-    usize::from(*name).checked_sub(1)
+    let name = usize::from(*index.get((from + k) % PLACES)?);
+    if name == 0 {
+        return None;
+    }
+    Some(name - 1)
 }
 
 // The key of a slot in use.
