@@ -211,8 +211,8 @@ fn arrive_by(
         return Err(Refusal::Unknown);
     };
     let room = calls::fits(frame, out);
-    let weighed = receiver::decide_in(t, slot, network, tag.number, room)?;
-    Ok(calls::finish(weighed, slot, tag, frame, out))
+    let judged = receiver::decide_in(t, slot, network, tag.number, room);
+    calls::finish(judged, slot, tag, frame, out)
 }
 
 // All frames, one after the other, until one is refused with 8: how many came before. The agreement is tested once, before the

@@ -249,8 +249,8 @@ pub fn arrival(
         return Err(Refusal::Unknown);
     };
     let room = calls::fits(frame, out);
-    let weighed = decide_at(t, slot, network, tag.number, room)?;
-    Ok(calls::finish(weighed, slot, tag, frame, out))
+    let judged = decide_at(t, slot, network, tag.number, room);
+    calls::finish(judged, slot, tag, frame, out)
 }
 
 // Arrival of a virtual link (document 02, order 10): 1 to 4, 14, 6 to 8, in the same way.
@@ -272,8 +272,8 @@ pub fn link_arrival(
         return Err(Refusal::Unknown);
     };
     let room = calls::fits_link(frame, out);
-    let weighed = decide_at(t, slot, network, tag.number, room)?;
-    Ok(calls::finish_link(weighed, slot, tag.number, frame, out))
+    let judged = decide_at(t, slot, network, tag.number, room);
+    calls::finish_link(judged, slot, tag.number, frame, out)
 }
 
 // The open as without the index, of a table and an index that agree: 9, 10, 11, and 10 comes by following twice, since a slot of
