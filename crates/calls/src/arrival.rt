@@ -12,7 +12,8 @@ use record::Stream;
 use refusal::Refusal;
 use stream::Weighed;
 
-// Arrival, of a virtual link too: 1 and 2.
+// Arrival, of a virtual link too: 1 and 2. (A network is a number and no enum: 2 refuses every other one, which may come from C and
+// from an event file.)
 pub fn begin(slots: usize, network: u8) -> Result<(), Refusal>
     ensures { result ≡ begun slots network }
 {

@@ -38,7 +38,7 @@ pub fn ask_link(slots: usize, network: u8, frame: &[u8]) -> Result<LinkTag, Refu
     frame::read_link(frame)
 }
 
-// Does the output hold the frame without its last byte?
+// Does the output hold the frame without its last byte? (A line, as `fits`: the number is what `has_room` is asked for.)
 pub fn fits_link(frame: &[u8], out: &[u8]) -> bool
     ensures { result ≡ has_room (length frame.now - 1) out.now }
 {
@@ -46,7 +46,8 @@ pub fn fits_link(frame: &[u8], out: &[u8]) -> bool
 }
 
 // The answer, with no priority, since no VLAN tag is read; and where the frame is handed up, the frame without its last byte at
-// the start of the output.
+// the start of the output. (What it has in common with `finish` is `told`: the writer as a closure would bring a clause on what it
+// leaves of the output, which is longer.)
 pub fn finish_link(
     judged: Result<Weighed, Refusal>,
     slot: usize,
