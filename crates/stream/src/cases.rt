@@ -6,8 +6,9 @@ ghost use Rattle.stream.specs.History.{bit};
 ghost use Rattle.stream.specs.Decisions.{again, late, next, link_up, case_of};
 ghost use Rattle.stream.specs.Steps.{weighed_as};
 
+use super::history::{self, Shift};
 use super::number::{difference, size};
-use super::{Marks, Weighed, history};
+use super::{Marks, Weighed};
 use record::Stream;
 
 // Vector, k behind the anchor. The anchor stays, so that the number itself is not looked at.
@@ -35,8 +36,12 @@ fn ahead(s: Stream, number: u16, k: u16) -> Weighed
     ensures { result ≡ weighed_as s number (next k) }
 {
     let n = s.state.early;
+    let shift = Shift {
+        window: s.window,
+        up: k,
+    };
     Weighed::HandedUp(Marks {
-        lost: history::lost(s.state.history, s.window, k, n),
+        lost: history::lost(s.state.history, shift, n),
         places: k,
         anchor: number,
         early: n.saturating_sub(k),
