@@ -7,7 +7,7 @@ ghost use Rattle.stream.specs.Decisions.{again, late, next, link_up, case_of};
 ghost use Rattle.stream.specs.Steps.{weighed_as};
 
 use super::history::{self, Shift};
-use super::number::{difference, size};
+use super::number::difference;
 use super::{Marks, Weighed};
 use record::Stream;
 
@@ -68,7 +68,7 @@ pub fn by_vector(s: Stream, number: u16) -> Weighed
     if d >= w || d <= -w {
         return Weighed::Rogue;
     }
-    let k = size(d);
+    let k = d.unsigned_abs() as u16;
     if d <= 0 {
         behind(s, k)
     } else {
