@@ -11,6 +11,18 @@ use super::number::difference;
 use super::{Marks, Weighed};
 use record::Stream;
 
+// Handed up, the number as the new anchor, where the history moves no place up.
+fn taken(anchor: u16, early: u16, disorder: bool) -> Weighed
+    ensures { result ≡ Weighed.HandedUp (record { lost = 0; places = 0; bit = 0; anchor = anchor; early = early; disorder = disorder }) }
+{
+    Weighed::HandedUp(Marks {
+        anchor,
+        early,
+        disorder,
+        ..Marks::default()
+    })
+}
+
 // Vector, k behind the anchor. The anchor stays, so that the number itself is not looked at.
 #[tactic(auto, unfolding(crate::specs::Steps::weighed_as, crate::specs::Decisions::state_after, crate::specs::Decisions::losses, crate::specs::Decisions::out_of_order))]
 fn behind(s: Stream, k: u16) -> Weighed
@@ -57,11 +69,7 @@ pub fn by_vector(s: Stream, number: u16) -> Weighed
     ensures { result ≡ weighed_as s number (case_of s number) }
 {
     if s.state.any != 0 {
-        return Weighed::HandedUp(Marks {
-            anchor: number,
-            early: s.window - 1,
-            ..Marks::default()
-        });
+        return taken(number, s.window - 1, false);
     }
     let d = difference(number, s.state.anchor);
     let w = i32::from(s.window);
@@ -83,21 +91,13 @@ pub fn by_match(s: Stream, number: u16) -> Weighed
     ensures { result ≡ weighed_as s number (case_of s number) }
 {
     if s.state.any != 0 {
-        return Weighed::HandedUp(Marks {
-            anchor: number,
-            ..Marks::default()
-        });
+        return taken(number, 0, false);
     }
     let d = difference(number, s.state.anchor);
     if d == 0 {
         return Weighed::Duplicate;
     }
-    Weighed::HandedUp(Marks {
-        anchor: number,
-        early: s.state.early,
-        disorder: d != 1,
-        ..Marks::default()
-    })
+    taken(number, s.state.early, d != 1)
 }
 
 // A virtual link: is a number handed up after the last one? Among 1 to 255 the steps forward are counted in a ring of 255, and
@@ -133,17 +133,10 @@ pub fn by_link(s: Stream, number: u16) -> Weighed
     ensures { result ≡ weighed_as s number (case_of s number) }
 {
     if s.state.any != 0 {
-        return Weighed::HandedUp(Marks {
-            anchor: number,
-            ..Marks::default()
-        });
+        return taken(number, 0, false);
     }
     if !link_up(s.state.anchor, number) {
         return Weighed::Duplicate;
     }
-    Weighed::HandedUp(Marks {
-        anchor: number,
-        early: s.state.early,
-        ..Marks::default()
-    })
+    taken(number, s.state.early, false)
 }
