@@ -28,7 +28,8 @@ use record::Stream;
 use refusal::Refusal;
 use stream::{Marks, Weighed};
 
-// The lowest slot whose record passes the test: the search stops at it and yields its place.
+// The lowest slot whose record passes the test: the search stops at it and yields its place. (Document 01 names the form: a loop over
+// slots that yields the lowest matching place by break. A table is a slice, and a slot a place in it: so it is lent, from C too.)
 fn find<F: Fn(Stream) -> bool>(t: &[Stream], passes: F) -> Option<usize>
     requires { F.IsAlwaysCallable passes }
     ensures { (p : Stream → Bool) → ((s : Stream) (r : Bool) → F.post passes s r → r ≡ p s) → result ≡ found p t.now }
@@ -102,7 +103,8 @@ fn decide_at(
     Ok(weighed)
 }
 
-// The same of any slot. Beyond the table `at` gives a blank record, whose settings are out of range: 7.
+// The same of any slot. Beyond the table `at` gives a blank record, whose settings are out of range: 7. (A batch calls it, so it is
+// public and asks for nothing; a single arrival knows its slot, and does without the test.)
 pub fn decide_in(
     t: &mut [Stream],
     i: usize,
@@ -118,7 +120,7 @@ pub fn decide_in(
     decide_at(t, i, network, number, room)
 }
 
-// ---- the index
+// ---- the index. Table and index are two slices, which the caller lends, and the definitions take both (`indexed`, `MeetsIndexed`).
 
 // Has slot i the key? Beyond the table no slot has one.
 fn keyed_at(t: &[Stream], i: usize, key: Key) -> bool
@@ -253,7 +255,8 @@ pub fn arrival(
     calls::finish(judged, slot, tag, frame, out)
 }
 
-// Arrival of a virtual link (document 02, order 10): 1 to 4, 14, 6 to 8, in the same way.
+// Arrival of a virtual link (document 02, order 10): 1 to 4, 14, 6 to 8, in the same way. (One function for both, and for a batch's,
+// would take reader, search and writer as parameters, each with what it promises: that is longer than these six steps.)
 pub fn link_arrival(
     t: &mut [Stream],
     network: u8,
@@ -310,7 +313,9 @@ fn open_in(
     Ok(slot)
 }
 
-// Open: 1, 18, 9, 10, 11. After a success the index is the rebuilt one; a refused open changes no byte of it.
+// Open: 1, 18, 9, 10, 11. After a success the index is the rebuilt one; a refused open changes no byte of it. (Its parameters are as
+// the README names them, and as C passes them. It begins as `close` does: `as_mut_array` lends the places on, so that `unfit`, which
+// lends nothing, does not serve.)
 pub fn open(
     t: &mut [Stream],
     index: &mut [u8],
@@ -369,7 +374,8 @@ pub fn rebuild(t: &[Stream], index: &mut [u8]) -> Result<(), Refusal>
     Ok(())
 }
 
-// Reset: 1, 12, then 7 only if the settings are out of range. Otherwise fresh state, resets rises.
+// Reset: 1, 12, then 7 only if the settings are out of range. Otherwise fresh state, resets rises. (The steps are `close_in`'s around
+// another one: a closure for it would bring a clause on what it leaves, which is longer.)
 pub fn reset(t: &mut [Stream], slot: usize) -> Result<(), Refusal>
     ensures { Meets t.old (resetting slot) (record { said = said_done result; table = t.new; output = [] }) }
 {

@@ -39,8 +39,9 @@ pub enum Weighed {
     Rogue,
 }
 
-// The answer of a tick: the record after it, whether the stream was reset, whether the record is damaged.
-#[derive(Clone, Copy)]
+// The answer of a tick: the record after it, whether the stream was reset, whether the record is damaged. (Two flags and no enum:
+// each is counted by itself, as `tick_of` says.)
+#[derive(Clone, Copy, Debug, PartialEq, Eq)]
 pub struct Ticked {
     pub stream: Stream,
     pub reset: bool,
@@ -57,7 +58,7 @@ fn fresh_state() -> State
     }
 }
 
-// A fresh record in use, counters zero.
+// A fresh record in use, counters zero. (Its parameters are those of an open, as the README names them.)
 pub fn opened(dest: u64, vlan: u16, rule: u8, window: u16, time: u16) -> Stream
     ensures { result ≡ opened dest vlan rule window time }
 {
