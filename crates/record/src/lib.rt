@@ -75,7 +75,7 @@ impl Stream {
 
     pub const VLAN_MOST: u16 = 4094;
 
-    // The rules: vector recovery, match recovery, and virtual links.
+    // The rules: vector recovery, match recovery, and virtual links. Numbers and no enum, since the caller's record holds any byte.
     pub const VECTOR_RULE: u8 = 1;
 
     pub const MATCH_RULE: u8 = 2;

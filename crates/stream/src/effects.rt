@@ -52,7 +52,8 @@ fn history_after(h: [u64; 8], rule: u8, window: u16, m: Marks) -> [u64; 8]
     }
 }
 
-// The same for a window of at most a word: the first word alone is read and written.
+// The same for a window of at most a word: the first word alone is read and written. Two functions and not one with a parameter: what
+// they have in common is `fits`, and they differ in the function that they call.
 #[tactic(auto, unfolding(crate::specs::Steps::short_after))]
 fn short_after(h: [u64; 8], rule: u8, window: u16, m: Marks) -> [u64; 8]
     ensures { result ≡ short_after rule window m h }
