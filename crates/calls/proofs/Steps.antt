@@ -121,6 +121,14 @@ module _ (s : Stream) (number : ℕ) (room : Bool) where
     unfolding judged
     judge-verdict r = rw (has-verdict, r, e)
 
+    -- the same by either
+    pub judge-some : (if room then Ok w else Err Room) ≡ judged s number room
+    judge-some = go room refl
+      where
+        go : (b : Bool) → room ≡ b → (if room then Ok w else Err Room) ≡ judged s number room
+        go true r = ap (λ (b : Bool). if b then Ok w else Err Room) r ∙ judge-verdict r
+        go false r = ap (λ (b : Bool). if b then Ok w else Err Room) r ∙ judge-small r
+
 -- ---- place
 
 module _ (key link free : Option ℕ) where

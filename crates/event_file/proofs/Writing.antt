@@ -6,7 +6,7 @@ use native.Mathlib.Omega.{arith}
 use mathlib.Core.List.{List, [], ◌∷◌, ◌++◌, append_assoc}
 use lib.ListN.{length, take, drop, length-append, length-take, length-drop, take-append-drop}
 use lib.Seq.{take_at, drop_at, drop-drop}
-use borrow.Author.Tests.{le-leb, lt-leb}
+use borrow.Author.Tests.{le-leb}
 use Rattle.event_file.specs.Text.{digit, decimal_of}
 use Rattle.event_file.specs.Buffers.{written, Put, Writes}
 use Rattle.event_file.specs.Writer.{Adds}
@@ -94,9 +94,6 @@ module _ {new old now : List ℕ} (most at : ℕ) {r : ℕ} where
 -- what a writer that was lent this buffer has added
 pub adds_writes : (most : ℕ) {new now : List ℕ} {u v : Writer} → u.at + most ≤ length u.buf.now → Adds most new u v → now ≡ v.buf.now → Writes most new u.at u.buf.now now v.at
 adds_writes most {new} {now} {u} {v} h a e = put-writes most u.at h (rw e (a.put (omega (arith, a.short))))
-
-pub nothing_written : (most : ℕ) (new : List ℕ) (at : ℕ) (old : List ℕ) → length old < at + most → Writes most new at old old at
-nothing_written most new at old h = record { same = rw (lt-leb _ _ h); place = rw (lt-leb _ _ h); enough = λ k. absurd (omega arith) }
 
 pub writes-coincide : WritesCoincide
 writes-coincide most new at old now other next behind a b = (a.same ∙ sym b.same, a.place ∙ sym b.place)

@@ -4,7 +4,7 @@ ghost use Rattle.refusal.specs.Numbers.{number_of};
 ghost use Rattle.refusal.specs.Checks.Said.{answers};
 ghost use Rattle.calls.specs.Calls.{Answer, arrived, placed, done, swept};
 ghost use Rattle.calls.specs.Said.{said_verdict};
-ghost use Rattle.event_file.specs.Text.{text, decimal_of};
+ghost use Rattle.event_file.specs.Text.{decimal_of};
 ghost use Rattle.event_file.specs.Lines.{pair_of, verdict_word, priority_of, answer_of, line_of, last_line, letter_of, said_by, said_reply, said_told};
 ghost use Rattle.event_file.specs.Buffers.{Writes, line_most, last_most};
 ghost use Rattle.event_file.specs.Writer.{Adds};

@@ -1,5 +1,5 @@
 // Reading an event file: where the next record's body is, and what a body says.
-ghost use Rattle.std.specs.Prelude.{◌≡◌, ◌+◌, ◌≤◌, ◌<◌, length, get_or, None};
+ghost use Rattle.std.specs.Prelude.{◌≡◌, ◌+◌, ◌≤◌, ◌<◌, length, None};
 ghost use Rattle.frame.specs.Bytes.{word};
 ghost use Rattle.event_file.specs.Records.{read_at, event_of, destination_of};
 
@@ -31,7 +31,7 @@ pub enum Event {
     Tick,
 }
 
-// The kinds.
+// The kinds, as bytes. (Document 01, "Which form goes where": a match on the kind byte, with ranges for unknown kinds.)
 const OPEN: u8 = 1;
 
 const CLOSE: u8 = 2;

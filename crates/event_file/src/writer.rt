@@ -1,7 +1,7 @@
 // Writing into a lent buffer: words and numbers, one behind the other. (`write!` and `Display` would do it through a
 // `fmt::Write`, and no clause of theirs says that a write succeeds, nor what stands in the buffer when it fails. What `say`
 // and `say_last` promise, `Writes`, says each byte for every buffer.)
-ghost use Rattle.std.specs.Prelude.{◌∷◌, [], ◌≤◌, length};
+ghost use Rattle.std.specs.Prelude.{◌≤◌, length};
 ghost use Rattle.event_file.specs.Text.{decimal_of};
 
 // A buffer, and the place in it where the next bytes go. Bytes that have no room behind it are left out.

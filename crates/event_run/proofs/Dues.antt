@@ -1,11 +1,10 @@
 -- What is due stays due. Assumes nothing.
-use Rattle.std.proofs.Common.{◌≡◌, ℕ, zero, suc, ◌+◌, ◌-◌, ◌≤◌, List, length, take, drop, sym, refl, ap, ◌∙◌, subst, append_assoc, arith, length-append, length-drop, length-take}
+use Rattle.std.proofs.Common.{◌≡◌, ℕ, zero, suc, ◌+◌, ◌-◌, ◌≤◌, List, length, take, drop, Option, Some, None, sym, refl, ap, ◌∙◌, subst, append_assoc, arith, length-append, length-drop, length-take}
 use Rattle.record.specs.Sizes.{frame_most}
 use Rattle.event_file.specs.Records.{asked}
 use Rattle.event_file.specs.Buffers.{written, Put, line_most}
 use Rattle.event_file.specs.Files.{lines_from}
-use Rattle.event_file.specs.declared.reader.Read.{Read}
-use Rattle.event_file.specs.declared.reader.Read.TheVariants.{More, Body}
+use Rattle.event_file.specs.declared.reader.Body.{Body}
 use Rattle.event_file.proofs.Framing.{one-record}
 use Rattle.event_file.proofs.Writing.{front_of}
 use Rattle.event_file.proofs.Outputs.{any-output, output-length}
@@ -59,9 +58,9 @@ module _ (input : List ℕ) where
   longer-all zero w = omega arith
   longer-all (suc most) w = go (λ v. longer-all most v) (next input w)
     where
-      go : ((v : Work) → length v.lines ≤ length (drained_in most input v).lines) → (v : Read) → length w.lines ≤ length (goes_on input (drained_in most input) w v).lines
-      go all More = omega arith
-      go all (Body i j) = omega (arith, longer w i j, all (one input w i j))
+      go : ((v : Work) → length v.lines ≤ length (drained_in most input v).lines) → (v : Option Body) → length w.lines ≤ length (goes_on input (drained_in most input) w v).lines
+      go all None = omega arith
+      go all (Some b) = omega (arith, longer w b.start b.end, all (one input w b.start b.end))
 
   keeps : (most : ℕ) (w : Work) → length w.out ≡ frame_most → length (drained_in most input w).lines ≡ length w.lines → Keeps w (drained_in most input w)
   unfolding drained_in goes_on
@@ -69,23 +68,23 @@ module _ (input : List ℕ) where
   keeps (suc most) w h l = go (λ v. keeps most v) (next input w) refl l
     where
       go : ((v : Work) → length v.out ≡ frame_most → length (drained_in most input v).lines ≡ length v.lines → Keeps v (drained_in most input v))
-          → (v : Read) → next input w ≡ v → length (goes_on input (drained_in most input) w v).lines ≡ length w.lines → Keeps w (goes_on input (drained_in most input) w v)
-      go all More e l = record { same = λ rest. refl; within = λ h. h; room = λ h. h }
-      go all (Body i j) e l =
-          let v : Work = one input w i j in
-          let first : length v.lines ≡ length w.lines = omega (arith, longer w i j, longer-all most v) in
-          let k = one-keeps w i j h (found _ input _ i j e) first in
-          let k' = all v (out-length w i j ∙ h) (l ∙ sym first) in
+          → (v : Option Body) → next input w ≡ v → length (goes_on input (drained_in most input) w v).lines ≡ length w.lines → Keeps w (goes_on input (drained_in most input) w v)
+      go all None e l = record { same = λ rest. refl; within = λ h. h; room = λ h. h }
+      go all (Some b) e l =
+          let v : Work = one input w b.start b.end in
+          let first : length v.lines ≡ length w.lines = omega (arith, longer w b.start b.end, longer-all most v) in
+          let k = one-keeps w b.start b.end h (found _ input _ b e) first in
+          let k' = all v (out-length w b.start b.end ∙ h) (l ∙ sym first) in
           record { same = λ rest. k'.same rest ∙ k.same rest; within = λ x. k'.within (k.within x); room = λ x. k'.room (k.room x) }
 
-  none : (most : ℕ) (w : Work) → left input w ≤ most → next input (drained_in most input w) ≡ More
+  none : (most : ℕ) (w : Work) → left input w ≤ most → next input (drained_in most input w) ≡ None
   unfolding drained_in goes_on
   none zero w h = none_left input w h
   none (suc most) w h = go (λ v. none most v) (next input w) refl
     where
-      go : ((v : Work) → left input v ≤ most → next input (drained_in most input v) ≡ More) → (v : Read) → next input w ≡ v → next input (goes_on input (drained_in most input) w v) ≡ More
-      go all More e = e
-      go all (Body i j) e = let l = less input w i j e in all (one input w i j) (omega arith)
+      go : ((v : Work) → left input v ≤ most → next input (drained_in most input v) ≡ None) → (v : Option Body) → next input w ≡ v → next input (goes_on input (drained_in most input) w v) ≡ None
+      go all None e = e
+      go all (Some b) e = let l = less input w b e in all (one input w b.start b.end) (omega arith)
 
 pub drains-keep : DrainsKeep
 unfolding drained_of

@@ -1,6 +1,6 @@
 -- Document 01, "Event file and the program `events`": the records in a buffer are answered, whatever the input brings after
 -- it. The lines that wait and those still to come stay the lines of the file. Assumes nothing.
-use Rattle.std.specs.Prelude.{◌≡◌, ℕ, zero, suc, ◌+◌, ◌-◌, ◌%◌, ◌^◌, ◌≤◌, ◌&&◌, List, ◌++◌, length, take, drop, nat_le, nat_lt}
+use Rattle.std.specs.Prelude.{◌≡◌, ℕ, zero, suc, ◌+◌, ◌-◌, ◌%◌, ◌^◌, ◌≤◌, ◌&&◌, List, ◌++◌, length, take, drop, nat_le, nat_lt, Option, Some, None}
 use Rattle.std.specs.Prelude.{if◌then◌else◌}
 use Rattle.record.specs.Sizes.{frame_most}
 use Rattle.calls.specs.Table.{Table}
@@ -8,9 +8,8 @@ use Rattle.event_file.specs.Records.{records_of, read_at, Asked, asked}
 use Rattle.event_file.specs.Lines.{line_of, said_told}
 use Rattle.event_file.specs.Buffers.{written, Writes, line_most}
 use Rattle.event_file.specs.Files.{entry_for, table_after, out_after, lines_from}
-use Rattle.event_file.specs.declared.reader.Read.{Read}
-use Rattle.event_file.specs.declared.reader.Read.TheVariants.{More, Body}
-use Rattle.event_file.specs.declared.line.Told.{Told}
+use Rattle.event_file.specs.declared.reader.Body.{Body}
+use Rattle.event_file.specs.declared.line.Reply.{Reply}
 use Rattle.event_run.specs.declared.Place.{Place}
 
 -- The largest number that a record can have.
@@ -19,19 +18,19 @@ last_number = 2 ^ 64 - 1
 
 -- The next record that can be answered: it is whole, there is room for its line, and there is a number for the one after
 -- it. (Nobody meets the last of these: a file of 2^64 records takes centuries.)
-unfoldable pub next_of : Place → (input : List ℕ) (room : ℕ) → Read
+unfoldable pub next_of : Place → (input : List ℕ) (room : ℕ) → Option Body
 next_of p input room =
     if nat_le (p.used + line_most) room && nat_lt p.number last_number then read_at input p.at
-    else More
+    else None
 
 -- What the answer of a record leaves: the table and the output buffer after it, and what is told of it.
-pub record Handled (t : Table) (b out : List ℕ) (after : Table) (told : Told) (left : List ℕ) : Type 0 where
+pub record Handled (t : Table) (b out : List ℕ) (after : Table) (told : Option Reply) (left : List ℕ) : Type 0 where
   pub table : after ≡ table_after t (asked out b)
   pub entry : said_told told ≡ entry_for t (asked out b)
   pub output : left ≡ out_after t out (asked out b)
 
 -- What is noted of a record: its line behind those that wait, and the next record's number and place.
-pub record Noted (p : Place) (end : ℕ) (told : Told) (old new : List ℕ) (r : Place) : Type 0 where
+pub record Noted (p : Place) (end : ℕ) (told : Option Reply) (old new : List ℕ) (r : Place) : Type 0 where
   pub line : Writes line_most (line_of p.number (said_told told)) p.used old new r.used
   pub number : r.number ≡ (p.number + 1) % 2 ^ 64
   pub place : r.at ≡ end
@@ -60,9 +59,9 @@ work_after w a end =
     }
 
 -- If a record was read it is answered, and then the rest is; if not, all stays.
-unfoldable pub goes_on : (input : List ℕ) (rest : Work → Work) → Work → Read → Work
-goes_on input rest w More = w
-goes_on input rest w (Body i j) = rest (work_after w (asked w.out (take (j - i) (drop i input))) j)
+unfoldable pub goes_on : (input : List ℕ) (rest : Work → Work) → Work → Option Body → Work
+goes_on input rest w None = w
+goes_on input rest w (Some b) = rest (work_after w (asked w.out (take (b.end - b.start) (drop b.start input))) b.end)
 
 -- The first `most` records that can be answered. A record takes two bytes or more, so there are no more records than bytes.
 unfoldable pub drained_in : (most : ℕ) (input : List ℕ) → Work → Work
@@ -93,4 +92,4 @@ pub record Kept (t : Table) (p : Place) (input old : List ℕ) (u : Table) (r : 
 -- All records that can be answered are: with an output buffer of 2000 bytes what is due stays, and no such record is left.
 pub record Drained (t : Table) (p : Place) (input old out : List ℕ) (u : Table) (r : Place) (new : List ℕ) : Type 0 where
   pub kept : length out ≡ frame_most → Kept t p input old u r new
-  pub none : next_of r input (length new) ≡ More
+  pub none : next_of r input (length new) ≡ None

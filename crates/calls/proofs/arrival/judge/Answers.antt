@@ -1,13 +1,16 @@
--- `calls::arrival::judge` meets its contract: at each return a law says what the arrival is to its record.
-use Rattle.std.proofs.Common.{sym, ◌∙◌}
-use Rattle.calls.proofs.Steps.{judge-none, judge-small, judge-verdict}
+-- `calls::arrival::judge` meets its contract: in each verdict's arm the room decides.
+use Rattle.std.proofs.Common.{sym, ap, ◌∙◌, Some}
+use Rattle.calls.proofs.Steps.{judge-none, judge-some}
 use Rattle.calls.proofs.arrival.judge.Goals as goal
 
-pub returns-in_default : goal.returns-in_default
-returns-in_default c = judge-none _ _ _ (sym c.weigh.ensures ∙ c.in_default.is)
+pub returns-in-None : goal.returns-in-None
+returns-in-None c = judge-none _ _ _ (sym c.weigh.ensures ∙ c.in-None.is)
 
-pub returns-then-not-room : goal.returns-then-not-room
-returns-then-not-room c = judge-small _ _ _ (sym c.weigh.ensures ∙ c.in-Some.is) c.if-not-room.true
+pub returns-in-Some-HandedUp : goal.returns-in-Some-HandedUp
+returns-in-Some-HandedUp c = c.granted.ensures ∙ judge-some _ _ _ (sym c.weigh.ensures ∙ c.in-Some-HandedUp.is ∙ ap Some c.in-Some-HandedUp.field-0-is)
 
-pub returns : goal.returns
-returns c = judge-verdict _ _ _ (sym c.weigh.ensures ∙ c.in-Some.is) c.if-not-room.false
+pub returns-in-Some-Duplicate : goal.returns-in-Some-Duplicate
+returns-in-Some-Duplicate c = c.granted-in-Some-Duplicate.ensures ∙ judge-some _ _ _ (sym c.weigh.ensures ∙ c.in-Some-Duplicate.is ∙ ap Some c.in-Some-Duplicate.field-0-is)
+
+pub returns-in-Some-Rogue : goal.returns-in-Some-Rogue
+returns-in-Some-Rogue c = c.granted-in-Some-Rogue.ensures ∙ judge-some _ _ _ (sym c.weigh.ensures ∙ c.in-Some-Rogue.is ∙ ap Some c.in-Some-Rogue.field-0-is)
