@@ -7,19 +7,31 @@ use native.Mathlib.Omega.{arith}
 use lib.Dec.{eqb, ltb, leb}
 use lib.ListN.{length, take, drop}
 use borrow.Author.Tests.{eqb-true, eqb-false, leb-true, ltb-false}
+use Rattle.refusal.specs.Checks.{said}
+use Rattle.refusal.specs.Checks.Said.{refused, answers}
+use Rattle.refusal.specs.Numbers.{number_of}
+use Rattle.refusal.specs.declared.Refusal.{Refusal}
+use Rattle.std.specs.Prelude.{Result as Answered, Ok, Err}
+use Rattle.index.specs.Index.{Index}
+use Rattle.index.specs.Indexed.{unfit_of, told_unfit}
+use Rattle.receiver.proofs.Closing.{number-some}
 use Rattle.refusal.specs.Numbers.{NETWORK, BATCH}
+use Rattle.refusal.proofs.Checks.{passed, same-value}
+use mathlib.Core.Path.{subst}
 use Rattle.frame.specs.Bytes.{word}
 use Rattle.calls.specs.Table.{Table}
 use Rattle.calls.specs.Calls.{Call, Result, result_of, Meets}
 use Rattle.calls.specs.Told.{tell_arrival}
 use Rattle.calls.specs.declared.ArrivalAnswer.{ArrivalAnswer}
 use Rattle.calls.proofs.Kept.{coincide}
-use Rattle.batch.specs.Batch.{frames_most, runs_past}
-use Rattle.batch.specs.Steps.{starts_with, begun, from_of, next_frame, added, stops, cursor_after, Work, result_at, work_after, goes_on, filled_in, filled_of}
+use Rattle.batch.specs.Batch.{Batch, frames_most, runs_past}
+use Rattle.batch.specs.Steps.{starts_with, begun, from_of, next_frame, added, stops, cursor_after, Work, result_at, work_after, goes_on, filled_in, filled_of, left_by, filled_from, Fills}
 use Rattle.batch.specs.declared.Cursor.{Cursor}
-use Rattle.batch.specs.declared.Next.TheVariants.{Done, Frame}
-use Rattle.batch.proofs.Lengths.{past-none}
-use Rattle.batch.proofs.Bodies.{no-frame}
+use Rattle.std.specs.Prelude.{Option, Some, None}
+use Rattle.batch.specs.declared.Next.{Next}
+use Rattle.batch.specs.Steps.{frame_at}
+use Rattle.batch.proofs.Lengths.{past-none, neither}
+use Rattle.batch.proofs.Bodies.{no_index, no-frame}
 
 -- ---- where a batch can be
 
@@ -30,32 +42,29 @@ pub record Whole (s : List ℕ) (room : ℕ) (c : Cursor) : Type 0 where
   pub count : c.frames + c.left ≤ frames_most
 
 module _ (unfit network count : ℕ) (s : List ℕ) where
-  pub whole-begun : (room : ℕ) → Whole s room (begun unfit network count s)
-  unfolding begun runs_past
-  whole-begun room = go (eqb unfit 0) (ltb 1 network) (ltb frames_most count) (runs_past count s) refl refl
+  -- a batch that is not refused
+  begun-so : {c : Cursor} → begun unfit network count s ≡ answers c
+      → (unfit ≡ 0) × (count ≤ frames_most) × (runs_past count s ≡ false) × (starts_with count ≡ c)
+  unfolding begun
+  begun-so {c} e =
+      let x = passed (not (eqb unfit 0)) unfit (sym e) in
+      let y = passed (ltb 1 network) NETWORK x.1 in
+      let z = passed (ltb frames_most count || runs_past count s) BATCH y.1 in
+      let n = neither (ltb frames_most count) (runs_past count s) z.0 in
+      (eqb-true unfit 0 (not-no (eqb unfit 0) x.0), ltb-false frames_most count n.0, n.1, sym (same-value z.1))
     where
-      starts : (left n : ℕ) → left ≤ frames_most → runs_past left s ≡ false → Whole s room (starts_with left n)
-      starts left n h e = record { at = omega arith; used = omega arith; past = e; count = omega arith }
+      not-no : (b : Bool) → not b ≡ false → b ≡ true
+      not-no true e = refl
+      not-no false e = sym e
 
-      none : (n : ℕ) → Whole s room (starts_with 0 n)
-      none n = starts 0 n (omega arith) refl
-
-      go : (a b m p : Bool) → ltb frames_most count ≡ m → runs_past count s ≡ p
-          → Whole s room (cond (not a) (starts_with 0 unfit) (cond b (starts_with 0 NETWORK) (cond (m || p) (starts_with 0 BATCH) (starts_with count 0))))
-      go false b m p e f = none unfit
-      go true true m p e f = none NETWORK
-      go true false true p e f = none BATCH
-      go true false false true e f = none BATCH
-      go true false false false e f = starts count 0 (ltb-false frames_most count e) f
+  pub whole-begun : (room : ℕ) {c : Cursor} → begun unfit network count s ≡ answers c → Whole s room c
+  whole-begun room {c} e =
+      let b = begun-so e in
+      subst (Whole s room) b.3 (record { at = omega arith; used = omega arith; past = b.2; count = omega (arith, b.1) })
 
   -- a batch that has frames to come was refused with neither 1 nor 18
-  pub begun-fit : 0 < (begun unfit network count s).left → unfit ≡ 0
-  unfolding begun
-  begun-fit h = go (eqb unfit 0) refl h
-    where
-      go : (a : Bool) → eqb unfit 0 ≡ a → 0 < (begun unfit network count s).left → unfit ≡ 0
-      go true e h = eqb-true unfit 0 e
-      go false e h = absurd (let l : 0 < 0 = rw e at h in omega (arith, l))
+  pub begun-fit : {c : Cursor} → begun unfit network count s ≡ answers c → unfit ≡ 0
+  begun-fit e = (begun-so e).0
 
 -- ---- the next frame
 
@@ -66,16 +75,22 @@ record Got (s : List ℕ) (room : ℕ) (c : Cursor) (i j k : ℕ) : Type 0 where
   from : k ≡ from_of c.used room
   some : 0 < c.left
 
-got : (s : List ℕ) (room : ℕ) (c : Cursor) (i j k : ℕ) → next_frame c s room ≡ Frame i j k → Got s room c i j k
+abbrev next_of : Option Next → Next
+next_of (Some n) = n
+next_of None = record { start = 0; end = 0; from = 0 }
+
+got : (s : List ℕ) (room : ℕ) (c : Cursor) (i j k : ℕ) → next_frame c s room ≡ frame_at i j k → Got s room c i j k
 unfolding next_frame
 got s room c i j k e = go (eqb c.left 0) refl e
   where
-    go : (b : Bool) → eqb c.left 0 ≡ b → cond b Done (Frame (c.at + 2) (c.at + 2 + word s c.at) (from_of c.used room)) ≡ Frame i j k → Got s room c i j k
-    go true p e = absurd (let z : ◌≡◌ {A = ℕ} 0 1 = cc in omega arith)
-    go false p e = let n = eqb-false c.left 0 p in record { start = cc; end = cc; from = cc; some = omega (arith, n) }
+    go : (b : Bool) → eqb c.left 0 ≡ b → cond b None (frame_at (c.at + 2) (c.at + 2 + word s c.at) (from_of c.used room)) ≡ frame_at i j k → Got s room c i j k
+    go true p e = let f : None ≡ frame_at i j k = e in cc
+    go false p e =
+        let n = eqb-false c.left 0 p in
+        record { start = sym (ap (λ (f : Option Next). (next_of f).start) e); end = sym (ap (λ (f : Option Next). (next_of f).end) e); from = sym (ap (λ (f : Option Next). (next_of f).from) e); some = omega (arith, n) }
 
 -- from where on the output is its
-pub from_is : (s : List ℕ) (room : ℕ) (c : Cursor) (i j k : ℕ) → next_frame c s room ≡ Frame i j k → k ≡ from_of c.used room
+pub from_is : (s : List ℕ) (room : ℕ) (c : Cursor) (i j k : ℕ) → next_frame c s room ≡ frame_at i j k → k ≡ from_of c.used room
 from_is s room c i j k e = (got s room c i j k e).from
 
 pub record Framed (s : List ℕ) (room : ℕ) (c : Cursor) (i j k : ℕ) : Type 0 where
@@ -92,7 +107,7 @@ from-most used room = go (leb (used + 2) room) refl
     go true e = leb-true (used + 2) room e
     go false e = omega arith
 
-pub framed : (s : List ℕ) (room : ℕ) (c : Cursor) (i j k : ℕ) → Whole s room c → next_frame c s room ≡ Frame i j k → Framed s room c i j k
+pub framed : (s : List ℕ) (room : ℕ) (c : Cursor) (i j k : ℕ) → Whole s room c → next_frame c s room ≡ frame_at i j k → Framed s room c i j k
 framed s room c i j k w e =
     let g = got s room c i j k e in
     let p = past-none s c.at c.left w.at g.some w.past in
@@ -112,7 +127,7 @@ unfolding cursor_after
 left_after c j e b p = rw p
 
 pub whole-after : (s : List ℕ) (room : ℕ) (c : Cursor) (i j k : ℕ) (e : ArrivalAnswer)
-    → Whole s room c → next_frame c s room ≡ Frame i j k → c.used + added e ≤ room → Whole s room (cursor_after c j e)
+    → Whole s room c → next_frame c s room ≡ frame_at i j k → c.used + added e ≤ room → Whole s room (cursor_after c j e)
 unfolding cursor_after runs_past
 whole-after s room c i j k e w p h = go (stops e)
   where
@@ -122,11 +137,11 @@ whole-after s room c i j k e w p h = go (stops e)
     q : (c.at + 2 + word s c.at ≤ length s) × (runs_past (c.left - 1) (drop (c.at + 2 + word s c.at) s) ≡ false)
     q = past-none s c.at c.left w.at g.some w.past
 
-    go : (b : Bool) → Whole s room (record { at = j; used = c.used + added e; left = cond b 0 (c.left - 1); frames = cond b c.frames (c.frames + 1); refusal = c.refusal })
+    go : (b : Bool) → Whole s room (record { at = j; used = c.used + added e; left = cond b 0 (c.left - 1); frames = cond b c.frames (c.frames + 1) })
     go true = record { at = omega (arith, g.end, q.0); used = h; past = refl; count = omega (arith, w.count) }
     go false = record { at = omega (arith, g.end, q.0); used = h; past = rw g.end q.1; count = omega (arith, g.some, w.count) }
 
-pub left-falls : (s : List ℕ) (room : ℕ) (c : Cursor) (i j k : ℕ) (e : ArrivalAnswer) → next_frame c s room ≡ Frame i j k → (cursor_after c j e).left < c.left
+pub left-falls : (s : List ℕ) (room : ℕ) (c : Cursor) (i j k : ℕ) (e : ArrivalAnswer) → next_frame c s room ≡ frame_at i j k → (cursor_after c j e).left < c.left
 left-falls s room c i j k e p = let g = got s room c i j k p in go (stops e) refl g.some
   where
     go : (b : Bool) → stops e ≡ b → 0 < c.left → (cursor_after c j e).left < c.left
@@ -135,12 +150,12 @@ left-falls s room c i j k e p = let g = got s room c i j k p in go (stops e) ref
 
 -- ---- all frames
 
-filled-stops : (most network : ℕ) (s : List ℕ) (w : Work) → next_frame w.cursor s (length w.out) ≡ Done → filled_in most network s w ≡ w
+filled-stops : (most network : ℕ) (s : List ℕ) (w : Work) → next_frame w.cursor s (length w.out) ≡ None → filled_in most network s w ≡ w
 unfolding filled_in goes_on
 filled-stops zero network s w e = refl
 filled-stops (suc most) network s w e = rw e
 
-pub filled_none : (network : ℕ) (s : List ℕ) (w : Work) → next_frame w.cursor s (length w.out) ≡ Done → filled_of network s w ≡ w
+pub filled_none : (network : ℕ) (s : List ℕ) (w : Work) → next_frame w.cursor s (length w.out) ≡ None → filled_of network s w ≡ w
 unfolding filled_of
 filled_none network s w e = filled-stops w.cursor.left network s w e
 
@@ -148,7 +163,7 @@ after-left : (w : Work) (r : Result) (j k : ℕ) → (work_after w r j k).cursor
 unfolding work_after
 after-left w r j k = refl
 
-pub filled-one : (network : ℕ) (s : List ℕ) (w : Work) (i j k : ℕ) → next_frame w.cursor s (length w.out) ≡ Frame i j k
+pub filled-one : (network : ℕ) (s : List ℕ) (w : Work) (i j k : ℕ) → next_frame w.cursor s (length w.out) ≡ frame_at i j k
     → filled_of network s (work_after w (result_at network w (take (j - i) (drop i s)) k) j k) ≡ filled_of network s w
 unfolding filled_of filled_in goes_on
 filled-one network s w i j k e = go w.cursor.left refl (got s (length w.out) w.cursor i j k e).some
@@ -180,3 +195,33 @@ filled-one network s w i j k e = go w.cursor.left refl (got s (length w.out) w.c
 
 pub meets-result : (t : Table) (c : Call) (r : Result) → Meets t c r → r ≡ result_of t c
 meets-result t c r m = coincide t c r (result_of t c) m (record { said = refl; table = refl; output = refl })
+
+-- ---- from the beginning
+
+-- a batch that is refused with 1 or 18, and one that is not
+pub begun-unfit : (ix : Index) (t : Table) (r : Answered Unit Refusal) → told_unfit r ≡ unfit_of ix t → (refusal : Refusal) → r ≡ Err refusal
+    → (network count : ℕ) (s : List ℕ) → begun (unfit_of ix t) network count s ≡ refused (number_of refusal)
+begun-unfit ix t r said refusal e network count s =
+    let n : number_of refusal ≡ unfit_of ix t = sym (ap told_unfit e) ∙ said in
+    sym (no_index (unfit_of ix t) network count s (λ z. number-some refusal (n ∙ z))) ∙ ap refused (sym n)
+
+pub begun-well : (ix : Index) (t : Table) (r : Answered Unit Refusal) → told_unfit r ≡ unfit_of ix t → {u : Unit} → r ≡ Ok u
+    → (network count : ℕ) (s : List ℕ) → begun (unfit_of ix t) network count s ≡ begun 0 network count s
+begun-well ix t r said e network count s =
+    let n : unfit_of ix t ≡ 0 = sym said ∙ ap told_unfit e in
+    ap (λ (m : ℕ). begun m network count s) n
+
+pub refused-fills : (ix : Index) (t : Table) (b : Batch) (old : List ArrivalAnswer) (r : Answered ℕ Refusal) (refusal : Refusal)
+    → begun (unfit_of ix t) b.network b.count b.frames ≡ refused (number_of refusal) → r ≡ Err refusal → Fills ix t b old t r b.out old
+unfolding filled_from
+refused-fills ix t b old r refusal p e = record {
+  same = ap (λ (x : Answered ℕ Refusal). record { said = said x; table = t; out = b.out; answers = old }) e ∙ sym (ap (filled_from t b old) p);
+}
+
+pub done-fills : (ix : Index) (t : Table) (b : Batch) (old : List ArrivalAnswer) (c : Cursor) (w : Work) → begun (unfit_of ix t) b.network b.count b.frames ≡ answers c
+    → filled_of b.network b.frames w ≡ filled_of b.network b.frames (record { table = t; cursor = c; out = b.out; answers = old }) → next_frame w.cursor b.frames (length w.out) ≡ None
+    → Fills ix t b old w.table (Ok w.cursor.frames) w.out w.answers
+unfolding filled_from
+done-fills ix t b old c w p same none = record {
+  same = ap left_by (sym (filled_none b.network b.frames w none) ∙ same) ∙ sym (ap (filled_from t b old) p);
+}

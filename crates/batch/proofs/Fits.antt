@@ -13,7 +13,7 @@ use Rattle.calls.specs.Calls.{arriving, Result, result_of}
 use Rattle.calls.specs.Told.{tell_arrival}
 use Rattle.batch.specs.Steps.{from_of, next_frame, added}
 use Rattle.batch.specs.declared.Cursor.{Cursor}
-use Rattle.batch.specs.declared.Next.TheVariants.{Frame}
+use Rattle.batch.specs.Steps.{frame_at}
 use Rattle.batch.proofs.Arriving.{Leaves, nothing-new, handed-up, leaves}
 use Rattle.batch.proofs.Filling.{from_is}
 
@@ -31,7 +31,7 @@ fits-behind used room k size new e l h (inr p) = go (leb (used + 2) room) refl e
     go true q e = omega (arith, leb-true (used + 2) room q, p.1)
     go false q e = absurd (omega (arith, p.0))
 
-pub turn-fits : (t : Table) (network : ℕ) (f out : List ℕ) (c : Cursor) (s : List ℕ) (i j k : ℕ) → next_frame c s (length out) ≡ Frame i j k → c.used ≤ length out
+pub turn-fits : (t : Table) (network : ℕ) (f out : List ℕ) (c : Cursor) (s : List ℕ) (i j k : ℕ) → next_frame c s (length out) ≡ frame_at i j k → c.used ≤ length out
     → c.used + added (tell_arrival (result_of t (arriving network f (drop k out))).said) ≤ length out
 turn-fits t network f out c s i j k e h =
     fits-behind c.used (length out) k (length (drop k out)) _ (from_is s (length out) c i j k e) (length-drop k out) h (adds-few (drop k out) _ (leaves t (drop k out) network f))

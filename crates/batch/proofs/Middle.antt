@@ -26,10 +26,10 @@ use Rattle.batch.proofs.Packing.{frame-there, from_in, lent-end, packs, counts, 
 abbrev pub Answers : Type 0
 Answers = List ArrivalAnswer
 
-abbrev pub middle : Table → (at : ℕ) (p : List ℕ) (left : ℕ) (told : Answers) (frames refusal marks : ℕ) (o : List ℕ) → Work
-middle t a p left told frames refusal marks o = record {
+abbrev pub middle : Table → (at : ℕ) (p : List ℕ) (left : ℕ) (told : Answers) (frames marks : ℕ) (o : List ℕ) → Work
+middle t a p left told frames marks o = record {
   table = t;
-  cursor = record { at = a; used = length p; left = left; frames = frames; refusal = refusal };
+  cursor = record { at = a; used = length p; left = left; frames = frames };
   out = overlay p o;
   answers = told ++ replicate marks mark;
 }
@@ -48,41 +48,38 @@ rests (suc most) network s w e = rw e
 abbrev pub told_of : List Turn → Answers
 told_of us = map (λ (u : Turn). tell_arrival u.result.said) us
 
-pub record Filled (t : Table) (p : List ℕ) (told : Answers) (number marks : ℕ) (o : List ℕ) (us : List Turn) (w : Work) : Type 0 where
+pub record Filled (t : Table) (p : List ℕ) (told : Answers) (marks : ℕ) (o : List ℕ) (us : List Turn) (w : Work) : Type 0 where
   pub table : w.table ≡ table_after t us
   pub frames : w.cursor.frames ≡ length told + before us
-  pub refusal : w.cursor.refusal ≡ number
   pub out : w.out ≡ overlay (p ++ packed us) o
   pub answers : w.answers ≡ told ++ (told_of us ++ replicate (marks - length us) mark)
 
-module _ (t : Table) (p : List ℕ) (told : Answers) (number marks : ℕ) (o : List ℕ) (u : Turn) where
+module _ (t : Table) (p : List ℕ) (told : Answers) (marks : ℕ) (o : List ℕ) (u : Turn) where
   -- 8 ends it,
   stopped : (a : ℕ) → ends u.result.said ≡ true
-      → Filled t p told number (suc marks) o (u ∷ [])
-      (middle u.result.table a (p ++ adds u.result) 0 (told ++ (tell_arrival u.result.said ∷ [])) (length told) number marks o)
+      → Filled t p told (suc marks) o (u ∷ [])
+      (middle u.result.table a (p ++ adds u.result) 0 (told ++ (tell_arrival u.result.said ∷ [])) (length told) marks o)
   unfolding table_after packed before
   stopped a e = record {
     table = refl;
     frames = rw e (omega arith);
-    refusal = refl;
     out = rw append-nil;
     answers = rw (suc-sub-suc, sub-zero, append_assoc);
   }
 
   -- and any other answer is followed by what the rest leaves
   going-on : (us : List Turn) (w : Work) → ends u.result.said ≡ false
-      → Filled u.result.table (p ++ adds u.result) (told ++ (tell_arrival u.result.said ∷ [])) number marks o us w
-      → Filled t p told number (suc marks) o (u ∷ us) w
+      → Filled u.result.table (p ++ adds u.result) (told ++ (tell_arrival u.result.said ∷ [])) marks o us w
+      → Filled t p told (suc marks) o (u ∷ us) w
   unfolding table_after packed before
   going-on us w e f = record {
     table = f.table;
     frames = rw e (f.frames ∙ rw length-append (omega arith));
-    refusal = f.refusal;
     out = f.out ∙ rw append_assoc;
     answers = f.answers ∙ rw (suc-sub-suc, append_assoc);
   }
 
-module _ (network : ℕ) (s o : List ℕ) (number : ℕ) where
+module _ (network : ℕ) (s o : List ℕ) where
   -- the next frame, and what it comes to
   abbrev frame : (at : ℕ) → List ℕ
   frame a = take (word (drop a s) 0) (drop 2 (drop a s))
@@ -95,17 +92,17 @@ module _ (network : ℕ) (s o : List ℕ) (number : ℕ) where
 
   abbrev behind : (stop : Bool) (n : ℕ) → Table → (at : ℕ) → (p : List ℕ) → Answers → (marks : ℕ) → Work
   behind stop n t a p told marks =
-      middle (result t a p).table (a + 2 + word s a) (p ++ adds (result t a p)) (cond stop 0 n) (told-on t a p told) (cond stop (length told) (length told + 1)) number marks o
+      middle (result t a p).table (a + 2 + word s a) (p ++ adds (result t a p)) (cond stop 0 n) (told-on t a p told) (cond stop (length told) (length told + 1)) marks o
 
   abbrev pub Comes : (n : ℕ) → Table → (at : ℕ) → (p : List ℕ) → Answers → (marks : ℕ) → Type 0
   Comes n t a p told marks =
-      Filled t p told number marks o (turns_in network t (drop (length p) o) (frames_in n (drop a s))) (filled_in n network s (middle t a p n told (length told) number marks o))
+      Filled t p told marks o (turns_in network t (drop (length p) o) (frames_in n (drop a s))) (filled_in n network s (middle t a p n told (length told) marks o))
 
   module _ (n : ℕ) (t : Table) (a : ℕ) (p : List ℕ) (told : Answers) (marks : ℕ) (fits : length p ≤ length o) where
-    one : filled_in (suc n) network s (middle t a p (suc n) told (length told) number (suc marks) o) ≡ filled_in n network s (behind (ends (result t a p).said) n t a p told marks)
+    one : filled_in (suc n) network s (middle t a p (suc n) told (length told) (suc marks) o) ≡ filled_in n network s (behind (ends (result t a p).said) n t a p told marks)
     unfolding filled_in goes_on next_frame work_after cursor_after
     one =
-        let w : Work = middle t a p (suc n) told (length told) number (suc marks) o in
+        let w : Work = middle t a p (suc n) told (length told) (suc marks) o in
         let x : Result = result t a p in
         let r : result_at network w (take (a + 2 + word s a - (a + 2)) (drop (a + 2) s)) (from_in p o) ≡ x =
         ap₂ (λ (f left : List ℕ). result_of t (arriving network f left)) (frame-there s a) (lent-end p o fits) in
@@ -119,7 +116,6 @@ module _ (network : ℕ) (s o : List ℕ) (number : ℕ) where
             used = k i;
             left = cond (stops-ends x.said i) 0 (d i);
             frames = cond (stops-ends x.said i) (length told) (length told + 1);
-            refusal = number;
           };
           out = packs p o fits x v i;
           answers = noted told marks (tell_arrival x.said) i;
@@ -138,15 +134,15 @@ module _ (network : ℕ) (s o : List ℕ) (number : ℕ) where
         us = turns_in network (result t a p).table (drop (length (adds (result t a p))) (drop (length p) o)) (frames_in n (drop (2 + word (drop a s) 0) (drop a s)))
 
         go : (b : Bool) → ends (result t a p).said ≡ b
-            → Filled t p told number (suc marks) o (u ∷ cond b [] us) (filled_in n network s (behind b n t a p told marks))
-        go true e = rw (rests n network s (behind true n t a p told marks) refl) (stopped t p told number marks o u _ e)
+            → Filled t p told (suc marks) o (u ∷ cond b [] us) (filled_in n network s (behind b n t a p told marks))
+        go true e = rw (rests n network s (behind true n t a p told marks) refl) (stopped t p told marks o u _ e)
         go false e =
-            going-on t p told number marks o u us _ e
+            going-on t p told marks o u us _ e
             (rw (drop-drop (length (adds (result t a p))) (length p) o, ← length-append p (adds (result t a p)), Lengths.behind s a) (rw (length-append told) at rest))
 
   pub all : (n : ℕ) (t : Table) (a : ℕ) (p : List ℕ) (told : Answers) (marks : ℕ) → length p ≤ length o → n ≤ marks → Comes n t a p told marks
   unfolding filled_in turns_in frames_in table_after packed before
-  all zero t a p told marks fits h = record { table = refl; frames = omega arith; refusal = refl; out = rw append-nil; answers = rw sub-zero }
+  all zero t a p told marks fits h = record { table = refl; frames = omega arith; out = rw append-nil; answers = rw sub-zero }
   all (suc n) t a p told zero fits h = absurd (omega arith)
   all (suc n) t a p told (suc marks) fits h =
       let v = leaves t (drop 2 (drop (length p) o)) network (frame a) in

@@ -15,7 +15,7 @@ use Rattle.calls.specs.Told.{tell_arrival}
 use Rattle.calls.specs.declared.ArrivalAnswer.{ArrivalAnswer}
 use Rattle.batch.specs.Steps.{next_frame, added, length_put, cursor_after, Work, work_after, filled_of}
 use Rattle.batch.specs.declared.Cursor.{Cursor}
-use Rattle.batch.specs.declared.Next.TheVariants.{Frame}
+use Rattle.batch.specs.Steps.{frame_at}
 use Rattle.batch.proofs.Filling.{Whole, whole-after, left-falls, filled-one, meets-result}
 use Rattle.batch.proofs.Fits.{turn-fits}
 
@@ -37,7 +37,7 @@ back-length k us vs h e =
     ∙ (let p = length-take-le k us h in let q = length-drop k us in let r = ap (λ (z : List ℕ). length z) (take_rest us k) in omega (arith, e))
 
 module _ (network : ℕ) (s : List ℕ) (t zs : Table) (c : Cursor) (us vs : List ℕ) (cs : List ArrivalAnswer) (i j k : ℕ) (a : Said Answer) (v : ArrivalAnswer)
-    (whole : Whole s (length us) c) (sought : next_frame c s (length us) ≡ Frame i j k) (inside : k ≤ length us)
+    (whole : Whole s (length us) c) (sought : next_frame c s (length us) ≡ frame_at i j k) (inside : k ≤ length us)
     (met : Meets t (arriving network (take (j - i) (drop i s)) (lent k us)) (record { said = a; table = zs; output = vs }))
     (as_long : length vs ≡ length (lent k us)) (told : v ≡ tell_arrival a) where
   abbrev w : Work
@@ -74,5 +74,5 @@ module _ (network : ℕ) (s : List ℕ) (t zs : Table) (c : Cursor) (us vs : Lis
         (subst (Whole s (length us)) (sym moved) (whole-after s (length us) c i j k v whole sought adds_fit))
 
 -- fewer frames are left
-pub fewer-left : (s : List ℕ) (room : ℕ) (c : Cursor) (i j k : ℕ) (v : ArrivalAnswer) (d : Cursor) → next_frame c s room ≡ Frame i j k → d ≡ cursor_after c j v → d.left < c.left
+pub fewer-left : (s : List ℕ) (room : ℕ) (c : Cursor) (i j k : ℕ) (v : ArrivalAnswer) (d : Cursor) → next_frame c s room ≡ frame_at i j k → d ≡ cursor_after c j v → d.left < c.left
 fewer-left s room c i j k v d sought moved = subst (λ (z : Cursor). z.left < c.left) (sym moved) (left-falls s room c i j k v sought)

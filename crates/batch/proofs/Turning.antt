@@ -1,6 +1,6 @@
 -- A turn of the loop `fill`, put together: what its calls said of one frame is one frame more of `filled_of`. Assumes nothing.
 use Prim.Native.Nat.{ℕ, ◌+◌, ◌-◌, ◌≤◌}
-use mathlib.Core.Path.{◌≡◌, refl, sym, ap, ◌∙◌, subst}
+use mathlib.Core.Path.{◌≡◌, sym, ap, ◌∙◌, subst}
 use mathlib.Core.List.{List, ◌++◌}
 use native.Mathlib.Omega.{arith}
 use lib.ListN.{length, take, drop, set, length-drop}
@@ -13,12 +13,12 @@ use Rattle.calls.specs.Told.{tell_arrival}
 use Rattle.calls.specs.declared.ArrivalAnswer.{ArrivalAnswer}
 use Rattle.batch.specs.Steps.{next_frame, added, length_put, cursor_after, Work, work_after, filled_of}
 use Rattle.batch.specs.declared.Cursor.{Cursor}
-use Rattle.batch.specs.declared.Next.TheVariants.{Frame}
+use Rattle.batch.specs.Steps.{frame_at}
 use Rattle.batch.proofs.Filling.{filled-one, meets-result}
 use Rattle.batch.proofs.Fits.{turn-fits}
 
 module _ (network : ℕ) (s : List ℕ) (t zs : Table) (c : Cursor) (us vs : List ℕ) (cs : List ArrivalAnswer) (i j k : ℕ) (a : Said Answer) (v : ArrivalAnswer)
-    (sought : next_frame c s (length us) ≡ Frame i j k)
+    (sought : next_frame c s (length us) ≡ frame_at i j k)
     (met : Meets t (arriving network (take (j - i) (drop i s)) (drop k us)) (record { said = a; table = zs; output = vs }))
     (told : v ≡ tell_arrival a) where
   abbrev w : Work

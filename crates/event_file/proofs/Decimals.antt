@@ -3,7 +3,7 @@
 use mathlib.Core.Path.{◌≡◌, sym, ap, ◌∙◌}
 use Prim.Native.Nat.{ℕ, suc, ◌+◌, ◌/◌, ◌%◌, ◌^◌, ◌≤◌, ◌<◌}
 use native.Mathlib.Omega.{arith}
-use mathlib.Core.List.{List, [], ◌∷◌, ◌++◌}
+use mathlib.Core.List.{List, [], ◌∷◌, ◌++◌, append_assoc}
 use lib.ListN.{length}
 use borrow.Author.Tests.{lt-ltb, le-ltb}
 use Rattle.std.specs.Fmt.{decimal}
@@ -33,3 +33,16 @@ module _ (n : ℕ) (h : n < 2 ^ 64) where
 pub decimal-large : (n : ℕ) → n < 2 ^ 64 → 10 ≤ n → decimal_of n ≡ decimal_of (n / 10) ++ (digit n ∷ [])
 decimal-large n h l =
     decimal-std n h ∙ (decimal_step n l h ∙ ap (λ (x : List ℕ). x ++ (digit n ∷ [])) (sym (decimal-std (n / 10) (omega arith))))
+
+-- the last two digits, and those before them
+pub decimal-two : (n : ℕ) → n < 2 ^ 64 → 100 ≤ n → decimal_of n ≡ decimal_of (n / 100) ++ (digit (n / 10) ∷ (digit n ∷ []))
+decimal-two n h l =
+    let e : n / 10 / 10 ≡ n / 100 = omega arith in
+    decimal-large n h (omega arith)
+    ∙ (ap (λ (x : List ℕ). x ++ (digit n ∷ [])) (decimal-large (n / 10) (omega arith) (omega arith) ∙ ap (λ (x : ℕ). decimal_of x ++ (digit (n / 10) ∷ [])) e)
+    ∙ append_assoc (decimal_of (n / 100)) (digit (n / 10) ∷ []) (digit n ∷ []))
+
+pub decimal-both : (n : ℕ) → n < 100 → 10 ≤ n → decimal_of n ≡ digit (n / 10) ∷ (digit n ∷ [])
+decimal-both n h l =
+    let m : digit (n / 10) ≡ 48 + n / 10 = omega arith in
+    decimal-large n (omega arith) l ∙ ap (λ (x : List ℕ). x ++ (digit n ∷ [])) (decimal-small (n / 10) (omega arith) ∙ ap (λ (d : ℕ). d ∷ []) (sym m))

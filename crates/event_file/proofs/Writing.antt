@@ -12,7 +12,7 @@ use Rattle.event_file.specs.Buffers.{written, Put, Writes}
 use Rattle.event_file.specs.Writer.{Adds}
 use Rattle.event_file.specs.declared.writer.Writer.{Writer}
 use Rattle.event_file.specs.Laws.{WritesCoincide}
-use Rattle.event_file.proofs.Decimals.{decimal-small, decimal-large, decimal-most}
+use Rattle.event_file.proofs.Decimals.{decimal-small, decimal-two, decimal-both, decimal-most}
 
 -- two writes, one behind the other
 written_twice : (at : ℕ) (a b old : List ℕ) → at ≤ length old → written (at + length a) b (written at a old) ≡ written at (a ++ b) old
@@ -71,10 +71,13 @@ module _ (n : ℕ) (h : n < 2 ^ 64) where
   pub adds_small : {u v : Writer} → n < 10 → Adds 1 (digit n ∷ []) u v → Adds 20 (decimal_of n) u v
   adds_small s x = let e : 48 + n ≡ digit n = omega arith in adds_within 20 (omega arith) (decimal-small n s ∙ ap (λ (d : ℕ). d ∷ []) e) x
 
-  pub adds_large : {u v w : Writer} → 10 ≤ n → Adds 20 (decimal_of (n / 10)) u v → Adds 1 (digit n ∷ []) v w → Adds 20 (decimal_of n) u w
+  pub adds_both : {u v : Writer} → n < 100 → 10 ≤ n → Adds 2 (digit (n / 10) ∷ (digit n ∷ [])) u v → Adds 20 (decimal_of n) u v
+  adds_both s l x = adds_within 20 (omega arith) (decimal-both n s l) x
+
+  pub adds_large : {u v w : Writer} → 100 ≤ n → Adds 20 (decimal_of (n / 100)) u v → Adds 2 (digit (n / 10) ∷ (digit n ∷ [])) v w → Adds 20 (decimal_of n) u w
   adds_large l x y =
       let j = adds_joined x y in
-      rw (decimal-large n h l) (record { short = omega (arith, ap length (decimal-large n h l), decimal-most n h); put = j.put; lent = j.lent })
+      rw (decimal-two n h l) (record { short = omega (arith, ap length (decimal-two n h l), decimal-most n h); put = j.put; lent = j.lent })
 
 -- what stands before the answered place
 pub front_of : {new old now : List ℕ} {at r : ℕ} → Put new at old now r → take r now ≡ take at old ++ new

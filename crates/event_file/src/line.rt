@@ -202,7 +202,8 @@ fn last(left: usize) -> &'static [u8]
     if left == 0 { b"end\n" } else { b"cut\n" }
 }
 
-// Writes the last line at a place, as `say` does a record's.
+// Writes the last line at a place, as `say` does a record's. (Each tests the room for itself: a function that made the writer
+// for both would have to say what becomes of the buffer that it was lent, which is longer than the test.)
 pub fn say_last(left: usize, buf: &mut [u8], at: usize) -> usize
     ensures { Writes last_most (last_line left) at buf.old buf.new result }
 {

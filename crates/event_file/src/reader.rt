@@ -100,7 +100,8 @@ pub fn decode(body: &[u8]) -> Option<Event>
     }
 }
 
-// The destination of an open: the six bytes behind the kind. (A byte beyond the body counts as 0.)
+// The destination of an open: the six bytes behind the kind. (A byte beyond the body counts as 0. An array's `map` says what
+// each call of its closure gave, and too little of what a call leaves of the closure for this clause to be proved.)
 pub fn destination(body: &[u8]) -> [u8; 6]
     ensures { result ≡ destination_of body.now }
 {

@@ -27,13 +27,17 @@ impl Writer<'_> {
         self.at = end;
     }
 
-    // A number in decimal: the digits of its tenth, if there are any, and the last one.
+    // A number in decimal, two digits at a time: one at a time, `events` would take a tenth longer.
     pub fn number(&mut self, n: u64)
         ensures { Adds 20 (decimal_of n) self.old self.new }
     {
-        if n >= 10 {
-            self.number(n / 10);
+        let last = b'0' + (n % 10) as u8;
+        if n < 10 {
+            return self.text(&[last]);
         }
-        self.text(&[b'0' + (n % 10) as u8]);
+        if n >= 100 {
+            self.number(n / 100);
+        }
+        self.text(&[b'0' + (n / 10 % 10) as u8, last]);
     }
 }

@@ -2,11 +2,10 @@
 use mathlib.Core.Path.{◌≡◌, refl, sym, ap, ◌∙◌}
 use Prim.Native.Nat.{ℕ, ◌+◌, ◌≤◌}
 use native.Mathlib.Omega.{arith}
-use mathlib.Core.Bool.{true, false}
+use mathlib.Core.Bool.{true}
 use mathlib.Core.List.{List, [], ◌∷◌, ◌++◌, append_assoc}
 use lib.IntN.{ℤ}
-use lib.ListN.{length, take, drop, get_or}
-use lib.Dec.{eqb}
+use lib.ListN.{length, take, drop}
 use Rattle.event_file.specs.Records.{records_of}
 use Rattle.event_file.specs.Lines.{last_line}
 use Rattle.event_file.specs.Files.{lines_from, lines_of, free_table}
@@ -21,16 +20,6 @@ use Rattle.event_turns.specs.Turns.{Filled, left_of, due_from, piece_of, Turned,
 use Rattle.std.proofs.lemmas.List.{append-nil}
 
 -- ---- the first byte
-
-pub no_byte : (s : List ℕ) → length s ≡ 0 → false ≡ starts_one s
-unfolding starts_one
-no_byte [] e = refl
-no_byte (a ∷ s) e = absurd (omega arith)
-
-pub first_byte : (s : List ℕ) → eqb (get_or s 0 0) 1 ≡ starts_one s
-unfolding starts_one
-first_byte [] = refl
-first_byte (a ∷ s) = refl
 
 pub starts-some : (s : List ℕ) → starts_one s ≡ true → 1 ≤ length s
 unfolding starts_one

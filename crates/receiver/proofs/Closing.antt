@@ -35,7 +35,7 @@ use Rattle.index.proofs.Kept.{indexed-is, as-without}
 -- ---- 1 and 18
 
 -- no refusal has the number 0
-number-some : (refusal : Refusal) → number_of refusal ≡ 0 → ⊥
+pub number-some : (refusal : Refusal) → number_of refusal ≡ 0 → ⊥
 number-some refusals.Table e = omega arith
 number-some Network e = omega arith
 number-some Long e = omega arith

@@ -1,10 +1,13 @@
 -- `batch::put_length` meets its contract.
-use Rattle.std.proofs.Common.{arith}
-use Rattle.batch.proofs.Bodies.{put_some, put-none}
+use Rattle.std.proofs.Common.{ℕ, List, get_or, sym, ap, ◌∙◌}
+use Rattle.batch.proofs.Bodies.{puts-length, puts-none}
+use Rattle.batch.specs.Steps.{told}
 use Rattle.batch.proofs.put_length.Goals as goal
 
-pub returns-then-e-ne1 : goal.returns-then-e-ne1
-returns-then-e-ne1 c = put-none c.args.e _ _ (λ e. omega arith)
+pub returns-in-Some : goal.returns-in-Some
+returns-in-Some c =
+    puts-length (told c.args.answer) _ _ (sym c.handed_up.ensures ∙ c.in-Some.is)
+    (ap (λ (bytes : List ℕ). get_or bytes 6 0) c.to_be_bytes.ensures) (ap (λ (bytes : List ℕ). get_or bytes 7 0) c.to_be_bytes.ensures)
 
-pub returns : goal.returns
-returns c = put_some c.args.e _ _ (omega arith)
+pub returns-in_default : goal.returns-in_default
+returns-in_default c = puts-none (told c.args.answer) _ _ (sym c.handed_up.ensures ∙ c.in_default.is)

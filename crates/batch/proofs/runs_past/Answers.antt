@@ -1,20 +1,31 @@
 -- `batch::runs_past` meets its contract.
-use Rattle.std.proofs.Common.{◌∙◌, arith}
-use Rattle.batch.proofs.Lengths.{past-nought, past-here, past-rest}
+use Rattle.std.proofs.Common.{ℕ, ◌≡◌, ◌+◌, ◌-◌, ap, ◌∙◌, arith, inl, inr}
+use Rattle.std.proofs.lemmas.List.{take_rest}
+use Rattle.batch.specs.Batch.{runs_past}
+use Rattle.batch.proofs.Lengths.{past-nought, past-short, past-cut, past-kept}
 use Rattle.batch.proofs.runs_past.Goals as goal
 
-pub returns-then-frames-at-lt2 : goal.returns-then-frames-at-lt2
-returns-then-frames-at-lt2 c = past-here c.args.frames.now c.loop-left.at _ (omega arith) (omega arith) (omega arith) ∙ c.loop-left.invariant.same
+pub loop-init : goal.loop-init
+loop-init c = let e : c.args.count - 0 ≡ c.args.count = omega arith in ap (λ (n : ℕ). runs_past n c.args.frames.now) e
 
-pub returns-then-frames-at : goal.returns-then-frames-at
-returns-then-frames-at c =
-    past-here c.args.frames.now c.loop-left.at _ (omega arith) (omega (arith, c.length_at-size.ensures.0)) (omega arith) ∙ c.loop-left.invariant.same
+pub returns-in_default : goal.returns-in_default
+returns-in_default c = past-short c.loop.rest.now _ (omega arith) c.in_default.ensures.cases ∙ c.loop.invariant
 
-pub loop-left-preserved : goal.loop-left-preserved
-loop-left-preserved c = record {
-  within = omega arith;
-  same = past-rest c.args.frames.now c.loop-left.at c.loop-left.left (omega arith) c.length_at-size.ensures.0 (omega arith) c.loop-left.invariant.same;
-}
+pub returns-in_default-get : goal.returns-in_default-get
+returns-in_default-get c =
+    let w = c.in-Some.ensures.cases in
+    past-cut c.loop.rest.now _ _ _ w.0 w.1 w.2 (c.from.ensures ∙ c.from_be_bytes.ensures) _ (omega arith) (elim c.in_default-get.ensures.lookup.0 [
+      | inl l ↦ l
+      | inr l ↦ omega (arith, l)
+    ]) ∙ c.loop.invariant
+
+pub loop-preserved : goal.loop-preserved
+loop-preserved c =
+    let w = c.in-Some.ensures.cases in
+    let l = c.in-Some-get.ensures.lookup in
+    let e : c.args.count - (c.loop.counter + 1) ≡ c.args.count - c.loop.counter - 1 = omega arith in
+    ap (λ (n : ℕ). runs_past n c.in-Some-get.behind.now) e
+    ∙ past-kept c.loop.rest.now _ _ _ w.0 w.1 w.2 (c.from.ensures ∙ c.from_be_bytes.ensures) _ (omega arith) l.0.0 _ (l.0.2 ∙ take_rest c.in-Some.behind.now c.from.result) ∙ c.loop.invariant
 
 pub returns : goal.returns
-returns c = past-nought _ _ (omega arith) ∙ c.loop-left.invariant.same
+returns c = past-nought c.loop.rest.now _ (omega arith) ∙ c.loop.invariant

@@ -1,4 +1,4 @@
--- `Writer::number` calls itself with a tenth of the number. The measure is the number. Assumes nothing.
+-- `Writer::number` calls itself with a hundredth of the number. The measure is the number. Assumes nothing.
 use Rattle.event_file.proofs.writer.Writer.+number.Given as goal
 
 abbrev pub decreases-number : goal.decreases-number
