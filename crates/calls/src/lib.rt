@@ -14,7 +14,7 @@ ghost use Rattle.calls.specs.Table.{blank, hears};
 pub use arrival::{ask, finish, fits, judge};
 use frame::Rank;
 pub use link::{ask_link, finish_link, fits_link};
-use record::{Counts, State, Stream};
+use record::Stream;
 pub use slot::{close, is_free, place, reset};
 
 // What an arrival was found to be.
@@ -84,33 +84,7 @@ pub fn hears(s: Stream, key: Key) -> bool
 pub fn blank() -> Stream
     ensures { result ≡ blank }
 {
-    let state = State {
-        history: [0; 8],
-        anchor: 0,
-        remaining: 0,
-        early: 0,
-        any: 0,
-    };
-    let counts = Counts {
-        arrivals0: 0,
-        arrivals1: 0,
-        passed: 0,
-        discarded: 0,
-        rogue: 0,
-        disorder: 0,
-        lost: 0,
-        resets: 0,
-    };
-    Stream {
-        dest: 0,
-        vlan: 0,
-        window: 0,
-        time: 0,
-        rule: 0,
-        used: 0,
-        state,
-        counts,
-    }
+    Stream::default()
 }
 
 // What a tick counts: streams that it reset, and records in use that are damaged.

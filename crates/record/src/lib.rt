@@ -1,12 +1,12 @@
 // The stream record: its types and its sizes (document 01, "The stream record" and "Sizes").
-// No functions: the crate `stream` decides on a record, and `receiver` walks over the table that a caller lends. Each type
-// is `repr(C)`, since that caller may be written in C.
+// No functions but the derived ones: the crate `stream` decides on a record, and `receiver` walks over the table that a caller
+// lends. Each type is `repr(C)`, since that caller may be written in C.
 #![tactic(auto)]
 
 // What an arrival and a tick change. With fields of these sizes in this order no byte of a record is padding: `any` has two,
 // so that a record is copied without a rest.
 #[repr(C)]
-#[derive(Clone, Copy)]
+#[derive(Clone, Copy, Default)]
 pub struct State {
     // Bit k stands for the number anchor - k. It is bit k mod 64 of word k / 64.
     pub history: [u64; 8],
@@ -21,7 +21,7 @@ pub struct State {
 
 // The counters. They wrap to zero after 2^64 - 1.
 #[repr(C)]
-#[derive(Clone, Copy)]
+#[derive(Clone, Copy, Default)]
 pub struct Counts {
     pub arrivals0: u64,
     pub arrivals1: u64,
@@ -36,7 +36,7 @@ pub struct Counts {
 
 // A slot of the table that the caller lends. Every bit pattern of it is a value.
 #[repr(C)]
-#[derive(Clone, Copy)]
+#[derive(Clone, Copy, Default)]
 pub struct Stream {
     // The key: the destination's six bytes as one number, high byte first, and the VLAN id.
     pub dest: u64,

@@ -90,20 +90,17 @@ module _ {n : ℕ} (h : List ℕ) (o : OverWords n h) where
       let place : 64 * 0 + (w - d) ≡ w - d = omega arith in
       o.count 0 (w - d) d (omega arith) ∙ ap (λ (k : ℕ). ones (value h / 2 ^ k % 2 ^ d)) place
 
-  -- the count goes over the rest of the word that holds place `at`
-  pub count_word : Small h → (at low : ℕ) → low ≤ at
-      → ones (value h % 2 ^ at / 2 ^ low) + ones (get_or h (at / 64) 0 / 2 ^ (at % 64)) ≡ ones (value h % 2 ^ (at - at % 64 + 64) / 2 ^ low)
-  count_word s at low p =
-      let r : ℕ = at % 64 in
-      let i : ℕ = at / 64 in
-      let here : 64 * i + r ≡ at = omega arith in
+  -- the count goes over the rest of word i, from its place r on
+  pub count_word : Small h → (i r low : ℕ) → r < 64 → low ≤ 64 * i + r
+      → ones (value h % 2 ^ (64 * i + r) / 2 ^ low) + ones (get_or h i 0 / 2 ^ r) ≡ ones (value h % 2 ^ (64 * (i + 1) + 0) / 2 ^ low)
+  count_word s i r low q p =
       let word : 64 ≡ 64 - r + r = omega arith in
-      let next : at - r + 64 ≡ at + (64 - r) = omega arith in
+      let next : 64 * (i + 1) + 0 ≡ 64 * i + r + (64 - r) = omega arith in
       let short : get_or h i 0 / 2 ^ r < 2 ^ (64 - r) = shr_lt (64 - r) r (subst (λ (k : ℕ). get_or h i 0 < 2 ^ k) word (s i)) in
-      let rest : ones (get_or h i 0 / 2 ^ r) ≡ ones (value h / 2 ^ at % 2 ^ (64 - r)) =
-      ap ones (sym (mod-eq_of_lt short)) ∙ o.count i r (64 - r) (omega arith) ∙ ap (λ (k : ℕ). ones (value h / 2 ^ k % 2 ^ (64 - r))) here in
-      ap (λ (m : ℕ). ones (value h % 2 ^ at / 2 ^ low) + m) rest
-      ∙ sym (ap (λ (k : ℕ). ones (value h % 2 ^ k / 2 ^ low)) next ∙ ones-more (value h) at (64 - r) low p)
+      let rest : ones (get_or h i 0 / 2 ^ r) ≡ ones (value h / 2 ^ (64 * i + r) % 2 ^ (64 - r)) =
+      ap ones (sym (mod-eq_of_lt short)) ∙ o.count i r (64 - r) (omega arith) in
+      ap (λ (m : ℕ). ones (value h % 2 ^ (64 * i + r) / 2 ^ low) + m) rest
+      ∙ sym (ap (λ (k : ℕ). ones (value h % 2 ^ k / 2 ^ low)) next ∙ ones-more (value h) (64 * i + r) (64 - r) low p)
 
   -- and ends in the word that holds place w - 1
   pub count-last : (at w d : ℕ) → d ≤ w → w - d ≤ at → at < w → at / 64 ≡ (w - 1) / 64

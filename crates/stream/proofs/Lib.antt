@@ -14,6 +14,7 @@ mod Bits
 mod Digits
 mod Words
 mod Eight
+mod Filled
 mod Shifts
 mod AnyWords
 mod Moves

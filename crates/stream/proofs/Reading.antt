@@ -1,10 +1,10 @@
 -- The signed reading as the code computes it, and the code's tests on it as tests on the definitions. Assumes nothing.
-use Rattle.std.proofs.Common.{◌≡◌, ℕ, zero, suc, ◌+◌, ◌-◌, ◌%◌, ◌^◌, ◌<◌, ◌≤◌, Bool, true, false, T, eqb, ltb, ℤ, pos, negsuc, ◌-ℤ◌, neg_ℤ, nat_abs, sym, refl, ap, ◌∙◌, ap₂, arith, to_z-of_z, w16, w32, Fits, SFits, to_z, of_z, ltb-true, le-ltb, lt-ltb, ne_eqb}
+use Rattle.std.proofs.Common.{◌≡◌, ℕ, zero, suc, ◌-◌, ◌^◌, ◌<◌, ◌≤◌, Bool, true, false, T, eqb, ltb, ℤ, pos, negsuc, ◌-ℤ◌, neg_ℤ, nat_abs, sym, refl, ap, ◌∙◌, ap₂, arith, to_z-of_z, w16, w32, Fits, SFits, to_z, of_z, ltb-true, le-ltb, lt-ltb, ne_eqb}
 use native.Mathlib.Decide.{dec_lt}
 use lib.IntN.{+ℤ_idl}
 use lib.Signed.{mag, le_z, lt_z, non_neg}
 use borrow.Author.Tests.{eqb-false}
-use mir.Facts.{to_z_pos}
+use mir.Facts.{to_z_pos, to_z-neg}
 use Rattle.std.specs.Prelude.{if◌then◌else◌}
 use Rattle.stream.specs.Decisions.{Signed, ahead, behind, signed, difference, as_int}
 
@@ -23,34 +23,14 @@ signed_high w l h =
     let n : 65536 - w ≡ suc (65535 - w) = omega arith in
     rw (ne_eqb w 0 (omega arith), le-ltb w 32768 l, n)
 
--- Half the range is added, modulo 65536, which gives r, and taken away again.
-module _ (w r : ℕ) (hw : w < 2 ^ 16) (e : r ≡ (w + 32768) % 2 ^ 16) where
-  less-half : to_z w32 r -ℤ pos 32768 ≡ as_int (signed w)
-  less-half = elim (dec_lt w 32768) [
-    | yes l ↦ rw (wide r (omega arith), signed_low w l, le-ltb r 32768 (omega arith)) (ap pos (omega arith))
-    | no l ↦
-        rw (wide r (omega arith), signed_high w (omega arith) hw, lt-ltb r 32768 (omega arith)) (ap negsuc (omega arith))
-  ]
-
-  mag-signed : mag (as_int (signed w)) < 2 ^ 31
-  mag-signed = elim (dec_lt w 32768) [
-    | yes l ↦ rw (signed_low w l) (omega arith)
-    | no l ↦ rw (signed_high w (omega arith) hw) (omega arith)
-  ]
-
-  pub sub-fits : SFits w32 (to_z w32 r -ℤ pos 32768)
-  sub-fits = record { sfits = rw less-half mag-signed }
-
-  pub read : to_z w32 (of_z w32 (to_z w32 r -ℤ pos 32768)) ≡ as_int (signed w)
-  read = to_z-of_z sub-fits ∙ less-half
-
--- what wraps back to number is the difference
-pub wraps : (r number anchor : ℕ) → r < 2 ^ 16 → anchor < 2 ^ 16 → (r + anchor) % 2 ^ 16 ≡ number
-    → as_int (signed r) ≡ as_int (difference number anchor)
-unfolding difference
-wraps r number anchor hr ha e =
-    let same : r ≡ (number + 65536 - anchor) % 65536 = omega arith in
-    ap (λ (w : ℕ). as_int (signed w)) same
+-- It is the signed reading at 16 bits.
+pub sixteen : (w : ℕ) → w < 2 ^ 16 → to_z w16 w ≡ as_int (signed w)
+sixteen w h = elim (dec_lt w 32768) [
+  | yes l ↦ to_z_pos w16 l ∙ sym (signed_low w l)
+  | no l ↦
+      let high : w ≡ 2 ^ 16 - suc (65535 - w) = omega arith in
+      ap (to_z w16) high ∙ to_z-neg w16 (65535 - w) (omega arith) ∙ sym (signed_high w (omega arith) h)
+]
 
 -- What is ahead is ahead by one or more.
 abbrev pub Forward : Signed → Type 0

@@ -1,5 +1,7 @@
 -- Words and their number, over any number of words. Assumes nothing.
 use Rattle.std.proofs.Common.{◌≡◌, ℕ, zero, suc, ◌+◌, ◌-◌, ◌*◌, ◌/◌, ◌%◌, ◌^◌, ◌<◌, ◌≤◌, Bool, true, false, eqb, ltb, List, [], ◌∷◌, length, get_or, set, replicate, sym, refl, ap, ◌∙◌, subst, ap₂, lt_of_lt_of_le, mod-eq_of_lt, mul_assoc, mul_comm, add_comm, arith, length-set, get_or-set_other, get_or-set_same, pow_pos, pow_mono, pow-add, shr-shr, shr_lt, ltb-true, lt-ltb, eq-eqb, eqb-true}
+use Rattle.std.proofs.Common.{fold, IsTrue, EachIndex, ◌↔◌, take, drop, length-drop}
+use Rattle.std.proofs.lemmas.List.{get_or-drop, take_all}
 use native.Mathlib.Nat.{div-eq_of_lt, mod-one, zero-div}
 use native.Mathlib.Decide.{ℕ_discrete, dec_lt}
 use lib.Bits.{bit_or, bit_and, or_add_and, or_zero_l, and_le_l, and_le_r}
@@ -117,6 +119,30 @@ beyond [] k p = refl
 beyond (w ∷ ws) zero p = absurd (omega arith)
 beyond (w ∷ ws) (suc k) p = beyond ws k (omega arith)
 
+-- a test of the words from word i on
+all-clear : (ws : List ℕ) → Small ws → (i : ℕ) (b : Bool) → IsTrue b ↔ EachIndex (drop i ws) (λ k. get_or (drop i ws) k 0 ≡ 0)
+    → b ≡ ltb (value ws) (2 ^ (64 * i))
+all-clear ws s i true e = sym (lt-ltb (value ws) (2 ^ (64 * i)) (clear-lt ws s i (λ k p. each k p (dec_lt k (length ws)))))
+  where
+    each : (k : ℕ) → i ≤ k → Dec (k < length ws) → get_or ws k 0 ≡ 0
+    each k p (yes q) =
+        let place : i + (k - i) ≡ k = omega arith in
+        let inside : k - i < length (drop i ws) = omega (arith, length-drop i ws) in
+        ap (λ (j : ℕ). get_or ws j 0) (sym place) ∙ sym (get_or-drop i ws (k - i) 0) ∙ e.0 refl (k - i) inside
+    each k p (no q) = beyond ws k (omega arith)
+all-clear ws s i false e = go (ltb (value ws) (2 ^ (64 * i))) refl
+  where
+    go : (v : Bool) → ltb (value ws) (2 ^ (64 * i)) ≡ v → false ≡ v
+    go false l = refl
+    go true l = e.1 (λ k p. get_or-drop i ws k 0 ∙ lt-clear ws s i (i + k) (ltb-true (value ws) (2 ^ (64 * i)) l) (omega arith))
+
+pub rest-clear : (ws : List ℕ) → Small ws → (n i : ℕ) (b : Bool) → length ws ≡ n
+    → IsTrue b ↔ EachIndex (take (n - i) (drop i ws)) (λ k. get_or (take (n - i) (drop i ws)) k 0 ≡ 0)
+    → b ≡ ltb (value ws) (2 ^ (64 * i))
+rest-clear ws s n i b long e =
+    let all : take (n - i) (drop i ws) ≡ drop i ws = take_all (n - i) (drop i ws) (omega (arith, length-drop i ws)) in
+    all-clear ws s i b (subst (λ (l : List ℕ). IsTrue b ↔ EachIndex l (λ k. get_or l k 0 ≡ 0)) all e)
+
 -- the word that a number ends in, from place r on
 pub last_word : (ws : List ℕ) → Small ws → (i r : ℕ) → value ws < 2 ^ (64 * (i + 1)) → get_or ws i 0 / 2 ^ r ≡ value ws / 2 ^ (64 * i + r)
 unfolding word_at
@@ -203,6 +229,21 @@ unfolding tab
 tab-same zero f g e = refl
 tab-same (suc n) f g e = ap₂ ◌∷◌ (e 0 (omega arith)) (tab-same n (λ i. f (suc i)) (λ i. g (suc i)) (λ i p. e (suc i) (omega arith)))
 
+-- words, each as a number has it
+pub words-tab : (n x : ℕ) (f : ℕ → ℕ) → ((i : ℕ) → i < n → get_or (words_of n x) i 0 ≡ f i) → tab n f ≡ words_of n x
+words-tab n x f e = tab-same n f (λ i. get_or (words_of n x) i 0) (λ i p. sym (e i p)) ∙ tab-of n (words_of n x) (words-length n x)
+
+-- one of them changed
+pub tab-set : (h : List ℕ) (n j v : ℕ) (f : ℕ → ℕ) → length h ≡ n → j < n → f j ≡ v → ((i : ℕ) → (i ≡ j → ⊥) → f i ≡ get_or h i 0) → tab n f ≡ set h j v
+tab-set h n j v f e l a b = tab-same n f (λ i. get_or (set h j v) i 0) (λ i p. go i (ℕ_discrete i j)) ∙ tab-of n (set h j v) (length-set h j v ∙ e)
+  where
+    here : j < length h
+    here = omega arith
+
+    go : (i : ℕ) → Dec (i ≡ j) → f i ≡ get_or (set h j v) i 0
+    go i (yes q) = rw q (a ∙ sym (get_or-set_same h j v 0 here))
+    go i (no q) = b i q ∙ sym (get_or-set_other h j i v 0 q)
+
 -- words joined by `or` are zero exactly if each is
 or-none : (a b : ℕ) → bit_or a b ≡ 0 → (a ≡ 0) × (b ≡ 0)
 or-none a b e =
@@ -211,12 +252,7 @@ or-none a b e =
     let r : bit_and a b ≤ b = and_le_r a b in
     (omega (arith, s, l, r, e), omega (arith, s, l, r, e))
 
-unfoldable pub ors : ℕ → List ℕ → ℕ
-ors a [] = a
-ors a (w ∷ ws) = ors (bit_or a w) ws
-
-ors-none : (a : ℕ) (ws : List ℕ) → ors a ws ≡ 0 → (a ≡ 0) × ((i : ℕ) → get_or ws i 0 ≡ 0)
-unfolding ors
+ors-none : (a : ℕ) (ws : List ℕ) → fold bit_or a ws ≡ 0 → (a ≡ 0) × ((i : ℕ) → get_or ws i 0 ≡ 0)
 ors-none a [] e = (e, λ i. refl)
 ors-none a (w ∷ ws) e =
     let rest = ors-none (bit_or a w) ws e in
@@ -227,35 +263,31 @@ ors-none a (w ∷ ws) e =
     at v vs p q zero = p
     at v vs p q (suc i) = q i
 
-ors-clear : (ws : List ℕ) → ((i : ℕ) → get_or ws i 0 ≡ 0) → ors 0 ws ≡ 0
-unfolding ors
+ors-clear : (ws : List ℕ) → ((i : ℕ) → get_or ws i 0 ≡ 0) → fold bit_or 0 ws ≡ 0
 ors-clear [] z = refl
-ors-clear (w ∷ ws) z = ap (λ (x : ℕ). ors x ws) (or_zero_l w ∙ z 0) ∙ ors-clear ws (λ i. z (suc i))
+ors-clear (w ∷ ws) z = ap (λ (x : ℕ). fold bit_or x ws) (or_zero_l w ∙ z 0) ∙ ors-clear ws (λ i. z (suc i))
 
 -- no bit is set above the first word
-pub above-none : (w a : ℕ) (ws : List ℕ) → Small (w ∷ a ∷ ws) → eqb (ors a ws) 0 ≡ ltb (value (w ∷ a ∷ ws)) (2 ^ 64)
-above-none w a ws s = go (ltb (value (w ∷ a ∷ ws)) (2 ^ 64)) refl
+pub above-none : (w : ℕ) (ws : List ℕ) → Small (w ∷ ws) → eqb (fold bit_or 0 ws) 0 ≡ ltb (value (w ∷ ws)) (2 ^ 64)
+above-none w ws s = go (ltb (value (w ∷ ws)) (2 ^ 64)) refl
   where
-    clear : a ≡ 0 → ((i : ℕ) → get_or ws i 0 ≡ 0) → (k : ℕ) → 1 ≤ k → get_or (w ∷ a ∷ ws) k 0 ≡ 0
-    clear e z zero p = absurd (omega arith)
-    clear e z (suc zero) p = e
-    clear e z (suc (suc k)) p = z k
+    clear : ((i : ℕ) → get_or ws i 0 ≡ 0) → (k : ℕ) → 1 ≤ k → get_or (w ∷ ws) k 0 ≡ 0
+    clear z zero p = absurd (omega arith)
+    clear z (suc k) p = z k
 
-    other : (v : Bool) → eqb (ors a ws) 0 ≡ v → ltb (value (w ∷ a ∷ ws)) (2 ^ 64) ≡ false → eqb (ors a ws) 0 ≡ false
+    other : (v : Bool) → eqb (fold bit_or 0 ws) 0 ≡ v → ltb (value (w ∷ ws)) (2 ^ 64) ≡ false → eqb (fold bit_or 0 ws) 0 ≡ false
     other false e p = e
     other true e p =
-        let z = ors-none a ws (eqb-true (ors a ws) 0 e) in
-        let l : value (w ∷ a ∷ ws) < 2 ^ (64 * 1) = clear-lt (w ∷ a ∷ ws) s 1 (clear z.0 z.1) in
-        let q : ltb (value (w ∷ a ∷ ws)) (2 ^ 64) ≡ true = lt-ltb (value (w ∷ a ∷ ws)) (2 ^ 64) l in
+        let z = ors-none 0 ws (eqb-true (fold bit_or 0 ws) 0 e) in
+        let l : value (w ∷ ws) < 2 ^ (64 * 1) = clear-lt (w ∷ ws) s 1 (clear z.1) in
+        let q : ltb (value (w ∷ ws)) (2 ^ 64) ≡ true = lt-ltb (value (w ∷ ws)) (2 ^ 64) l in
         cc
 
-    go : (v : Bool) → ltb (value (w ∷ a ∷ ws)) (2 ^ 64) ≡ v → eqb (ors a ws) 0 ≡ ltb (value (w ∷ a ∷ ws)) (2 ^ 64)
+    go : (v : Bool) → ltb (value (w ∷ ws)) (2 ^ 64) ≡ v → eqb (fold bit_or 0 ws) 0 ≡ ltb (value (w ∷ ws)) (2 ^ 64)
     go true p =
-        let l : value (w ∷ a ∷ ws) < 2 ^ (64 * 1) = ltb-true (value (w ∷ a ∷ ws)) (2 ^ 64) p in
-        let first : a ≡ 0 = lt-clear (w ∷ a ∷ ws) s 1 1 l (omega arith) in
-        let none : ors a ws ≡ 0 = ap (λ (x : ℕ). ors x ws) first ∙ ors-clear ws (λ i. lt-clear (w ∷ a ∷ ws) s 1 (suc (suc i)) l (omega arith)) in
-        rw p (eq-eqb (ors a ws) 0 none)
-    go false p = other (eqb (ors a ws) 0) refl p ∙ sym p
+        let l : value (w ∷ ws) < 2 ^ (64 * 1) = ltb-true (value (w ∷ ws)) (2 ^ 64) p in
+        rw p (eq-eqb (fold bit_or 0 ws) 0 (ors-clear ws (λ i. lt-clear (w ∷ ws) s 1 (suc i) l (omega arith))))
+    go false p = other (eqb (fold bit_or 0 ws) 0) refl p ∙ sym p
 
 -- a number of one word: the word, and zeros above it
 pub one_word : (n v : ℕ) → v < 2 ^ 64 → words_of (suc n) v ≡ v ∷ replicate n 0

@@ -1,14 +1,14 @@
 -- Document 01, "Decisions": the decision in the two steps that the code takes, and the answer of a tick. The first step
 -- says what an arrival is to a record and reads no counter; the second gives the record after it. Assumes nothing.
-use Rattle.std.specs.Prelude.{ℕ, Bool, false, ◌&&◌, ◌==◌, nat_le, nat_lt, Option, Some, None}
+use Rattle.std.specs.Prelude.{ℕ, Bool, false, not, ◌&&◌, ◌==◌, nat_le, nat_lt, Option, Some, None}
 use Rattle.std.specs.Bool.{beq}
 use Rattle.std.proofs.Math.Option as maybe
 use Rattle.std.specs.Prelude.{if◌then◌else◌}
 use Rattle.record.specs.Words.{yes}
 use Rattle.record.specs.Sizes.{window_most, vector_rule}
 use Rattle.stream.specs.History.{History, is_empty, bit, within, marked, marked_first}
-use Rattle.stream.specs.Record.{Stream, anchor_fresh, linked, settled, placed, lawful, damaged}
-use Rattle.stream.specs.Decisions.{Case, first, far, again, late, next, moved, case_of, Verdict, up, duplicate, rogue, verdict_of, handed_up, state_after, out_of_order, losses, tally, with, expires, ticked}
+use Rattle.stream.specs.Record.{Counts, Stream, anchor_fresh, linked, settled, placed, lawful, damaged}
+use Rattle.stream.specs.Decisions.{Case, first, far, again, late, next, moved, case_of, Verdict, up, duplicate, rogue, verdict_of, handed_up, state_after, out_of_order, losses, counted, tally, with, expires, ticked}
 pub use Rattle.stream.specs.declared.Marks.{Marks}
 pub use Rattle.stream.specs.declared.Weighed.{Weighed}
 pub use Rattle.stream.specs.declared.Weighed.TheVariants.{HandedUp, Duplicate, Rogue}
@@ -70,6 +70,19 @@ short_after rule window m history =
     if rule == vector_rule && nat_lt m.places window && nat_le window 64 && nat_lt m.bit 64
     then marked_first window m.places m.bit history
     else history
+
+-- The counters after an arrival on the network, but for those of its verdict.
+abbrev pub arrived : Counts → (network : ℕ) → Counts
+arrived c network = record {
+  arrivals0 = counted (network == 0) c.arrivals0;
+  arrivals1 = counted (not (network == 0)) c.arrivals1;
+  passed = c.passed;
+  discarded = c.discarded;
+  rogue = c.rogue;
+  disorder = c.disorder;
+  lost = c.lost;
+  resets = c.resets;
+}
 
 -- A verdict as the first step answers it.
 abbrev pub answer : Verdict → Marks → Weighed

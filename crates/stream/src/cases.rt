@@ -11,86 +11,76 @@ use super::{Marks, Weighed, history};
 use record::Stream;
 
 // Vector, k behind the anchor. The anchor stays, so that the number itself is not looked at.
+#[tactic(auto, unfolding(crate::specs::Steps::weighed_as, crate::specs::Decisions::state_after, crate::specs::Decisions::losses, crate::specs::Decisions::out_of_order))]
 fn behind(s: Stream, k: u16) -> Weighed
     requires { k < window_most }
     ensures { (number : ℕ) → result ≡ weighed_as s number (if bit k s.state.history then again else late k) }
 {
-    let t = s.state;
-    let h = t.history;
-    if history::has_bit(h, k) {
+    if history::has_bit(s.state.history, k) {
         return Weighed::Duplicate;
     }
     Weighed::HandedUp(Marks {
-        places: 0,
         bit: k,
-        lost: 0,
         anchor: s.state.anchor,
         early: s.state.early,
         disorder: true,
+        ..Marks::default()
     })
 }
 
 // Vector, k ahead of the anchor.
+#[tactic(auto, unfolding(crate::specs::Steps::weighed_as, crate::specs::Decisions::state_after, crate::specs::Decisions::losses, crate::specs::Decisions::out_of_order))]
 fn ahead(s: Stream, number: u16, k: u16) -> Weighed
     requires { (1 ≤ k) × ((k < s.window) × (s.window ≤ window_most)) }
     ensures { result ≡ weighed_as s number (next k) }
 {
-    let t = s.state;
-    let h = t.history;
     let n = s.state.early;
     Weighed::HandedUp(Marks {
+        lost: history::lost(s.state.history, s.window, k, n),
         places: k,
-        bit: 0,
-        lost: history::lost(h, s.window, k, n),
         anchor: number,
-        early: history::fewer(n, k),
+        early: n.saturating_sub(k),
         disorder: k != 1,
+        ..Marks::default()
     })
 }
 
 // Vector. The two rogue tests come before the history is looked at, so that its bits are asked for within the window only.
+#[tactic(auto, unfolding(crate::specs::Steps::weighed_as, crate::specs::Decisions::state_after, crate::specs::Decisions::losses, crate::specs::Decisions::out_of_order, crate::specs::Decisions::case_of, crate::specs::Decisions::vector_case, record::specs::Words::yes))]
 pub fn by_vector(s: Stream, number: u16) -> Weighed
     requires { (window_least ≤ s.window) × ((s.window ≤ window_most) × (s.rule ≡ vector_rule)) }
     ensures { result ≡ weighed_as s number (case_of s number) }
 {
     if s.state.any != 0 {
         return Weighed::HandedUp(Marks {
-            places: 0,
-            bit: 0,
-            lost: 0,
             anchor: number,
             early: s.window - 1,
-            disorder: false,
+            ..Marks::default()
         });
     }
     let d = difference(number, s.state.anchor);
-    let w = s.window as i32;
-    if d >= w {
-        return Weighed::Rogue;
-    }
-    if d <= 0 - w {
+    let w = i32::from(s.window);
+    if d >= w || d <= -w {
         return Weighed::Rogue;
     }
     let k = size(d);
     if d <= 0 {
-        return behind(s, k);
+        behind(s, k)
+    } else {
+        ahead(s, number, k)
     }
-    ahead(s, number, k)
 }
 
 // Match: the history stays zero, and there is no rogue.
+#[tactic(auto, unfolding(crate::specs::Steps::weighed_as, crate::specs::Decisions::state_after, crate::specs::Decisions::losses, crate::specs::Decisions::out_of_order, crate::specs::Decisions::case_of, crate::specs::Decisions::match_case, record::specs::Words::yes))]
 pub fn by_match(s: Stream, number: u16) -> Weighed
     requires { ((s.rule == vector_rule) ≡ false) × ((s.rule == link_rule) ≡ false) }
     ensures { result ≡ weighed_as s number (case_of s number) }
 {
     if s.state.any != 0 {
         return Weighed::HandedUp(Marks {
-            places: 0,
-            bit: 0,
-            lost: 0,
             anchor: number,
-            early: 0,
-            disorder: false,
+            ..Marks::default()
         });
     }
     let d = difference(number, s.state.anchor);
@@ -98,73 +88,57 @@ pub fn by_match(s: Stream, number: u16) -> Weighed
         return Weighed::Duplicate;
     }
     Weighed::HandedUp(Marks {
-        places: 0,
-        bit: 0,
-        lost: 0,
         anchor: number,
         early: s.state.early,
         disorder: d != 1,
+        ..Marks::default()
     })
 }
 
 // A virtual link: is a number handed up after the last one? Among 1 to 255 the steps forward are counted in a ring of 255, and
 // after 0 from 0 on. Both are bytes, so that this needs no division.
+#[tactic(auto, unfolding(crate::specs::Decisions::link_up, crate::specs::Decisions::link_steps))]
 fn link_up(last: u16, number: u16) -> bool
     requires { last ≤ 255 }
     ensures { result ≡ link_up last number }
 {
-    if number == 0 {
-        return last != 0;
+    match number {
+        0 => last != 0,
+        256.. => link_up_far(last, number),
+        _ if last < number => number - last <= 127,
+        _ => last - number >= 128,
     }
-    if number > 255 {
-        return link_up_far(last, number);
-    }
-    if last < number {
-        return number - last <= 127;
-    }
-    last - number >= 128
 }
 
 // The same of a number that no frame has, as the definition counts: `weigh` takes any. (Where the number is read from a frame the
 // compiler knows that it is a byte, and leaves this out.)
+#[tactic(auto, unfolding(crate::specs::Decisions::link_up, crate::specs::Decisions::link_steps))]
 fn link_up_far(last: u16, number: u16) -> bool
     requires { (last ≤ 255) × (255 < number) }
     ensures { result ≡ link_up last number }
 {
-    if last == 0 {
-        return false;
-    }
-    let steps = (number as u32 + 255 - last as u32) % 255;
-    if steps < 1 {
-        return false;
-    }
-    steps <= 127
+    let steps = (u32::from(number) + 255 - u32::from(last)) % 255;
+    last != 0 && (1..=127).contains(&steps)
 }
 
 // A virtual link: the history stays zero, and there is no rogue and nothing out of order.
+#[tactic(auto, unfolding(crate::specs::Steps::weighed_as, crate::specs::Decisions::state_after, crate::specs::Decisions::losses, crate::specs::Decisions::out_of_order, crate::specs::Decisions::case_of, crate::specs::Decisions::link_case, record::specs::Words::yes))]
 pub fn by_link(s: Stream, number: u16) -> Weighed
     requires { (s.rule ≡ link_rule) × ((s.state.any == 0) ≡ true → s.state.anchor ≤ 255) }
     ensures { result ≡ weighed_as s number (case_of s number) }
 {
     if s.state.any != 0 {
         return Weighed::HandedUp(Marks {
-            places: 0,
-            bit: 0,
-            lost: 0,
             anchor: number,
-            early: 0,
-            disorder: false,
+            ..Marks::default()
         });
     }
     if !link_up(s.state.anchor, number) {
         return Weighed::Duplicate;
     }
     Weighed::HandedUp(Marks {
-        places: 0,
-        bit: 0,
-        lost: 0,
         anchor: number,
         early: s.state.early,
-        disorder: false,
+        ..Marks::default()
     })
 }

@@ -1,122 +1,124 @@
 // The record after a verdict: the effects of the decision (document 01, "Decisions").
-ghost use Rattle.std.specs.Prelude.{◌≡◌, Some};
+ghost use Rattle.std.specs.Prelude.{◌≡◌, ◌&&◌, ◌==◌, nat_le, nat_lt, Some};
+ghost use Rattle.record.specs.Sizes.{vector_rule};
 ghost use Rattle.stream.specs.Decisions.{counted};
-ghost use Rattle.stream.specs.Steps.{history_after, short_after, record_up, record_after, record_short};
+ghost use Rattle.stream.specs.Steps.{arrived, history_after, short_after, record_up, record_after, record_short};
 
 use super::{Marks, Weighed, history};
-use record::{State, Stream};
+use record::{Counts, State, Stream};
 
 // A counter, risen by 1 where the test holds.
 pub fn counted(test: bool, count: u64) -> u64
     ensures { result ≡ counted test count }
 {
-    if test {
-        return std::num::wrapping_add_u64(count, 1);
+    if test { count.wrapping_add(1) } else { count }
+}
+
+// The marks fit a vector record whose window has at most so many places.
+fn fits(m: Marks, rule: u8, window: u16, most: u16) -> bool
+    ensures { result ≡ (rule == vector_rule && nat_lt m.places window && nat_le window most && nat_lt m.bit most) }
+{
+    if rule != Stream::VECTOR_RULE || window <= m.places || most < window {
+        return false;
     }
-    count
+    m.bit < most
+}
+
+// The counters after an arrival on the network: its arrival counter has risen.
+fn arrived(c: Counts, network: u8) -> Counts
+    ensures { result ≡ arrived c network }
+{
+    Counts {
+        arrivals0: counted(network == 0, c.arrivals0),
+        arrivals1: counted(network != 0, c.arrivals1),
+        ..c
+    }
 }
 
 // The history after marks. That of a match record stays, and so does one that the marks do not fit.
+#[tactic(auto, unfolding(crate::specs::Steps::history_after))]
 fn history_after(h: [u64; 8], rule: u8, window: u16, m: Marks) -> [u64; 8]
     ensures { result ≡ history_after rule window m h }
 {
-    if rule != Stream::VECTOR_RULE {
-        return h;
+    if fits(m, rule, window, Stream::WINDOW_MOST) {
+        history::marked(h, window, m.places, m.bit)
+    } else {
+        h
     }
-    if window <= m.places {
-        return h;
-    }
-    if Stream::WINDOW_MOST < window {
-        return h;
-    }
-    if Stream::WINDOW_MOST <= m.bit {
-        return h;
-    }
-    history::marked(h, window, m.places, m.bit)
 }
 
 // The same for a window of at most a word: the first word alone is read and written.
+#[tactic(auto, unfolding(crate::specs::Steps::short_after))]
 fn short_after(h: [u64; 8], rule: u8, window: u16, m: Marks) -> [u64; 8]
     ensures { result ≡ short_after rule window m h }
 {
-    if rule != Stream::VECTOR_RULE {
-        return h;
+    if fits(m, rule, window, 64) {
+        history::marked_first(h, window, m.places, m.bit)
+    } else {
+        h
     }
-    if window <= m.places {
-        return h;
-    }
-    if 64 < window {
-        return h;
-    }
-    if 64 <= m.bit {
-        return h;
-    }
-    history::marked_first(h, window, m.places, m.bit)
 }
 
 // Handed up, with the history after it.
+#[tactic(auto, unfolding(crate::specs::Decisions::tally))]
 fn up_with(s: Stream, network: u8, m: Marks, history: [u64; 8]) -> Stream
     ensures { result ≡ record_up s network m history }
 {
-    let mut c = s.counts;
-    c.arrivals0 = counted(network == 0, s.counts.arrivals0);
-    c.arrivals1 = counted(network != 0, s.counts.arrivals1);
-    c.passed = std::num::wrapping_add_u64(s.counts.passed, 1);
-    c.disorder = counted(m.disorder, s.counts.disorder);
-    c.lost = std::num::wrapping_add_u64(s.counts.lost, m.lost);
-    let state = State {
-        history,
-        anchor: m.anchor,
-        remaining: s.time,
-        early: m.early,
-        any: 0,
-    };
-    let mut t = s;
-    t.state = state;
-    t.counts = c;
-    t
+    let c = s.counts;
+    Stream {
+        state: State {
+            history,
+            anchor: m.anchor,
+            remaining: s.time,
+            early: m.early,
+            any: 0,
+        },
+        counts: Counts {
+            passed: c.passed.wrapping_add(1),
+            disorder: counted(m.disorder, c.disorder),
+            lost: c.lost.wrapping_add(m.lost),
+            ..arrived(c, network)
+        },
+        ..s
+    }
 }
 
+#[tactic(auto, unfolding(crate::specs::Steps::record_after))]
 pub fn handed_up(s: Stream, network: u8, m: Marks) -> Stream
     ensures { result ≡ record_after s network (Some (Weighed.HandedUp m)) }
 {
-    let old = s.state;
-    let h = old.history;
-    let history = history_after(h, s.rule, s.window, m);
+    let history = history_after(s.state.history, s.rule, s.window, m);
     up_with(s, network, m, history)
 }
 
 // The same where the window is at most a word: of the history the first word alone is new, so that a caller who stores the
 // record stores no more of it.
+#[tactic(auto, unfolding(crate::specs::Steps::record_short))]
 pub fn handed_up_short(s: Stream, network: u8, m: Marks) -> Stream
     ensures { result ≡ record_short s network m }
 {
-    let old = s.state;
-    let h = old.history;
-    let history = short_after(h, s.rule, s.window, m);
+    let history = short_after(s.state.history, s.rule, s.window, m);
     up_with(s, network, m, history)
 }
 
+#[tactic(auto, unfolding(crate::specs::Steps::record_after, crate::specs::Decisions::tally))]
 pub fn duplicate(s: Stream, network: u8) -> Stream
     ensures { result ≡ record_after s network (Some Weighed.Duplicate) }
 {
-    let mut c = s.counts;
-    c.arrivals0 = counted(network == 0, s.counts.arrivals0);
-    c.arrivals1 = counted(network != 0, s.counts.arrivals1);
-    c.discarded = std::num::wrapping_add_u64(s.counts.discarded, 1);
-    let mut kept = s;
-    kept.counts = c;
-    kept
+    let counts = Counts {
+        discarded: s.counts.discarded.wrapping_add(1),
+        ..arrived(s.counts, network)
+    };
+    Stream { counts, ..s }
 }
 
+#[tactic(auto, unfolding(crate::specs::Steps::record_after, crate::specs::Decisions::tally))]
 pub fn rogue(s: Stream, network: u8) -> Stream
     ensures { result ≡ record_after s network (Some Weighed.Rogue) }
 {
-    let mut c = s.counts;
-    c.arrivals0 = counted(network == 0, s.counts.arrivals0);
-    c.arrivals1 = counted(network != 0, s.counts.arrivals1);
-    c.rogue = std::num::wrapping_add_u64(s.counts.rogue, 1);
-    let mut same = s;
-    same.counts = c;
-    same
+    let counts = Counts {
+        rogue: s.counts.rogue.wrapping_add(1),
+        ..arrived(s.counts, network)
+    };
+    Stream { counts, ..s }
 }

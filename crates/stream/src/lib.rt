@@ -21,7 +21,7 @@ const FRESH_ANCHOR: u16 = 65535;
 
 // What an arrival that is handed up leaves: how many more are lost, how many places the history moves up and which bit is then
 // set, the anchor, the places left for older numbers, and whether it is out of order.
-#[derive(Clone, Copy)]
+#[derive(Clone, Copy, Debug, PartialEq, Eq, Default)]
 pub struct Marks {
     pub lost: u64,
     pub places: u16,
@@ -32,7 +32,7 @@ pub struct Marks {
 }
 
 // What an arrival is to a lawful record.
-#[derive(Clone, Copy)]
+#[derive(Clone, Copy, Debug, PartialEq, Eq)]
 pub enum Weighed {
     HandedUp(Marks),
     Duplicate,
@@ -50,13 +50,10 @@ pub struct Ticked {
 fn fresh_state() -> State
     ensures { result ≡ fresh }
 {
-    let history = history::empty();
     State {
-        history,
         anchor: FRESH_ANCHOR,
-        remaining: 0,
-        early: 0,
         any: 1,
+        ..State::default()
     }
 }
 
@@ -64,17 +61,6 @@ fn fresh_state() -> State
 pub fn opened(dest: u64, vlan: u16, rule: u8, window: u16, time: u16) -> Stream
     ensures { result ≡ opened dest vlan rule window time }
 {
-    let state = fresh_state();
-    let counts = Counts {
-        arrivals0: 0,
-        arrivals1: 0,
-        passed: 0,
-        discarded: 0,
-        rogue: 0,
-        disorder: 0,
-        lost: 0,
-        resets: 0,
-    };
     Stream {
         dest,
         vlan,
@@ -82,8 +68,8 @@ pub fn opened(dest: u64, vlan: u16, rule: u8, window: u16, time: u16) -> Stream
         time,
         rule,
         used: 1,
-        state,
-        counts,
+        state: fresh_state(),
+        counts: Counts::default(),
     }
 }
 
@@ -91,149 +77,114 @@ pub fn opened(dest: u64, vlan: u16, rule: u8, window: u16, time: u16) -> Stream
 pub fn closed(s: Stream) -> Stream
     ensures { result ≡ closed s }
 {
-    let mut t = s;
-    t.used = 0;
-    t
+    Stream { used: 0, ..s }
 }
 
 // A rule, and with rule 3 no other VLAN id than 0.
 fn is_rule(rule: u8, vlan: u16) -> bool
     ensures { result ≡ (rule == vector_rule || rule == match_rule || (rule == link_rule && vlan == 0)) }
 {
-    if rule == Stream::VECTOR_RULE {
-        return true;
+    match rule {
+        Stream::VECTOR_RULE | Stream::MATCH_RULE => true,
+        Stream::LINK_RULE => vlan == 0,
+        _ => false,
     }
-    if rule == Stream::MATCH_RULE {
-        return true;
-    }
-    if rule != Stream::LINK_RULE {
-        return false;
-    }
-    vlan == 0
 }
 
 // The anchor of a virtual link is a byte.
+#[tactic(auto, unfolding(crate::specs::Record::linked))]
 fn is_linked(rule: u8, anchor: u16) -> bool
     ensures { result ≡ linked rule anchor }
 {
-    if rule != Stream::LINK_RULE {
-        return true;
-    }
-    anchor <= 255
+    rule != Stream::LINK_RULE || anchor <= 255
 }
 
 // The settings are within the sizes. (Every u16 is at most the greatest reset time.)
+#[tactic(auto, unfolding(crate::specs::Record::settled))]
 pub fn settled(s: Stream) -> bool
     ensures { result ≡ settled s }
 {
-    if !is_rule(s.rule, s.vlan) {
-        return false;
-    }
-    if s.window < Stream::WINDOW_LEAST {
-        return false;
-    }
-    if Stream::WINDOW_MOST < s.window {
-        return false;
-    }
-    if s.time < Stream::TIME_LEAST {
+    if !is_rule(s.rule, s.vlan)
+        || s.window < Stream::WINDOW_LEAST
+        || Stream::WINDOW_MOST < s.window
+        || s.time < Stream::TIME_LEAST
+    {
         return false;
     }
     s.vlan <= Stream::VLAN_MOST
 }
 
 // The places left for numbers older than the first: the first stands next to them.
+#[tactic(auto, unfolding(crate::specs::Record::placed))]
 fn is_placed(window: u16, n: u16, h: [u64; 8]) -> bool
     requires { (window_least ≤ window) × (window ≤ window_most) }
     ensures { result ≡ placed window n h }
 {
-    if n == 0 {
-        return true;
-    }
-    if window <= n {
-        return false;
-    }
-    history::has_bit(h, window - 1 - n)
+    n == 0 || n < window && history::has_bit(h, window - 1 - n)
 }
 
 // The half of `lawful` that asks for no history: in use, the settings and the ticks; with take-any also the anchor.
+#[tactic(auto, unfolding(crate::specs::Steps::plain, record::specs::Words::yes))]
 fn is_plain(s: Stream) -> bool
     ensures { result ≡ plain s }
 {
-    if s.used == 0 {
-        return false;
-    }
-    if !settled(s) {
-        return false;
-    }
-    if s.time < s.state.remaining {
+    if s.used == 0 || !settled(s) || s.time < s.state.remaining {
         return false;
     }
     if s.state.any != 0 {
-        if s.state.remaining != 0 {
-            return false;
-        }
-        return s.state.anchor == FRESH_ANCHOR;
+        return s.state.remaining == 0 && s.state.anchor == FRESH_ANCHOR;
     }
-    if s.state.remaining == 0 {
-        return false;
-    }
-    is_linked(s.rule, s.state.anchor)
+    s.state.remaining != 0 && is_linked(s.rule, s.state.anchor)
 }
 
 // The other half: the history, and the places for older numbers, which are asked for last, since most often there are none.
+#[tactic(auto, unfolding(crate::specs::Steps::right, record::specs::Words::yes))]
 fn is_right(rule: u8, window: u16, any: u16, n: u16, h: [u64; 8]) -> bool
     requires { (window_least ≤ window) × (window ≤ window_most) }
     ensures { result ≡ right rule window any n h }
 {
     if any != 0 {
-        if n != 0 {
-            return false;
-        }
-        return history::is_empty(h);
+        return n == 0 && history::is_empty(h);
     }
     if rule == Stream::VECTOR_RULE {
-        if !history::has_bit(h, 0) {
-            return false;
-        }
-        if !history::is_within(h, window) {
+        if !history::has_bit(h, 0) || !history::is_within(h, window) {
             return false;
         }
         return is_placed(window, n, h);
     }
-    if n != 0 {
-        return false;
-    }
-    history::is_empty(h)
+    n == 0 && history::is_empty(h)
 }
 
 // In use, its settings within the sizes, and its state as document 01 shapes it, with order 4. Counters may hold anything.
 // In two halves, of which the second gets fields alone: so no record is copied around a call.
+#[tactic(auto, using(crate::proofs::Law::halves))]
 pub fn lawful(s: Stream) -> bool
     ensures { result ≡ lawful s }
 {
-    if !is_plain(s) {
-        return false;
-    }
-    let t = s.state;
-    let h = t.history;
-    is_right(s.rule, s.window, t.any, t.early, h)
+    is_plain(s)
+        && is_right(
+            s.rule,
+            s.window,
+            s.state.any,
+            s.state.early,
+            s.state.history,
+        )
 }
 
 // The first step of the decision: what an arrival is to the record. One that is not lawful has no verdict. It makes no record and
 // reads no counter.
+#[tactic(auto, unfolding(crate::specs::Steps::weighed))]
 pub fn weigh(s: Stream, number: u16) -> Option<Weighed>
     ensures { result ≡ weighed s number }
 {
     if !lawful(s) {
         return None;
     }
-    if s.rule == Stream::VECTOR_RULE {
-        return Some(cases::by_vector(s, number));
-    }
-    if s.rule == Stream::LINK_RULE {
-        return Some(cases::by_link(s, number));
-    }
-    Some(cases::by_match(s, number))
+    Some(match s.rule {
+        Stream::VECTOR_RULE => cases::by_vector(s, number),
+        Stream::LINK_RULE => cases::by_link(s, number),
+        _ => cases::by_match(s, number),
+    })
 }
 
 // The window is at most a word, so that the second step may be `handed_up_short`.
@@ -244,6 +195,7 @@ pub fn is_narrow(s: Stream) -> bool
 }
 
 // The second step of the decision: the record after what the first step found.
+#[tactic(auto, unfolding(crate::specs::Steps::record_after))]
 pub fn next(s: Stream, network: u8, w: Option<Weighed>) -> Stream
     ensures { result ≡ record_after s network w }
 {
@@ -256,59 +208,46 @@ pub fn next(s: Stream, network: u8, w: Option<Weighed>) -> Stream
 }
 
 // Fresh state, resets rises; all else stays.
+#[tactic(auto, unfolding(crate::specs::Decisions::reset))]
 pub fn reset(s: Stream) -> Stream
     ensures { result ≡ reset s }
 {
-    let mut c = s.counts;
-    c.resets = std::num::wrapping_add_u64(s.counts.resets, 1);
-    let state = fresh_state();
-    let mut t = s;
-    t.state = state;
-    t.counts = c;
-    t
-}
-
-// One tick of a lawful record.
-fn older(s: Stream) -> Ticked
-    requires { lawful s ≡ true }
-    ensures { result ≡ tick_of s }
-{
-    let left = s.state.remaining;
-    if left == 0 {
-        return Ticked {
-            stream: s,
-            reset: false,
-            damaged: false,
-        };
-    }
-    if left == 1 {
-        let stream = reset(s);
-        return Ticked {
-            stream,
-            reset: true,
-            damaged: false,
-        };
-    }
-    let less = left - 1;
-    let mut stream = s;
-    stream.state.remaining = less;
-    Ticked {
-        stream,
-        reset: false,
-        damaged: false,
+    Stream {
+        state: fresh_state(),
+        counts: Counts {
+            resets: s.counts.resets.wrapping_add(1),
+            ..s.counts
+        },
+        ..s
     }
 }
 
 // One tick. A damaged record and a free one stay as they are.
+#[tactic(auto, unfolding(crate::specs::Steps::tick_of, crate::specs::Decisions::ticked, crate::specs::Decisions::expires, crate::specs::Record::damaged, record::specs::Words::yes))]
 pub fn tick(s: Stream) -> Ticked
     ensures { result ≡ tick_of s }
 {
-    if lawful(s) {
-        return older(s);
+    if !lawful(s) {
+        return Ticked {
+            stream: s,
+            reset: false,
+            damaged: s.used != 0,
+        };
     }
+    if s.state.remaining == 1 {
+        return Ticked {
+            stream: reset(s),
+            reset: true,
+            damaged: false,
+        };
+    }
+    let state = State {
+        remaining: s.state.remaining.saturating_sub(1),
+        ..s.state
+    };
     Ticked {
-        stream: s,
+        stream: Stream { state, ..s },
         reset: false,
-        damaged: s.used != 0,
+        damaged: false,
     }
 }

@@ -12,12 +12,9 @@ pub fn timing_row(s: Stream, number: u16, step: u16, network: u8, times: u64) ->
 {
     let mut t = s;
     let mut n = number;
-    let mut left = times;
-    while left > 0 {
-        let w = stream::weigh(t, n);
-        t = stream::next(t, network, w);
-        n = std::num::wrapping_add_u16(n, step);
-        left -= 1;
+    for _ in 0..times {
+        t = stream::next(t, network, stream::weigh(t, n));
+        n = n.wrapping_add(step);
     }
     t
 }

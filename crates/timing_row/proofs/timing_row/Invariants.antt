@@ -1,10 +1,7 @@
 -- The decisions that are left, made on the record as it is now, end where all of them end that are made on the first one.
-use Rattle.std.proofs.Common.{◌≡◌}
+use Rattle.std.proofs.Common.{◌≡◌, ◌-◌}
 use Rattle.timing_row.specs.Row.{in_row}
 use Rattle.timing_row.proofs.timing_row.Given as goal
 
-abbrev pub invariant-loop-left : goal.invariant-loop-left
-invariant-loop-left l = in_row l.left l.t l.n l.step l.network ≡ in_row l.initial.left l.initial.t l.initial.n l.step l.network
-
-abbrev pub decreases-loop-left : goal.decreases-loop-left
-decreases-loop-left l = l.left
+abbrev pub invariant-loop : goal.invariant-loop
+invariant-loop l = in_row (l.times - l.counter) l.t l.n l.step l.network ≡ in_row l.times l.initial.t l.initial.n l.step l.network

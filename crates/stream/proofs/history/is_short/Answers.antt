@@ -8,4 +8,4 @@ pub returns : goal.returns
 unfolding within
 returns c =
     let a = c.args in
-    short a.h (λ i. let f : Fits w64 (get_or a.h i 0) = search rules in f.fits) (search rules)
+    rw (c.any_of.ensures) (short a.h (λ i. let f : Fits w64 (get_or a.h i 0) = search rules in f.fits) (search rules))

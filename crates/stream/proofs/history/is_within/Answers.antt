@@ -13,9 +13,9 @@ returns-then-not-is_short c =
     let less : a.w ≤ 64 = omega arith in
     sym (le-ltb (value a.h) (2 ^ a.w) (le_trans (pow_mono less) (ltb-false (value a.h) (2 ^ 64) b)))
 
-pub returns-then-w-le-WORD : goal.returns-then-w-le-WORD
+pub returns : goal.returns
 unfolding within
-returns-then-w-le-WORD c =
+returns c =
     let a = c.args in
     let b : within 64 a.h ≡ true = cc in
     let place : 64 * 0 + (a.w - 1) ≡ a.w - 1 = omega arith in

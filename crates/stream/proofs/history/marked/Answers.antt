@@ -15,4 +15,4 @@ pub returns : goal.returns
 unfolding marked
 returns c =
     let a = c.args in
-    c.set_bit-2.ensures ∙ ap (set_bit a.k) (c.moved-up.ensures ∙ sym (pushes-at-once a.w a.d a.h (omega arith) (omega arith)))
+    c.set_bit-2.ensures ∙ ap (set_bit a.k) (c.moved.ensures ∙ sym (pushes-at-once a.w a.d a.h (omega arith) (omega arith)))

@@ -1,11 +1,10 @@
 -- `stream::history::marked_first` meets its contract. Assumes nothing.
-use Rattle.std.proofs.Common.{ℕ, ◌-◌, ◌*◌, ◌/◌, ◌%◌, ◌^◌, ◌<◌, ◌≤◌, eqb, bit_or, get_or, if◌then◌else◌, ◌∙◌, ap₂, lt_of_lt_of_le, mod-lt, arith, pow_pos, pow_mono, w64, Fits, rules, ne_eqb}
+use Rattle.std.proofs.Common.{ℕ, ◌*◌, ◌%◌, ◌^◌, ◌<◌, ◌≤◌, bit_or, get_or, set, ap, ◌∙◌, ap₂, lt_of_lt_of_le, mod-lt, arith, pow_pos, pow_mono, w64, Fits, rules}
 use lib.Bits.{or_lt}
 use lib.Pow.{pow-lt}
 use Rattle.stream.specs.History.{value, marked_first}
 use Rattle.stream.proofs.Digits.{one_shl}
 use Rattle.stream.proofs.Words.{Small, set_first}
-use Rattle.stream.proofs.Eight.{eight-set}
 use Rattle.stream.proofs.Moves.{top_shift}
 use Rattle.stream.proofs.AnyWords.{any-words, first_alone}
 use Rattle.stream.proofs.history.marked_first.Goals as goal
@@ -23,6 +22,5 @@ returns c =
     let moved = top_shift (get_or h 0 0) a.w a.d less ∙ first_alone h (any-words 8 h (record { many = search rules; each = s })) (omega arith) a.w a.d less (omega arith) in
     let small : m < 2 ^ 64 = lt_of_lt_of_le (mod-lt (value h * 2 ^ a.d) (pow_pos a.w)) (pow_mono less) in
     let one : 2 ^ a.k < 2 ^ 64 = pow-lt bit in
-    eight-set h 0 v (λ i. if eqb i 0 then bit_or ((get_or h 0 0 * 2 ^ a.d) % 2 ^ 64 * 2 ^ (64 - a.w) % 2 ^ 64 / 2 ^ (64 - a.w)) ((1 * 2 ^ a.k) % 2 ^ 64) else get_or h i 0) (search rules) (omega arith)
-    (ap₂ bit_or moved (one_shl a.k bit)) (λ i n. rw (ne_eqb i 0 n))
+    ap (set h 0) (ap₂ bit_or moved (one_shl a.k bit))
     ∙ set_first h s 7 v (search rules) (or_lt 64 m (2 ^ a.k) small one)

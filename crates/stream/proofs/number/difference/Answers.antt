@@ -1,10 +1,12 @@
 -- `stream::number::difference` meets its contract. Assumes nothing.
-use Rattle.std.proofs.Common.{◌≡◌, ◌∙◌, w32, to_z, of_z, rules}
-use Rattle.stream.proofs.Reading.{wraps}
+use Rattle.std.proofs.Common.{◌≡◌, ◌+◌, ◌-◌, ◌%◌, ℕ, ap, ◌∙◌, arith, w32, to_z, of_z, rules}
+use Rattle.stream.specs.Decisions.{as_int, signed, difference}
 use Rattle.stream.proofs.number.difference.Goals as goal
 
 pub returns : goal.returns
+unfolding difference
 returns c =
+    let a = c.args in
     let back : to_z w32 (of_z w32 c.signed.result) ≡ c.signed.result = search rules in
-    back ∙ c.signed.ensures
-    ∙ wraps c.wrapping_sub_u16.result c.args.number c.args.anchor (search rules) (search rules) c.wrapping_sub_u16.ensures.value
+    let same : (a.number + (65536 - a.anchor)) % 65536 ≡ (a.number + 65536 - a.anchor) % 65536 = omega arith in
+    back ∙ c.signed.ensures ∙ ap (λ (w : ℕ). as_int (signed w)) same
