@@ -211,8 +211,8 @@ fn arrive_by(
         return Err(Refusal::Unknown);
     };
     let room = calls::fits(frame, out);
-    let weighed = receiver::decide_in(t, slot, network, tag.number, room)?;
-    Ok(calls::finish(weighed, slot, tag, frame, out))
+    let judged = receiver::decide_in(t, slot, network, tag.number, room);
+    calls::finish(judged, slot, tag, frame, out)
 }
 
 // All frames, one after the other, until one is refused with 8: how many came before. The agreement is tested once, before the
@@ -258,16 +258,14 @@ pub fn batch(
 {
     let mark = ArrivalAnswer::default();
     let mut answers = [mark; 32];
-    match fill(t, index, network, count, frames, out, &mut answers) {
-        Ok(frames) => Batched {
-            answers,
-            frames,
-            refusal: 0,
-        },
-        Err(refusal) => Batched {
-            answers,
-            frames: 0,
-            refusal: refusal.into(),
-        },
+    let filled = fill(t, index, network, count, frames, out, &mut answers);
+    let (frames, refusal) = match filled {
+        Ok(frames) => (frames, 0),
+        Err(refusal) => (0, refusal.into()),
+    };
+    Batched {
+        answers,
+        frames,
+        refusal,
     }
 }

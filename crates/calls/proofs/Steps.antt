@@ -95,9 +95,9 @@ module _ (slots network : ℕ) (f : List ℕ) where
 
 module _ (s : Stream) (number : ℕ) (room : Bool) where
   -- a record that is not lawful has no verdict, and a lawful one has one
-  pub judge-none : weighed s number ≡ None → Err Damaged ≡ judged s number room
+  pub granted-none : weighed s number ≡ None → Err Damaged ≡ judged s number room
   unfolding judged weighed
-  judge-none e = go (lawful s) refl e
+  granted-none e = go (lawful s) refl e
     where
       go : (l : Bool) → lawful s ≡ l → (if l then Some (weighed_as s number (decisions.case_of s number)) else None) ≡ None
           → Err Damaged ≡ judged s number room
@@ -113,21 +113,21 @@ module _ (s : Stream) (number : ℕ) (room : Bool) where
         go true l e = l
         go false l e = cc
 
-    pub judge-small : room ≡ false → Err Room ≡ judged s number room
+    pub granted-small : room ≡ false → Err Room ≡ judged s number room
     unfolding judged
-    judge-small r = rw (has-verdict, r)
+    granted-small r = rw (has-verdict, r)
 
-    pub judge-verdict : room ≡ true → Ok w ≡ judged s number room
+    pub granted-verdict : room ≡ true → Ok w ≡ judged s number room
     unfolding judged
-    judge-verdict r = rw (has-verdict, r, e)
+    granted-verdict r = rw (has-verdict, r, e)
 
     -- the same by either
-    pub judge-some : (if room then Ok w else Err Room) ≡ judged s number room
-    judge-some = go room refl
+    pub judge-granted : (if room then Ok w else Err Room) ≡ judged s number room
+    judge-granted = go room refl
       where
         go : (b : Bool) → room ≡ b → (if room then Ok w else Err Room) ≡ judged s number room
-        go true r = ap (λ (b : Bool). if b then Ok w else Err Room) r ∙ judge-verdict r
-        go false r = ap (λ (b : Bool). if b then Ok w else Err Room) r ∙ judge-small r
+        go true r = ap (λ (b : Bool). if b then Ok w else Err Room) r ∙ granted-verdict r
+        go false r = ap (λ (b : Bool). if b then Ok w else Err Room) r ∙ granted-small r
 
 -- ---- place
 

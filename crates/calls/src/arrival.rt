@@ -12,7 +12,8 @@ use record::Stream;
 use refusal::Refusal;
 use stream::Weighed;
 
-// Arrival, of a virtual link too: 1 and 2.
+// Arrival, of a virtual link too: 1 and 2. (A network is a number and no enum: 2 refuses every other one, which may come from C and
+// from an event file.)
 pub fn begin(slots: usize, network: u8) -> Result<(), Refusal>
     ensures { result ≡ begun slots network }
 {
@@ -69,19 +70,26 @@ fn granted(weighed: Weighed, room: bool) -> Result<Weighed, Refusal>
 }
 
 // The answer; and where the frame is handed up, the frame without its tag at the start of the output.
-pub fn finish(weighed: Weighed, slot: usize, tag: Tag, frame: &[u8], out: &mut [u8]) -> Arrived
-    ensures result_value { said_arrival (Ok result) ≡ finished (Ok weighed) slot tag.number tag.header.rank (length frame.now - 6) }
-    ensures out_after { out.new ≡ bytes_of (Ok weighed) (written_without frame.now tag.header.at out.old) out.old }
+pub fn finish(
+    judged: Result<Weighed, Refusal>,
+    slot: usize,
+    tag: Tag,
+    frame: &[u8],
+    out: &mut [u8],
+) -> Result<Arrived, Refusal>
+    ensures result_value { said_arrival result ≡ finished judged slot tag.number tag.header.rank (length frame.now - 6) }
+    ensures out_after { out.new ≡ bytes_of judged (written_without frame.now tag.header.at out.old) out.old }
 {
+    let weighed = judged?;
     if let Weighed::HandedUp(_) = weighed {
         frame::write_without(frame, tag.header.at, out);
     }
-    Arrived {
+    Ok(Arrived {
         slot,
         number: tag.number,
         rank: tag.header.rank,
         verdict: told(weighed, frame.len().saturating_sub(6)),
-    }
+    })
 }
 
 // The verdict that is answered, of a frame of which so many bytes are handed up.

@@ -50,7 +50,8 @@ pub struct ArrivalAnswer {
     pub rank: Rank,
 }
 
-// The key that is asked for: a destination and a VLAN id, among the virtual links or among the rest (document 02, order 10).
+// The key that is asked for: a destination and a VLAN id, among the virtual links or among the rest (document 02, order 10). (A flag
+// says which, as in the definition `hears`.)
 #[derive(Clone, Copy, Debug, PartialEq, Eq)]
 pub struct Key {
     pub dest: u64,
@@ -95,7 +96,7 @@ pub struct Sums {
 }
 
 // A record after its tick, and what was counted so far.
-#[derive(Clone, Copy)]
+#[derive(Clone, Copy, Debug, PartialEq, Eq)]
 pub struct Visited {
     pub stream: Stream,
     pub sums: Sums,

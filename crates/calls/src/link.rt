@@ -1,6 +1,6 @@
 // An arrival of a virtual link: what it asks of the table, and how it ends (document 02, order 10). What it is to its record is
 // decided as every arrival is, by `judge`.
-ghost use Rattle.std.specs.Prelude.{◌≡◌, true, ◌-◌, Ok, length};
+ghost use Rattle.std.specs.Prelude.{◌≡◌, true, ◌-◌, length};
 ghost use Rattle.frame.specs.Frame.{unranked};
 ghost use Rattle.frame.specs.Link.{said_link, written_shorter};
 ghost use Rattle.calls.specs.Said.{said_arrival};
@@ -38,7 +38,7 @@ pub fn ask_link(slots: usize, network: u8, frame: &[u8]) -> Result<LinkTag, Refu
     frame::read_link(frame)
 }
 
-// Does the output hold the frame without its last byte?
+// Does the output hold the frame without its last byte? (A line, as `fits`: the number is what `has_room` is asked for.)
 pub fn fits_link(frame: &[u8], out: &[u8]) -> bool
     ensures { result ≡ has_room (length frame.now - 1) out.now }
 {
@@ -46,24 +46,26 @@ pub fn fits_link(frame: &[u8], out: &[u8]) -> bool
 }
 
 // The answer, with no priority, since no VLAN tag is read; and where the frame is handed up, the frame without its last byte at
-// the start of the output.
+// the start of the output. (What it has in common with `finish` is `told`: the writer as a closure would bring a clause on what it
+// leaves of the output, which is longer.)
 pub fn finish_link(
-    weighed: Weighed,
+    judged: Result<Weighed, Refusal>,
     slot: usize,
     number: u16,
     frame: &[u8],
     out: &mut [u8],
-) -> Arrived
-    ensures result_value { said_arrival (Ok result) ≡ finished (Ok weighed) slot number unranked (length frame.now - 1) }
-    ensures out_after { out.new ≡ bytes_of (Ok weighed) (written_shorter frame.now out.old) out.old }
+) -> Result<Arrived, Refusal>
+    ensures result_value { said_arrival result ≡ finished judged slot number unranked (length frame.now - 1) }
+    ensures out_after { out.new ≡ bytes_of judged (written_shorter frame.now out.old) out.old }
 {
+    let weighed = judged?;
     if let Weighed::HandedUp(_) = weighed {
         frame::write_shorter(frame, out);
     }
-    Arrived {
+    Ok(Arrived {
         slot,
         number,
         rank: Rank::default(),
         verdict: told(weighed, frame.len().saturating_sub(1)),
-    }
+    })
 }

@@ -37,7 +37,8 @@ pub fn close(slots: usize, slot: usize, s: Stream) -> Result<Stream, Refusal>
     Ok(stream)
 }
 
-// Reset: 12, 7, else the record with fresh state, resets risen.
+// Reset: 12, 7, else the record with fresh state, resets risen. (`close_change` and `reset_change` of specs/Steps.antt say the two,
+// each by value: the table's length, the slot and its record.)
 pub fn reset(slots: usize, slot: usize, s: Stream) -> Result<Stream, Refusal>
     ensures { result ≡ reset_change slots slot s }
 {

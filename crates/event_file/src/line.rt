@@ -13,8 +13,8 @@ use crate::writer::Writer;
 use calls::{Arrived, Sums, Verdict};
 use refusal::Refusal;
 
-// The answer of the call that a record asked for.
-#[derive(Clone, Copy)]
+// The answer of the call that a record asked for. (An enum that holds what each call answers: `letter` and `write_reply` ask it.)
+#[derive(Clone, Copy, Debug, PartialEq, Eq)]
 pub enum Reply {
     Open(Result<usize, Refusal>),
     Close(Result<(), Refusal>),

@@ -3,7 +3,8 @@ ghost use Rattle.std.specs.Prelude.{◌≡◌, ◌+◌, ◌≤◌, ◌<◌, leng
 ghost use Rattle.frame.specs.Bytes.{word};
 ghost use Rattle.event_file.specs.Records.{read_at, event_of, destination_of};
 
-// Where the body of a whole record is: it starts at the first place and ends before the second, where the next record is.
+// Where the body of a whole record is: it starts at the first place and ends before the second, where the next record is. (Places and
+// no slice: `read_at` counts from the buffer's start, and so does the run.)
 #[derive(Clone, Copy, Debug, PartialEq, Eq)]
 pub struct Body {
     pub start: usize,
@@ -63,7 +64,7 @@ pub fn next(s: &[u8], at: usize) -> Option<Body>
     })
 }
 
-// The two bytes at a place, high byte first.
+// The two bytes at a place, high byte first. (`frame` has it too: a function that asks for something is not public.)
 fn word_at(s: &[u8], at: usize) -> u16
     requires { at + 2 ≤ length s.now }
     ensures { result ≡ word s.now at }

@@ -12,7 +12,8 @@ use event_file::reader::{Body, Event, Settings};
 use record::Stream;
 use refusal::Refusal;
 
-// Where a run is: the next record's number and its place in the input, and how many bytes of lines wait.
+// Where a run is: the next record's number and its place in the input, and how many bytes of lines wait. (Places and no slices: both
+// buffers are lent anew for each turn, and `Drained` counts from their starts.)
 #[derive(Clone, Copy, Debug, PartialEq, Eq)]
 pub struct Place {
     pub number: u64,
@@ -109,7 +110,8 @@ pub struct Round {
     pub place: Place,
 }
 
-// `drain` with a table of 8 by value, as the run above keeps it: it is lent once for a whole buffer.
+// `drain` with a table of 8 by value, as the run above keeps it: it is lent once for a whole buffer. (Place, input, lines and output
+// one by one, as `Drains` takes them.)
 pub fn drain8(
     mut table: [Stream; 8],
     p: Place,

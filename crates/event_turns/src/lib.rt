@@ -116,7 +116,8 @@ fn fill<R: Read>(reader: &mut R, from: i32, input: &mut [u8; INPUT], left: usize
 
 // Where a run is between two turns: the table, the next record's number, and the part of the input buffer, from a place up
 // to another, that is still to be answered. The functions ask that the two places are in order, and the type does not hold it:
-// `start_of` and `RunsPrint` of specs/Turns.antt speak of a run that starts at 1, up to whatever place.
+// `start_of` and `RunsPrint` of specs/Turns.antt speak of a run that starts at 1, up to whatever place. (Places and no slice: a turn
+// reads behind them into the same buffer.)
 #[derive(Clone, Copy)]
 struct Held {
     table: [Stream; 8],

@@ -22,12 +22,13 @@ pub struct Header {
     pub vlan: u16,
     // The place of the type field: 12, or 16 behind a VLAN tag.
     pub at: usize,
-    // Whether F1C1 stands there.
+    // Whether F1C1 stands there. (A flag, and no Option beside it: the place counts in both cases, as `head_of` has it.)
     pub tagged: bool,
     pub rank: Rank,
 }
 
-// The VLAN tag's three priority bits, 0 to 7, and whether such a tag is there: 1, or 0 and priority 0 (order 11).
+// The VLAN tag's three priority bits, 0 to 7, and whether such a tag is there: 1, or 0 and priority 0 (order 11). (A number and no
+// bool: it goes to C within an arrival's answer.)
 #[repr(C)]
 #[derive(Clone, Copy, Debug, Default, PartialEq, Eq)]
 pub struct Rank {
@@ -49,7 +50,8 @@ pub struct LinkTag {
     pub number: u16,
 }
 
-// A tag taken out: its number, and the length of the frame without it.
+// A tag taken out: its number, and the length of the frame without it. (The bytes stand in the caller's buffer, whose rest keeps its
+// values: so the length is told, and no slice is given back.)
 #[derive(Clone, Copy, Debug, PartialEq, Eq)]
 pub struct Bare {
     pub number: u16,
@@ -148,7 +150,8 @@ pub fn read_tag(frame: &[u8]) -> Result<Tag, Refusal>
 }
 
 // Copies src to the start of dst, through a room of its own: so the compiler knows that src and dst do not overlap, leaves the
-// room out and calls memmove once.
+// room out and calls memmove once. (Without the room `nippitsun_take_tag` has 307 instructions in place of 80. The bound of src
+// stands in three private functions: a type for it would be made at each test, for a copy.)
 #[tactic(auto, unfolding(crate::specs::Bytes::overlay))]
 fn copy(src: &[u8], dst: &mut [u8])
     requires src_len_bound { length src.now ≤ frame_most }
@@ -212,7 +215,9 @@ fn cut_at(frame: &[u8], at: usize, out: &mut [u8])
     copy(&frame[at + 6..], &mut out[at..]);
 }
 
-// Writes a frame with a tag put in at a place, 12 or 16, to the start of out, in the same way.
+// Writes a frame with a tag put in at a place, 12 or 16, to the start of out, in the same way. (Not one function with the other: what
+// is left out and what is put in have bounds of their own, as `written_without` and `written_with` say. The parameters are as the
+// pages name them.)
 pub fn write_with(frame: &[u8], at: usize, number: u16, out: &mut [u8])
     ensures { out.new ≡ written_with frame.now at number out.old }
 {
@@ -269,7 +274,8 @@ pub fn take_tag(frame: &[u8], out: &mut [u8]) -> Result<Bare, Refusal>
     })
 }
 
-// Where a tag is put into a frame: refusals 3, 4, 13 and 14, or the place of its type field.
+// Where a tag is put into a frame: refusals 3, 4, 13 and 14, or the place of its type field. (It begins as `read_tag` does: document
+// 01 names this form, and the greatest length and the test of the tag are others.)
 pub fn place_of(frame: &[u8]) -> Result<usize, Refusal>
     ensures { said_place result ≡ place_of frame.now }
 {

@@ -7,7 +7,8 @@ ghost use Rattle.index.specs.Index.{home, places};
 
 use calls::Key;
 
-// How many places an index has. specs/Index.antt has it as places.
+// How many places an index has. specs/Index.antt has it as places. (An index is bytes beside the table, and no map: the caller lends
+// both, and there is no heap.)
 pub const PLACES: usize = 128;
 
 // The place of a key. (No sum passes 2^64: each of the two products is below 2^63. The second takes the destination from a bit on that

@@ -18,9 +18,10 @@ use record::Stream;
 use refusal::Refusal;
 use sender::{Sender, Sent};
 
-// The answer of a tag call. Where it is refused, refusal is the number and the rest is 0; otherwise refusal is 0.
+// The answer of a tag call. Where it is refused, refusal is the number and the rest is 0; otherwise refusal is 0. (Plain fields, and a
+// number for the refusal: it goes to C, as each answer here.)
 #[repr(C)]
-#[derive(Clone, Copy)]
+#[derive(Clone, Copy, Debug, PartialEq, Eq)]
 pub struct TagAnswer {
     pub length: usize,
     pub number: u16,
@@ -54,7 +55,7 @@ pub fn nippitsun_take_tag(frame: &[u8], out: &mut [u8]) -> TagAnswer
     frame::take_tag(frame, out).into()
 }
 
-// Write a tag.
+// Write a tag. (No `From`: the number is the caller's.)
 pub fn nippitsun_write_tag(frame: &[u8], number: u16, out: &mut [u8]) -> TagAnswer
     ensures value { result ≡ tell_written number (write_tag frame.now number out.old).said }
     ensures out_after { out.new ≡ (write_tag frame.now number out.old).bytes }
@@ -115,7 +116,7 @@ pub fn nippitsun_reset_sender(sender: &mut u16)
 
 // The answer of an open. Where it is refused, refusal is the number and slot is 0; otherwise refusal is 0.
 #[repr(C)]
-#[derive(Clone, Copy)]
+#[derive(Clone, Copy, Debug, PartialEq, Eq)]
 pub struct SlotAnswer {
     pub slot: usize,
     pub refusal: u8,

@@ -8,9 +8,10 @@ ghost use Rattle.port_prp.specs.Lines.{line_of, tell_turned};
 use prp::{Kind, Turned};
 use refusal::Refusal;
 
-// The answer of a turn. Where it is refused, refusal is the number and the rest is 0; otherwise refusal is 0.
+// The answer of a turn. Where it is refused, refusal is the number and the rest is 0; otherwise refusal is 0. (Plain fields, since it
+// goes to C.)
 #[repr(C)]
-#[derive(Clone, Copy)]
+#[derive(Clone, Copy, Debug, PartialEq, Eq)]
 pub struct PrpAnswer {
     pub length: usize,
     pub number: u16,
@@ -45,7 +46,7 @@ impl From<Result<Turned, Refusal>> for PrpAnswer {
     }
 }
 
-// The line's setting: every byte is one of the two kinds.
+// The line's setting: every byte is one of the two kinds. (No `From`: neither type is this crate's. The setting comes from C.)
 #[tactic(auto, unfolding(crate::specs::Lines::line_of))]
 fn kind_of(setting: u8) -> Kind
     ensures { trailer_of result ≡ line_of setting }

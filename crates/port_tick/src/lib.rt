@@ -12,9 +12,10 @@ use calls::Sums;
 use record::Stream;
 use refusal::Refusal;
 
-// The answer of a tick. Where it is refused, refusal is the number and the rest is 0; otherwise refusal is 0.
+// The answer of a tick. Where it is refused, refusal is the number and the rest is 0; otherwise refusal is 0. (Plain fields, since it
+// goes to C.)
 #[repr(C)]
-#[derive(Clone, Copy)]
+#[derive(Clone, Copy, Debug, PartialEq, Eq)]
 pub struct TickAnswer {
     pub resets: u64,
     pub damaged: u64,

@@ -28,7 +28,8 @@ use record::Stream;
 use refusal::Refusal;
 use stream::{Marks, Weighed};
 
-// The lowest slot whose record passes the test: the search stops at it and yields its place.
+// The lowest slot whose record passes the test: the search stops at it and yields its place. (Document 01 names the form: a loop over
+// slots that yields the lowest matching place by break. A table is a slice, and a slot a place in it: so it is lent, from C too.)
 fn find<F: Fn(Stream) -> bool>(t: &[Stream], passes: F) -> Option<usize>
     requires { F.IsAlwaysCallable passes }
     ensures { (p : Stream → Bool) → ((s : Stream) (r : Bool) → F.post passes s r → r ≡ p s) → result ≡ found p t.now }
@@ -102,7 +103,8 @@ fn decide_at(
     Ok(weighed)
 }
 
-// The same of any slot. Beyond the table `at` gives a blank record, whose settings are out of range: 7.
+// The same of any slot. Beyond the table `at` gives a blank record, whose settings are out of range: 7. (A batch calls it, so it is
+// public and asks for nothing; a single arrival knows its slot, and does without the test.)
 pub fn decide_in(
     t: &mut [Stream],
     i: usize,
@@ -118,7 +120,7 @@ pub fn decide_in(
     decide_at(t, i, network, number, room)
 }
 
-// ---- the index
+// ---- the index. Table and index are two slices, which the caller lends, and the definitions take both (`indexed`, `MeetsIndexed`).
 
 // Has slot i the key? Beyond the table no slot has one.
 fn keyed_at(t: &[Stream], i: usize, key: Key) -> bool
@@ -127,7 +129,9 @@ fn keyed_at(t: &[Stream], i: usize, key: Key) -> bool
     t.get(i).is_some_and(|s| calls::hears(*s, key))
 }
 
-// Following from a key: it passes over places that don't name a slot in use with the key, until an empty one or all of them.
+// Following from a key: it passes over places that don't name a slot in use with the key, until an empty one or all of them. (Where
+// it is called, and not inlined, a frame of a batch takes 50 instructions more.)
+#[inline]
 pub fn follow(t: &[Stream], index: &[u8], key: Key) -> Option<usize>
     ensures { result ≡ place_as t.now (follow index.now t.now key) }
 {
@@ -247,11 +251,12 @@ pub fn arrival(
         return Err(Refusal::Unknown);
     };
     let room = calls::fits(frame, out);
-    let weighed = decide_at(t, slot, network, tag.number, room)?;
-    Ok(calls::finish(weighed, slot, tag, frame, out))
+    let judged = decide_at(t, slot, network, tag.number, room);
+    calls::finish(judged, slot, tag, frame, out)
 }
 
-// Arrival of a virtual link (document 02, order 10): 1 to 4, 14, 6 to 8, in the same way.
+// Arrival of a virtual link (document 02, order 10): 1 to 4, 14, 6 to 8, in the same way. (One function for both, and for a batch's,
+// would take reader, search and writer as parameters, each with what it promises: that is longer than these six steps.)
 pub fn link_arrival(
     t: &mut [Stream],
     network: u8,
@@ -270,8 +275,8 @@ pub fn link_arrival(
         return Err(Refusal::Unknown);
     };
     let room = calls::fits_link(frame, out);
-    let weighed = decide_at(t, slot, network, tag.number, room)?;
-    Ok(calls::finish_link(weighed, slot, tag.number, frame, out))
+    let judged = decide_at(t, slot, network, tag.number, room);
+    calls::finish_link(judged, slot, tag.number, frame, out)
 }
 
 // The open as without the index, of a table and an index that agree: 9, 10, 11, and 10 comes by following twice, since a slot of
@@ -308,7 +313,9 @@ fn open_in(
     Ok(slot)
 }
 
-// Open: 1, 18, 9, 10, 11. After a success the index is the rebuilt one; a refused open changes no byte of it.
+// Open: 1, 18, 9, 10, 11. After a success the index is the rebuilt one; a refused open changes no byte of it. (Its parameters are as
+// the README names them, and as C passes them. It begins as `close` does: `as_mut_array` lends the places on, so that `unfit`, which
+// lends nothing, does not serve.)
 pub fn open(
     t: &mut [Stream],
     index: &mut [u8],
@@ -367,7 +374,8 @@ pub fn rebuild(t: &[Stream], index: &mut [u8]) -> Result<(), Refusal>
     Ok(())
 }
 
-// Reset: 1, 12, then 7 only if the settings are out of range. Otherwise fresh state, resets rises.
+// Reset: 1, 12, then 7 only if the settings are out of range. Otherwise fresh state, resets rises. (The steps are `close_in`'s around
+// another one: a closure for it would bring a clause on what it leaves, which is longer.)
 pub fn reset(t: &mut [Stream], slot: usize) -> Result<(), Refusal>
     ensures { Meets t.old (resetting slot) (record { said = said_done result; table = t.new; output = [] }) }
 {

@@ -17,8 +17,11 @@ pub fn name_at(index: &[u8], from: usize, k: usize) -> Option<usize>
     if k >= PLACES {
         return None;
     }
-    let name = index.get((from + k) % PLACES)?;
-    usize::from(*name).checked_sub(1)
+    let name = usize::from(*index.get((from + k) % PLACES)?);
+    if name == 0 {
+        return None;
+    }
+    Some(name - 1)
 }
 
 // The key of a slot in use.
@@ -68,7 +71,8 @@ pub fn not_above(found: Option<usize>, i: usize) -> bool
     found.is_some_and(|j| j <= i)
 }
 
-// The first empty place from a place on, round the end.
+// The first empty place from a place on, round the end. (A walk of its own beside `sure_from`'s: the two stop at other tests, and answer
+// other things. Both are asked of a place below 128 alone, which `home` gives.)
 fn vacant_from(index: &[u8; PLACES], from: usize) -> usize
     requires { from < places }
     ensures { (result ≡ probe index.now places from) × (result < places) }

@@ -6,7 +6,7 @@
 // What an arrival and a tick change. With fields of these sizes in this order no byte of a record is padding: `any` has two,
 // so that a record is copied without a rest.
 #[repr(C)]
-#[derive(Clone, Copy, Default)]
+#[derive(Clone, Copy, Debug, Default, PartialEq, Eq)]
 pub struct State {
     // Bit k stands for the number anchor - k. It is bit k mod 64 of word k / 64.
     pub history: [u64; 8],
@@ -21,7 +21,7 @@ pub struct State {
 
 // The counters. They wrap to zero after 2^64 - 1.
 #[repr(C)]
-#[derive(Clone, Copy, Default)]
+#[derive(Clone, Copy, Debug, Default, PartialEq, Eq)]
 pub struct Counts {
     pub arrivals0: u64,
     pub arrivals1: u64,
@@ -34,9 +34,10 @@ pub struct Counts {
     pub resets: u64,
 }
 
-// A slot of the table that the caller lends. Every bit pattern of it is a value.
+// A slot of the table that the caller lends. Every bit pattern of it is a value: so rule and used are numbers, and no enum and
+// bool, and so is `any` above. The caller may be written in C.
 #[repr(C)]
-#[derive(Clone, Copy, Default)]
+#[derive(Clone, Copy, Debug, Default, PartialEq, Eq)]
 pub struct Stream {
     // The key: the destination's six bytes as one number, high byte first, and the VLAN id.
     pub dest: u64,
@@ -74,7 +75,7 @@ impl Stream {
 
     pub const VLAN_MOST: u16 = 4094;
 
-    // The rules: vector recovery, match recovery, and virtual links.
+    // The rules: vector recovery, match recovery, and virtual links. Numbers and no enum, since the caller's record holds any byte.
     pub const VECTOR_RULE: u8 = 1;
 
     pub const MATCH_RULE: u8 = 2;

@@ -14,7 +14,8 @@ pub struct Sender {
     pub next: u16,
 }
 
-// What a send that is not refused answers: the number that the frame got, and the length of the tagged frame.
+// What a send that is not refused answers: the number that the frame got, and the length of the tagged frame. (A type of its own
+// beside `frame::Bare`: one length is with the tag and the other without, as `Numbered` and `Bare` say.)
 #[derive(Clone, Copy, Debug, PartialEq, Eq)]
 pub struct Sent {
     pub number: u16,

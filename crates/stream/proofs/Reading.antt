@@ -1,8 +1,6 @@
 -- The signed reading as the code computes it, and the code's tests on it as tests on the definitions. Assumes nothing.
-use Rattle.std.proofs.Common.{◌≡◌, ℕ, zero, suc, ◌-◌, ◌^◌, ◌<◌, ◌≤◌, Bool, true, false, T, eqb, ltb, ℤ, pos, negsuc, ◌-ℤ◌, neg_ℤ, nat_abs, sym, refl, ap, ◌∙◌, ap₂, arith, to_z-of_z, w16, w32, Fits, SFits, to_z, of_z, ltb-true, le-ltb, lt-ltb, ne_eqb}
+use Rattle.std.proofs.Common.{◌≡◌, ℕ, zero, suc, ◌-◌, ◌^◌, ◌<◌, ◌≤◌, Bool, true, false, eqb, ltb, ℤ, pos, negsuc, sym, refl, ap, ◌∙◌, arith, w16, w32, SFits, to_z, of_z, le-ltb, lt-ltb, ne_eqb}
 use native.Mathlib.Decide.{dec_lt}
-use lib.IntN.{+ℤ_idl}
-use lib.Signed.{mag, le_z, lt_z, non_neg}
 use borrow.Author.Tests.{eqb-false}
 use mir.Facts.{to_z_pos, to_z-neg}
 use Rattle.std.specs.Prelude.{if◌then◌else◌}
@@ -50,28 +48,7 @@ pub forward : (number anchor : ℕ) → Forward (difference number anchor)
 unfolding difference
 forward number anchor = forward-signed _
 
--- 2. The code's tests on a signed local, as tests on its number.
-module _ (w : ℕ) (d : ℤ) (hw : w < 2 ^ 16) (hd : SFits w32 d) where
-  minus : pos 0 -ℤ to_z w32 w ≡ neg_ℤ (pos w)
-  minus = ap (λ (z : ℤ). pos 0 -ℤ z) (wide w hw) ∙ +ℤ_idl (neg_ℤ (pos w))
-
-  mag-minus : (n : ℕ) → n < 2 ^ 16 → mag (neg_ℤ (pos n)) < 2 ^ 31
-  mag-minus zero h = omega arith
-  mag-minus (suc n) h = omega arith
-
-  pub minus-fits : SFits w32 (pos 0 -ℤ to_z w32 w)
-  minus-fits = record { sfits = rw minus (mag-minus w hw) }
-
-  pub at_least : (b : Bool) → le_z (to_z w32 w) (to_z w32 (of_z w32 d)) ≡ b → le_z (pos w) d ≡ b
-  at_least b e = sym (ap₂ le_z (wide w hw) (to_z-of_z hd)) ∙ e
-
-  pub at_most : (b : Bool) → le_z (to_z w32 (of_z w32 d)) (to_z w32 (of_z w32 (pos 0 -ℤ to_z w32 w))) ≡ b → le_z d (neg_ℤ (pos w)) ≡ b
-  at_most b e = sym (ap₂ le_z (to_z-of_z hd) (to_z-of_z minus-fits ∙ minus)) ∙ e
-
-pub not-above : (d : ℤ) → SFits w32 d → (b : Bool) → le_z (to_z w32 (of_z w32 d)) (pos 0) ≡ b → le_z d (pos 0) ≡ b
-not-above d hd b e = sym (ap (λ (z : ℤ). le_z z (pos 0)) (to_z-of_z hd)) ∙ e
-
--- the test for a number n, on the bits
+-- 2. The code's test of a signed local for a number n, on its bits.
 abbrev pub isℤ : ℤ → ℕ → Bool
 isℤ (pos a) n = eqb a n
 isℤ (negsuc a) n = false
@@ -79,41 +56,3 @@ isℤ (negsuc a) n = false
 pub bits_are : (d : ℤ) (n : ℕ) → SFits w32 d → n < 2 ^ 31 → eqb (of_z w32 d) n ≡ isℤ d n
 bits_are (pos a) n hd hn = refl
 bits_are (negsuc a) n hd hn = ne_eqb (2 ^ 32 - suc a) n (λ e. let h : a < 2 ^ 31 = hd.sfits in omega arith)
-
--- 3. The size, as the code computes it.
-abs_neg : (d : ℤ) → nat_abs (neg_ℤ d) ≡ nat_abs d
-abs_neg (pos zero) = refl
-abs_neg (pos (suc n)) = refl
-abs_neg (negsuc n) = refl
-
-mag-neg : (d : ℤ) → nat_abs d < 65536 → mag (neg_ℤ d) < 2 ^ 31
-mag-neg (pos zero) h = omega arith
-mag-neg (pos (suc n)) h = omega arith
-mag-neg (negsuc n) h = omega arith
-
-neg-up : (d : ℤ) → lt_z d (pos 0) ≡ true → T (non_neg (neg_ℤ d))
-neg-up (pos a) e = let h : a < 0 = ltb-true a 0 e in absurd (omega arith)
-neg-up (negsuc n) e = tt
-
-up_up : (d : ℤ) → lt_z d (pos 0) ≡ false → T (non_neg d)
-up_up (pos a) e = tt
-up_up (negsuc n) e = let z : ◌≡◌ {A = ℕ} 0 1 = cc in absurd (omega arith)
-
-module _ (d : ℤ) (hd : SFits w32 d) (small : nat_abs d < 65536) where
-  minus-d : pos 0 -ℤ to_z w32 (of_z w32 d) ≡ neg_ℤ d
-  minus-d = ap (λ (z : ℤ). pos 0 -ℤ z) (to_z-of_z hd) ∙ +ℤ_idl (neg_ℤ d)
-
-  pub negated_fits : SFits w32 (pos 0 -ℤ to_z w32 (of_z w32 d))
-  negated_fits = record { sfits = rw minus-d (mag-neg d small) }
-
-  negated : to_z w32 (of_z w32 (pos 0 -ℤ to_z w32 (of_z w32 d))) ≡ neg_ℤ d
-  negated = to_z-of_z negated_fits ∙ minus-d
-
-  pub size_below : lt_z (to_z w32 (of_z w32 d)) (pos 0) ≡ true → T (non_neg (to_z w32 (of_z w32 (pos 0 -ℤ to_z w32 (of_z w32 d))))) × Fits w16 (nat_abs (to_z w32 (of_z w32 (pos 0 -ℤ to_z w32 (of_z w32 d)))))
-  size_below e = rw negated (neg-up d (rw (to_z-of_z hd) at e), record { fits = rw (abs_neg d) small })
-
-  pub size_above : lt_z (to_z w32 (of_z w32 d)) (pos 0) ≡ false → T (non_neg (to_z w32 (of_z w32 d))) × Fits w16 (nat_abs (to_z w32 (of_z w32 d)))
-  size_above e = rw (to_z-of_z hd) (up_up d (rw (to_z-of_z hd) at e), record { fits = small })
-
-  pub size_is : nat_abs (to_z w32 (of_z w32 (pos 0 -ℤ to_z w32 (of_z w32 d)))) ≡ nat_abs d
-  size_is = ap nat_abs negated ∙ abs_neg d

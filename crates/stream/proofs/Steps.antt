@@ -1,5 +1,5 @@
 -- The two steps of the code are the decision. Assumes nothing.
-use Rattle.std.proofs.Common.{◌≡◌, ℕ, ◌-◌, ◌^◌, ◌<◌, ◌≤◌, Bool, true, false, not, eqb, sym, refl, ap, ◌∙◌, subst, arith, pow_pos, ltb-true, lt-ltb, le-leb}
+use Rattle.std.proofs.Common.{◌≡◌, ℕ, ◌-◌, ◌^◌, ◌<◌, ◌≤◌, Bool, true, false, eqb, sym, refl, ap, ◌∙◌, subst, arith, pow_pos, ltb-true, lt-ltb, le-leb}
 use mathlib.Core.Option.{some}
 use Rattle.std.specs.Prelude.{Some}
 use Rattle.std.specs.Prelude.{if◌then◌else◌}
@@ -7,7 +7,7 @@ use Rattle.record.specs.Words.{yes}
 use Rattle.record.specs.Sizes.{window_least, window_most, vector_rule}
 use Rattle.stream.specs.History.{History, value, empty, single, bit, within, marked, marked_first}
 use Rattle.stream.specs.Record.{Stream, lawful}
-use Rattle.stream.specs.Decisions.{Case, first, far, again, late, next, moved, case_of, verdict_of, handed_up, state_after, out_of_order, losses, rise, counted, tally, counts_after, with, verdict, decided}
+use Rattle.stream.specs.Decisions.{Case, first, far, again, late, next, moved, case_of, verdict_of, handed_up, state_after, out_of_order, losses, counts_after, with, verdict, decided}
 use Rattle.stream.specs.Steps.{Marks, Weighed, marks_of, history_after, short_after, HandedUp, Duplicate, Rogue, weighed_as, weighed, said, record_up, record_after, record_short}
 use Rattle.stream.specs.Laws.{StepsTellVerdict, StepsDecide, StepsDamaged, StepsLeave, ShortStep}
 use Rattle.stream.proofs.Past.{no_value, empty-bit, marked-late, marked_next, marked-first, marked-up, marked-there}
@@ -152,51 +152,3 @@ short-step s n network m word e = go (lawful s) refl
         let is : weighed_as s n (case_of s n) ≡ HandedUp m = cc in
         subst (λ (w : Weighed). shortened s n (law l) word network w ≡ record_after s network (Some w)) is
         (shortens s n (law l) word network (case_of s n) (case-told s n).fact)
-
--- A discard, from its counters: all else is the record's.
-module _ (s : Stream) (network : ℕ) {a b c : ℕ} (p : a ≡ counted (eqb network 0) s.counts.arrivals0) (q : b ≡ counted (not (eqb network 0)) s.counts.arrivals1) where
-  pub duplicate-is : c ≡ rise s.counts.discarded 1
-      → with s s.state (record {
-        arrivals0 = a;
-        arrivals1 = b;
-        passed = s.counts.passed;
-        discarded = c;
-        rogue = s.counts.rogue;
-        disorder = s.counts.disorder;
-        lost = s.counts.lost;
-        resets = s.counts.resets;
-      }) ≡ record_after s network (Some Duplicate)
-  unfolding record_after tally
-  duplicate-is r = λ i. with s s.state (record {
-    arrivals0 = p i;
-    arrivals1 = q i;
-    passed = s.counts.passed;
-    discarded = r i;
-    rogue = s.counts.rogue;
-    disorder = s.counts.disorder;
-    lost = s.counts.lost;
-    resets = s.counts.resets;
-  })
-
-  pub rogue-is : c ≡ rise s.counts.rogue 1
-      → with s s.state (record {
-        arrivals0 = a;
-        arrivals1 = b;
-        passed = s.counts.passed;
-        discarded = s.counts.discarded;
-        rogue = c;
-        disorder = s.counts.disorder;
-        lost = s.counts.lost;
-        resets = s.counts.resets;
-      }) ≡ record_after s network (Some Rogue)
-  unfolding record_after tally
-  rogue-is r = λ i. with s s.state (record {
-    arrivals0 = p i;
-    arrivals1 = q i;
-    passed = s.counts.passed;
-    discarded = s.counts.discarded;
-    rogue = r i;
-    disorder = s.counts.disorder;
-    lost = s.counts.lost;
-    resets = s.counts.resets;
-  })

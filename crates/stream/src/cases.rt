@@ -6,9 +6,22 @@ ghost use Rattle.stream.specs.History.{bit};
 ghost use Rattle.stream.specs.Decisions.{again, late, next, link_up, case_of};
 ghost use Rattle.stream.specs.Steps.{weighed_as};
 
-use super::number::{difference, size};
-use super::{Marks, Weighed, history};
+use super::history::{self, Shift};
+use super::number::difference;
+use super::{Marks, Weighed};
 use record::Stream;
+
+// Handed up, the number as the new anchor, where the history moves no place up.
+fn taken(anchor: u16, early: u16, disorder: bool) -> Weighed
+    ensures { result ≡ Weighed.HandedUp (record { lost = 0; places = 0; bit = 0; anchor = anchor; early = early; disorder = disorder }) }
+{
+    Weighed::HandedUp(Marks {
+        anchor,
+        early,
+        disorder,
+        ..Marks::default()
+    })
+}
 
 // Vector, k behind the anchor. The anchor stays, so that the number itself is not looked at.
 #[tactic(auto, unfolding(crate::specs::Steps::weighed_as, crate::specs::Decisions::state_after, crate::specs::Decisions::losses, crate::specs::Decisions::out_of_order))]
@@ -35,8 +48,12 @@ fn ahead(s: Stream, number: u16, k: u16) -> Weighed
     ensures { result ≡ weighed_as s number (next k) }
 {
     let n = s.state.early;
+    let shift = Shift {
+        window: s.window,
+        up: k,
+    };
     Weighed::HandedUp(Marks {
-        lost: history::lost(s.state.history, s.window, k, n),
+        lost: history::lost(s.state.history, shift, n),
         places: k,
         anchor: number,
         early: n.saturating_sub(k),
@@ -52,18 +69,14 @@ pub fn by_vector(s: Stream, number: u16) -> Weighed
     ensures { result ≡ weighed_as s number (case_of s number) }
 {
     if s.state.any != 0 {
-        return Weighed::HandedUp(Marks {
-            anchor: number,
-            early: s.window - 1,
-            ..Marks::default()
-        });
+        return taken(number, s.window - 1, false);
     }
     let d = difference(number, s.state.anchor);
     let w = i32::from(s.window);
     if d >= w || d <= -w {
         return Weighed::Rogue;
     }
-    let k = size(d);
+    let k = d.unsigned_abs() as u16;
     if d <= 0 {
         behind(s, k)
     } else {
@@ -78,21 +91,13 @@ pub fn by_match(s: Stream, number: u16) -> Weighed
     ensures { result ≡ weighed_as s number (case_of s number) }
 {
     if s.state.any != 0 {
-        return Weighed::HandedUp(Marks {
-            anchor: number,
-            ..Marks::default()
-        });
+        return taken(number, 0, false);
     }
     let d = difference(number, s.state.anchor);
     if d == 0 {
         return Weighed::Duplicate;
     }
-    Weighed::HandedUp(Marks {
-        anchor: number,
-        early: s.state.early,
-        disorder: d != 1,
-        ..Marks::default()
-    })
+    taken(number, s.state.early, d != 1)
 }
 
 // A virtual link: is a number handed up after the last one? Among 1 to 255 the steps forward are counted in a ring of 255, and
@@ -128,17 +133,10 @@ pub fn by_link(s: Stream, number: u16) -> Weighed
     ensures { result ≡ weighed_as s number (case_of s number) }
 {
     if s.state.any != 0 {
-        return Weighed::HandedUp(Marks {
-            anchor: number,
-            ..Marks::default()
-        });
+        return taken(number, 0, false);
     }
     if !link_up(s.state.anchor, number) {
         return Weighed::Duplicate;
     }
-    Weighed::HandedUp(Marks {
-        anchor: number,
-        early: s.state.early,
-        ..Marks::default()
-    })
+    taken(number, s.state.early, false)
 }

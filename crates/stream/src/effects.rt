@@ -4,7 +4,8 @@ ghost use Rattle.record.specs.Sizes.{vector_rule};
 ghost use Rattle.stream.specs.Decisions.{counted};
 ghost use Rattle.stream.specs.Steps.{arrived, history_after, short_after, record_up, record_after, record_short};
 
-use super::{Marks, Weighed, history};
+use super::history::{self, Shift};
+use super::{Marks, Weighed};
 use record::{Counts, State, Stream};
 
 // A counter, risen by 1 where the test holds.
@@ -41,19 +42,28 @@ fn history_after(h: [u64; 8], rule: u8, window: u16, m: Marks) -> [u64; 8]
     ensures { result ≡ history_after rule window m h }
 {
     if fits(m, rule, window, Stream::WINDOW_MOST) {
-        history::marked(h, window, m.places, m.bit)
+        let shift = Shift {
+            window,
+            up: m.places,
+        };
+        history::marked(h, shift, m.bit)
     } else {
         h
     }
 }
 
-// The same for a window of at most a word: the first word alone is read and written.
+// The same for a window of at most a word: the first word alone is read and written. Two functions and not one with a parameter: what
+// they have in common is `fits`, and they differ in the function that they call.
 #[tactic(auto, unfolding(crate::specs::Steps::short_after))]
 fn short_after(h: [u64; 8], rule: u8, window: u16, m: Marks) -> [u64; 8]
     ensures { result ≡ short_after rule window m h }
 {
     if fits(m, rule, window, 64) {
-        history::marked_first(h, window, m.places, m.bit)
+        let shift = Shift {
+            window,
+            up: m.places,
+        };
+        history::marked_first(h, shift, m.bit)
     } else {
         h
     }

@@ -1,8 +1,9 @@
 // The history of a vector record: bit k stands for the number anchor - k. This file alone knows how a history is held:
 // eight words of 64 bits, the lowest first. Words are named by constant places wherever the common cases go, since a place
 // that is computed would keep the whole record in memory; and a window of at most a word has a short way.
-ghost use Rattle.std.specs.Prelude.{◌≡◌, ◌+◌, ◌-◌, ◌*◌, ◌/◌, ◌%◌, ◌^◌, ◌<◌, ◌≤◌, bit_or, count_ones, nat_eq, fold, ◌↔◌, IsTrue, EachIndex, slice_index};
-ghost use Rattle.std.specs.Prelude.{if◌then◌else◌};
+// A place is a number below 512 and has no type of its own: the callers have it from a record or from marks, which C and other
+// crates fill, and would make the type only to take it apart again.
+ghost use Rattle.std.specs.Prelude.{◌≡◌, ◌+◌, ◌-◌, ◌*◌, ◌/◌, ◌%◌, ◌^◌, ◌<◌, ◌≤◌, bit_or, count_ones, fold, ◌↔◌, IsTrue, EachIndex, slice_index};
 ghost use Rattle.record.specs.Sizes.{window_most};
 ghost use Rattle.stream.specs.History.{value, words_of, is_empty, bit, within, set_bit, leaving, marked, marked_first};
 
@@ -12,6 +13,15 @@ use std::array;
 // Bits in a word.
 const WORD: u16 = 64;
 
+// A way of so many places up in a window, which has more places than that.
+#[derive(Clone, Copy)]
+pub struct Shift {
+    pub window: u16,
+    pub up: u16,
+    ghost inside: { up < window },
+    ghost most: { window ≤ window_most },
+}
+
 // The words joined by `or`.
 fn any_of(words: &[u64]) -> u64
     ensures { result ≡ fold bit_or 0 words.now }
@@ -19,7 +29,7 @@ fn any_of(words: &[u64]) -> u64
     words.iter().fold(0, |all, x| all | x)
 }
 
-// No bit is set above the first word.
+// No bit is set above the first word. (Seven tests one after the other, by `is_clear`, took 14 instructions more than this one.)
 fn is_short(h: [u64; 8]) -> bool
     ensures { result ≡ within 64 h }
 {
@@ -51,8 +61,8 @@ pub fn has_bit(h: [u64; 8], k: u16) -> bool
     has_above(h, k)
 }
 
-// Each of the words is zero. The first that is not ends it: with `any_of`, which has no end but the last word, a decision in a window
-// of 512 took a fifth more instructions.
+// Each of the words is zero. The first that is not ends it: with `any_of`, which goes over all, a decision in a window of 512 took a
+// fifth more instructions (442 for 372).
 fn is_clear(words: &[u64]) -> bool
     ensures { IsTrue result ↔ EachIndex words.now (λ k. slice_index words.now k ≡ 0) }
 {
@@ -68,7 +78,7 @@ fn is_long_within(h: [u64; 8], w: u16) -> bool
     is_clear(&h[i + 1..]) && (h[i] >> ((w - 1) % WORD)) < 2
 }
 
-// No bit is set at w or above. There is no shift by 64.
+// No bit is set at w or above. There is no shift by 64. (With `&&` in place of the second test a decision took 4 instructions more.)
 pub fn is_within(h: [u64; 8], w: u16) -> bool
     requires { (1 ≤ w) × (w ≤ window_most) }
     ensures { result ≡ within w h }
@@ -82,26 +92,18 @@ pub fn is_within(h: [u64; 8], w: u16) -> bool
     (h[0] >> (w - 1)) < 2
 }
 
-// Word i with bit k of the history set.
-fn with_bit(x: u64, i: u16, k: u16) -> u64
-    ensures { result ≡ (if nat_eq i (k / 64) then bit_or x (2 ^ (k % 64)) else x) }
-{
-    if i == k / WORD {
-        return x | (1 << (k % WORD));
-    }
-    x
-}
-
+// A bit of the first word is set there by a constant place.
 fn set_bit(h: [u64; 8], k: u16) -> [u64; 8]
     requires { k < window_most }
     ensures { result ≡ set_bit k h }
 {
+    let mut out = h;
     if k < WORD {
-        let mut out = h;
         out[0] |= 1 << k;
         return out;
     }
-    array::from_fn(|i| with_bit(h[i], i as u16, k))
+    out[(k / WORD) as usize] |= 1 << (k % WORD);
+    out
 }
 
 // hi, b places up, and below it the b highest bits of lo.
@@ -152,11 +154,11 @@ fn cut_at(h: [u64; 8], w: u16) -> [u64; 8]
     array::from_fn(|i| kept(h[i], w, i as u16))
 }
 
-// d places up in a window of w, word by word: for d from 64 on.
-fn places_up(h: [u64; 8], w: u16, d: u16) -> [u64; 8]
-    requires { (d < w) × (w ≤ window_most) }
-    ensures { result ≡ words_of 8 ((value h * 2 ^ d) % 2 ^ w) }
+// The places of a shift up, word by word: for 64 places and more.
+fn places_up(h: [u64; 8], shift: Shift) -> [u64; 8]
+    ensures { result ≡ words_of 8 ((value h * 2 ^ shift.up) % 2 ^ shift.window) }
 {
+    let Shift { window: w, up: d } = shift;
     let q = (d / WORD) as usize;
     let b = d % WORD;
     let top = ((w - 1) / WORD) as usize;
@@ -169,11 +171,11 @@ fn places_up(h: [u64; 8], w: u16, d: u16) -> [u64; 8]
     out
 }
 
-// d places up in a window of w. In one of at most a word the window stands at the first word's top when it is cut.
-fn moved(h: [u64; 8], w: u16, d: u16) -> [u64; 8]
-    requires { (d < w) × (w ≤ window_most) }
-    ensures { result ≡ words_of 8 ((value h * 2 ^ d) % 2 ^ w) }
+// The places of a shift up. A window of at most a word stands at the first word's top when it is cut.
+fn moved(h: [u64; 8], shift: Shift) -> [u64; 8]
+    ensures { result ≡ words_of 8 ((value h * 2 ^ shift.up) % 2 ^ shift.window) }
 {
+    let Shift { window: w, up: d } = shift;
     if w <= WORD {
         let up = WORD - w;
         let mut out = [0; 8];
@@ -183,28 +185,28 @@ fn moved(h: [u64; 8], w: u16, d: u16) -> [u64; 8]
     if d < WORD {
         return cut_at(bits_up(h, d), w);
     }
-    places_up(h, w, d)
+    places_up(h, shift)
 }
 
-// d places up in a window of w, and then bit k set.
-pub fn marked(h: [u64; 8], w: u16, d: u16, k: u16) -> [u64; 8]
-    requires { (k < window_most) × ((d < w) × (w ≤ window_most)) }
-    ensures { result ≡ marked w d k h }
+// The places of a shift up, and then bit k set.
+pub fn marked(h: [u64; 8], shift: Shift, k: u16) -> [u64; 8]
+    requires { k < window_most }
+    ensures { result ≡ marked shift.window shift.up k h }
 {
-    if d == 0 {
+    if shift.up == 0 {
         return set_bit(h, k);
     }
-    set_bit(moved(h, w, d), k)
+    set_bit(moved(h, shift), k)
 }
 
 // The same in a window of at most a word, by the first word alone: the others stay.
-pub fn marked_first(h: [u64; 8], w: u16, d: u16, k: u16) -> [u64; 8]
-    requires { (k < 64) × ((d < w) × (w ≤ 64)) }
-    ensures { result ≡ marked_first w d k h }
+pub fn marked_first(h: [u64; 8], shift: Shift, k: u16) -> [u64; 8]
+    requires { (k < 64) × (shift.window ≤ 64) }
+    ensures { result ≡ marked_first shift.window shift.up k h }
 {
-    let up = WORD - w;
+    let top = WORD - shift.window;
     let mut out = h;
-    out[0] = (((h[0] << d) << up) >> up) | (1 << k);
+    out[0] = (((h[0] << shift.up) << top) >> top) | (1 << k);
     out
 }
 
@@ -215,11 +217,12 @@ fn count(x: u64) -> u32
     if x == 0 { 0 } else { x.count_ones() }
 }
 
-// How many of the d places below place w are set, word by word.
-fn gone_words(h: [u64; 8], w: u16, d: u16) -> u32
-    requires { (1 ≤ d) × ((d < w) × (w ≤ window_most)) }
-    ensures { result ≡ count_ones (value h / 2 ^ (w - d) % 2 ^ d) }
+// How many of the places that leave in a shift are set, word by word.
+fn gone_words(h: [u64; 8], shift: Shift) -> u32
+    requires { 1 ≤ shift.up }
+    ensures { result ≡ count_ones (value h / 2 ^ (shift.window - shift.up) % 2 ^ shift.up) }
 {
+    let Shift { window: w, up: d } = shift;
     let top = ((w - 1) / WORD) as usize;
     let mut n: u32 = 0;
     // The first of the words is counted from this place on, and each other from its lowest.
@@ -231,29 +234,34 @@ fn gone_words(h: [u64; 8], w: u16, d: u16) -> u32
     n + count(cut(h[top], 63 - (w - 1) % WORD) >> from)
 }
 
-// How many of the d places below place w are set. In the first word they stand at its top, so that one shift tells them.
-fn gone(h: [u64; 8], w: u16, d: u16) -> u32
-    requires { (1 ≤ d) × ((d < w) × (w ≤ window_most)) }
-    ensures { result ≡ count_ones (value h / 2 ^ (w - d) % 2 ^ d) }
+// How many of the places that leave in a shift are set. In the first word they are moved to its top, and then to its bottom.
+fn gone(h: [u64; 8], shift: Shift) -> u32
+    requires { 1 ≤ shift.up }
+    ensures { result ≡ count_ones (value h / 2 ^ (shift.window - shift.up) % 2 ^ shift.up) }
 {
+    let Shift { window: w, up: d } = shift;
     if w <= WORD {
         return ((h[0] << (WORD - w)) >> (WORD - d)).count_ones();
     }
-    gone_words(h, w, d)
+    gone_words(h, shift)
 }
 
-// How many zero bits leave and count on the way of d places up, where n places are left for numbers older than the first.
-// The next number is the common case, and has no bits to count.
-pub fn lost(h: [u64; 8], w: u16, d: u16, n: u16) -> u64
-    requires { (1 ≤ d) × ((d < w) × (w ≤ window_most)) }
-    ensures { result ≡ leaving w d n h }
+// How many zero bits leave and count in a shift, where n places are left for numbers older than the first. The next number is the
+// common case, and has no bits to count.
+pub fn lost(h: [u64; 8], shift: Shift, n: u16) -> u64
+    requires { 1 ≤ shift.up }
+    ensures { result ≡ leaving shift.window shift.up n h }
 {
+    let Shift { window: w, up: d } = shift;
     if d <= n {
         return 0;
     }
     if d == 1 {
         return u64::from(!has_bit(h, w - 1));
     }
-    let left = d - n;
-    u64::from(u32::from(left) - gone(h, w - n, left))
+    let left = Shift {
+        window: w - n,
+        up: d - n,
+    };
+    u64::from(u32::from(left.up) - gone(h, left))
 }

@@ -7,7 +7,7 @@ mod effects;
 mod history;
 mod number;
 
-ghost use Rattle.std.specs.Prelude.{◌≡◌, ◌≤◌, true, ◌&&◌, ◌||◌, ◌==◌, nat_le};
+ghost use Rattle.std.specs.Prelude.{◌≡◌, ◌≤◌, ◌&&◌, ◌||◌, ◌==◌, nat_le};
 ghost use Rattle.record.specs.Sizes.{window_least, window_most, vector_rule, match_rule, link_rule};
 ghost use Rattle.stream.specs.Record.{fresh, settled, linked, placed, lawful, opened, closed};
 ghost use Rattle.stream.specs.Decisions.{reset};
@@ -39,8 +39,9 @@ pub enum Weighed {
     Rogue,
 }
 
-// The answer of a tick: the record after it, whether the stream was reset, whether the record is damaged.
-#[derive(Clone, Copy)]
+// The answer of a tick: the record after it, whether the stream was reset, whether the record is damaged. (Two flags and no enum:
+// each is counted by itself, as `tick_of` says.)
+#[derive(Clone, Copy, Debug, PartialEq, Eq)]
 pub struct Ticked {
     pub stream: Stream,
     pub reset: bool,
@@ -57,7 +58,7 @@ fn fresh_state() -> State
     }
 }
 
-// A fresh record in use, counters zero.
+// A fresh record in use, counters zero. (Its parameters are those of an open, as the README names them.)
 pub fn opened(dest: u64, vlan: u16, rule: u8, window: u16, time: u16) -> Stream
     ensures { result ≡ opened dest vlan rule window time }
 {
@@ -99,7 +100,8 @@ fn is_linked(rule: u8, anchor: u16) -> bool
     rule != Stream::LINK_RULE || anchor <= 255
 }
 
-// The settings are within the sizes. (Every u16 is at most the greatest reset time.)
+// The settings are within the sizes. (Every u16 is at most the greatest reset time.) Each test returns by itself: joined by `&&` they
+// took 22 instructions more in a decision of 332.
 #[tactic(auto, unfolding(crate::specs::Record::settled))]
 pub fn settled(s: Stream) -> bool
     ensures { result ≡ settled s }
@@ -137,7 +139,8 @@ fn is_plain(s: Stream) -> bool
     s.state.remaining != 0 && is_linked(s.rule, s.state.anchor)
 }
 
-// The other half: the history, and the places for older numbers, which are asked for last, since most often there are none.
+// The other half: the history, and the places for older numbers, which are asked for last, since most often there are none. The
+// tests of take-any and of the rule stand apart, as in `is_plain`: joined they took 3 instructions more in a decision.
 #[tactic(auto, unfolding(crate::specs::Steps::right, record::specs::Words::yes))]
 fn is_right(rule: u8, window: u16, any: u16, n: u16, h: [u64; 8]) -> bool
     requires { (window_least ≤ window) × (window ≤ window_most) }

@@ -1,5 +1,5 @@
 // The difference of a number and the anchor (document 01, "Decisions").
-ghost use Rattle.std.specs.Prelude.{◌≡◌, ◌<◌, unsigned_abs};
+ghost use Rattle.std.specs.Prelude.{◌≡◌};
 ghost use Rattle.stream.specs.Decisions.{as_int, signed, difference};
 
 // The signed reading of a difference modulo 65536.
@@ -14,12 +14,4 @@ pub fn difference(number: u16, anchor: u16) -> i32
     ensures { result ≡ as_int (difference number anchor) }
 {
     signed(number.wrapping_sub(anchor))
-}
-
-// How far a difference inside the window is from 0.
-pub fn size(d: i32) -> u16
-    requires { unsigned_abs d < 65536 }
-    ensures { result ≡ unsigned_abs d }
-{
-    d.unsigned_abs() as u16
 }

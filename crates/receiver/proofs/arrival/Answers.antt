@@ -1,12 +1,8 @@
 -- `receiver::arrival` meets its contract: at each return a law says that the steps so far are the arrival.
-use Rattle.std.proofs.Common.{rules, sym, ap, refl, ◌∙◌, ◌-◌, false, length, Result, Ok, Err}
-use Rattle.refusal.specs.declared.Refusal.{Refusal}
+use Rattle.std.proofs.Common.{rules, sym, ap, refl, ◌∙◌, false, Err}
 use Rattle.refusal.specs.declared.Refusal.TheVariants.{Unknown}
-use Rattle.frame.specs.TagCalls.{written_without}
-use Rattle.stream.specs.declared.Weighed.{Weighed}
 use Rattle.calls.specs.Said.{said_arrival}
 use Rattle.calls.specs.Table.{hears}
-use Rattle.calls.specs.Steps.{finished, bytes_of}
 use Rattle.calls.proofs.Arrivals.{found_inside, arrival-refused, arrival-unknown, arrival-decided}
 use Rattle.refusal.proofs.Checks.{passed-on}
 use Rattle.receiver.proofs.arrival.Goals as goal
@@ -20,26 +16,16 @@ returns-in_default c =
     let w = c.find.ensures (hears false g.header.dest g.header.vlan) (λ s r q. search rules) in
     arrival-unknown _ _ _ _ c.ask.ensures c.in_ok-tag.was (Err Unknown) (sym w ∙ c.in_default.is) refl
 
-pub decide_at-requires : goal.decide_at-requires
-decide_at-requires c =
+pub decide_at-judged-requires : goal.decide_at-judged-requires
+decide_at-judged-requires c =
     let g = c.in_ok-tag.tag in
     let w = c.find.ensures (hears false g.header.dest g.header.vlan) (λ s r q. search rules) in
     found_inside _ (hears false g.header.dest g.header.vlan) (sym w ∙ c.in-Some.is)
-
-pub returns-in_err-weighed : goal.returns-in_err-weighed
-returns-in_err-weighed c =
-    let g = c.in_ok-tag.tag in
-    let w = c.find.ensures (hears false g.header.dest g.header.vlan) (λ s r q. search rules) in
-    arrival-decided _ _ _ _ c.ask.ensures c.in_ok-tag.was (sym w ∙ c.in-Some.is) c.from_residual-in_err-weighed.result c.fits-room.ensures
-    c.decide_at.ensures.0 c.decide_at.ensures.1
-    (ap said_arrival (passed-on _ c.from_residual-in_err-weighed.ensures.1) ∙ ap (λ (j : Result Weighed Refusal). finished j c.in-Some.slot g.number g.header.rank (length c.args.frame.now - 6)) (sym c.in_err-weighed.was))
-    (ap (λ (j : Result Weighed Refusal). bytes_of j (written_without c.args.frame.now g.header.at c.args.out.now) c.args.out.now) (sym c.in_err-weighed.was))
 
 pub returns : goal.returns
 returns c =
     let g = c.in_ok-tag.tag in
     let w = c.find.ensures (hears false g.header.dest g.header.vlan) (λ s r q. search rules) in
-    arrival-decided _ _ _ _ c.ask.ensures c.in_ok-tag.was (sym w ∙ c.in-Some.is) (Ok c.finish.result) c.fits-room.ensures
-    c.decide_at.ensures.0 c.decide_at.ensures.1
-    (c.finish.ensures.result_value ∙ ap (λ (j : Result Weighed Refusal). finished j c.in-Some.slot g.number g.header.rank (length c.args.frame.now - 6)) (sym c.in_ok-weighed.was))
-    (c.finish.ensures.out_after ∙ ap (λ (j : Result Weighed Refusal). bytes_of j (written_without c.args.frame.now g.header.at c.args.out.now) c.args.out.now) (sym c.in_ok-weighed.was))
+    arrival-decided _ _ _ _ c.ask.ensures c.in_ok-tag.was (sym w ∙ c.in-Some.is) c.finish.result c.fits-room.ensures
+    c.decide_at-judged.ensures.0 c.decide_at-judged.ensures.1
+    c.finish.ensures.result_value c.finish.ensures.out_after

@@ -13,8 +13,8 @@ returns-then-d-le0 c =
     let s = c.args.s in
     let back : to_z w32 (of_z w32 c.difference-d.result) ≡ c.difference-d.result = search rules in
     let z : to_z w32 (of_z w32 c.difference-d.result) ≡ as_int (difference c.args.number s.state.anchor) = back ∙ c.difference-d.ensures in
-    let k : c.size-k.result ≡ nat_abs (as_int (difference c.args.number s.state.anchor)) = c.size-k.ensures ∙ ap nat_abs z in
-    let near : c.size-k.result < s.window = search rules in
+    let k : c.unsigned_abs-k.result ≡ nat_abs (as_int (difference c.args.number s.state.anchor)) = c.unsigned_abs-k.ensures.value ∙ ap nat_abs z in
+    let near : c.unsigned_abs-k.result < s.window = search rules in
     let low : le_z (as_int (difference c.args.number s.state.anchor)) (pos 0) ≡ true = ap (λ (d : ℤ). le_z d (pos 0)) (sym z) ∙ c.if-d-le0.true in
     rw (c.behind.ensures c.args.number, k) (rw (case-vector s c.args.number (is-no s.state.any c.if-s-ne0.false) (eq-eqb s.rule vector_rule c.requires.1.1)
     ∙ in-past s.window s.state.history _ (forward c.args.number s.state.anchor) (rw k at near) low))

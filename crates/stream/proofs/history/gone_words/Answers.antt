@@ -11,7 +11,7 @@ overflow_add-n c =
     let a = c.args in
     let l = c.loop-i in
     let f : Fits w64 (get_or a.h l.i 0) = search rules in
-    let le = ones-span-le (value a.h) (64 * l.i + l.from) (a.w - a.d) l.invariant.1.0 in
+    let le = ones-span-le (value a.h) (64 * l.i + l.from) (a.shift.window - a.shift.up) l.invariant.1.0 in
     let more = ones-word-le (get_or a.h l.i 0) l.from f.fits in
     let n = l.invariant.1.1.1 in
     let e = c.count-n.ensures in
@@ -28,7 +28,7 @@ loop-i-preserved c =
         (
           omega arith,
           ap₂ (λ (n m : ℕ). n + m) l.invariant.1.1.1 c.count-n.ensures
-              ∙ count_word a.h (any-words 8 a.h (record { many = search rules; each = s })) s l.i l.from (a.w - a.d) l.invariant.0 l.invariant.1.0,
+              ∙ count_word a.h (any-words 8 a.h (record { many = search rules; each = s })) s l.i l.from (a.shift.window - a.shift.up) l.invariant.0 l.invariant.1.0,
         ),
       ),
     )
@@ -37,7 +37,7 @@ pub overflow_add-result : goal.overflow_add-result
 overflow_add-result c =
     let a = c.args in
     let l = c.loop-i in
-    let le = ones-span-le (value a.h) (64 * l.i + l.from) (a.w - a.d) l.invariant.1.0 in
+    let le = ones-span-le (value a.h) (64 * l.i + l.from) (a.shift.window - a.shift.up) l.invariant.1.0 in
     let f : Fits w64 c.cut.result = search rules in
     let more = ones-word-le c.cut.result l.from f.fits in
     let n = l.invariant.1.1.1 in
@@ -51,4 +51,4 @@ returns c =
     let s : Small a.h = λ i. let f : Fits w64 (get_or a.h i 0) = search rules in f.fits in
     let from : l.from ≡ (64 * l.i + l.from) % 64 = omega arith in
     ap₂ (λ (n m : ℕ). n + m) l.invariant.1.1.1 (c.count.ensures ∙ ap₂ (λ (x r : ℕ). count_ones (x / 2 ^ r)) c.cut.ensures from)
-    ∙ count-last a.h (any-words 8 a.h (record { many = search rules; each = s })) (64 * l.i + l.from) a.w a.d (omega arith) l.invariant.1.0 l.invariant.1.1.0 (omega arith)
+    ∙ count-last a.h (any-words 8 a.h (record { many = search rules; each = s })) (64 * l.i + l.from) a.shift.window a.shift.up (omega arith) l.invariant.1.0 l.invariant.1.1.0 (omega arith)

@@ -13,19 +13,19 @@ byte false = refl
 pub returns-then-d-n : goal.returns-then-d-n
 returns-then-d-n c =
     let a = c.args in
-    sym (leaving-none a.w a.d a.n a.h (omega arith) (omega arith) (omega arith))
+    sym (leaving-none a.shift.window a.shift.up a.n a.h (omega arith) (omega arith) (omega arith))
 
 pub returns-then-d-eq1 : goal.returns-then-d-eq1
 returns-then-d-eq1 c =
     let a = c.args in
-    let d : a.d ≡ 1 = omega arith in
+    let d : a.shift.up ≡ 1 = omega arith in
     let n : a.n ≡ 0 = omega arith in
-    rw (d, n, leaving-one a.w a.h) (c.from.ensures ∙ rw (c.has_bit.ensures) (byte (bit (a.w - 1) a.h)))
+    rw (d, n, leaving-one a.shift.window a.h) (c.from.ensures ∙ rw (c.has_bit.ensures) (byte (bit (a.shift.window - 1) a.h)))
 
 pub overflow_sub-from : goal.overflow_sub-from
 overflow_sub-from c =
     let a = c.args in
-    let le = set-le (a.w - a.n) (a.d - a.n) (value a.h) in
+    let le = set-le (a.shift.window - a.n) (a.shift.up - a.n) (value a.h) in
     let e = c.gone.ensures in
     let f = c.from-2.ensures in
     omega (arith, le, e, f)
@@ -33,4 +33,4 @@ overflow_sub-from c =
 pub returns : goal.returns
 returns c =
     let a = c.args in
-    c.from-3.ensures ∙ rw (c.from-2.ensures, c.gone.ensures) (sym (leaving-at-once a.w a.d a.n a.h (omega arith) (omega arith)))
+    c.from-3.ensures ∙ rw (c.from-2.ensures, c.gone.ensures) (sym (leaving-at-once a.shift.window a.shift.up a.n a.h (omega arith) (omega arith)))

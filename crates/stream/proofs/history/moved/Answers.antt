@@ -9,14 +9,14 @@ use Rattle.stream.proofs.history.moved.Goals as goal
 pub returns-then-w-le-WORD : goal.returns-then-w-le-WORD
 returns-then-w-le-WORD c =
     let a = c.args in
-    let v : ℕ = (value a.h * 2 ^ a.d) % 2 ^ a.w in
-    let less : a.w ≤ 64 = omega arith in
-    let small : v < 2 ^ 64 = lt_of_lt_of_le (mod-lt (value a.h * 2 ^ a.d) (pow_pos a.w)) (pow_mono less) in
-    ap (λ (x : ℕ). set (replicate 8 0) 0 x) (top_shift (get_or a.h 0 0) a.w a.d less ∙ first_alone a.h (any-words 8 a.h (record { many = search rules; each = λ i. let f : Fits w64 (get_or a.h i 0) = search rules in f.fits })) (omega arith) a.w a.d less (omega arith))
+    let v : ℕ = (value a.h * 2 ^ a.shift.up) % 2 ^ a.shift.window in
+    let less : a.shift.window ≤ 64 = omega arith in
+    let small : v < 2 ^ 64 = lt_of_lt_of_le (mod-lt (value a.h * 2 ^ a.shift.up) (pow_pos a.shift.window)) (pow_mono less) in
+    ap (λ (x : ℕ). set (replicate 8 0) 0 x) (top_shift (get_or a.h 0 0) a.shift.window a.shift.up less ∙ first_alone a.h (any-words 8 a.h (record { many = search rules; each = λ i. let f : Fits w64 (get_or a.h i 0) = search rules in f.fits })) (omega arith) a.shift.window a.shift.up less (omega arith))
     ∙ sym (one_word 7 v small)
 
 pub returns-then-d-lt-WORD : goal.returns-then-d-lt-WORD
 returns-then-d-lt-WORD c =
     let a = c.args in
-    c.cut_at.ensures ∙ ap (λ (l : List ℕ). words_of 8 (value l % 2 ^ a.w)) c.bits_up.ensures
-    ∙ cut_up 8 (value a.h * 2 ^ a.d) a.w (omega arith)
+    c.cut_at.ensures ∙ ap (λ (l : List ℕ). words_of 8 (value l % 2 ^ a.shift.window)) c.bits_up.ensures
+    ∙ cut_up 8 (value a.h * 2 ^ a.shift.up) a.shift.window (omega arith)

@@ -9,12 +9,12 @@ use Rattle.stream.proofs.history.places_up.Goals as goal
 pub loop-i-init : goal.loop-i-init
 loop-i-init c =
     let a = c.args in (
-      length-set (replicate 8 0) (a.d / 64) _,
+      length-set (replicate 8 0) (a.shift.up / 64) _,
       (
         below_more _ _
-            (λ k p. get_or-set_other (replicate 8 0) (a.d / 64) k _ 0 (λ e. omega arith) ∙ zeros-at 8 k ∙ sym (moved-below a.h a.d k p))
-            (get_or-set_same (replicate 8 0) (a.d / 64) _ 0 (omega arith) ∙ sym (moved-first a.h a.d)),
-        λ k p. get_or-set_other (replicate 8 0) (a.d / 64) k _ 0 (λ e. omega arith) ∙ zeros-at 8 k,
+            (λ k p. get_or-set_other (replicate 8 0) (a.shift.up / 64) k _ 0 (λ e. omega arith) ∙ zeros-at 8 k ∙ sym (moved-below a.h a.shift.up k p))
+            (get_or-set_same (replicate 8 0) (a.shift.up / 64) _ 0 (omega arith) ∙ sym (moved-first a.h a.shift.up)),
+        λ k p. get_or-set_other (replicate 8 0) (a.shift.up / 64) k _ 0 (λ e. omega arith) ∙ zeros-at 8 k,
       ),
     )
 
@@ -27,7 +27,7 @@ loop-i-preserved c =
       (
         below_more _ _
             (λ k p. get_or-set_other l.out l.i k _ 0 (λ e. omega arith) ∙ l.invariant.1.0 k p)
-            (get_or-set_same l.out l.i _ 0 here ∙ c.joined.ensures ∙ sym (moved-next a.h a.d l.i (omega arith))),
+            (get_or-set_same l.out l.i _ 0 here ∙ c.joined.ensures ∙ sym (moved-next a.h a.shift.up l.i (omega arith))),
         λ k p. get_or-set_other l.out l.i k _ 0 (λ e. omega arith) ∙ l.invariant.1.1 k (omega arith),
       ),
     )
@@ -37,6 +37,6 @@ returns c =
     let a = c.args in
     let l = c.loop-i in
     let o = any-words 8 a.h (record { many = search rules; each = λ i. let f : Fits w64 (get_or a.h i 0) = search rules in f.fits }) in
-    ap (set l.out ((a.w - 1) / 64)) c.cut.ensures
-    ∙ cut-words l.out (value a.h * 2 ^ a.d) a.w 8 l.invariant.0 (omega arith) (omega arith)
-    (λ k p. l.invariant.1.0 k (omega arith) ∙ sym (o.shift a.d k (omega arith)) ∙ words-at 8 (value a.h * 2 ^ a.d) k (omega arith)) (λ k p. l.invariant.1.1 k (omega arith))
+    ap (set l.out ((a.shift.window - 1) / 64)) c.cut.ensures
+    ∙ cut-words l.out (value a.h * 2 ^ a.shift.up) a.shift.window 8 l.invariant.0 (omega arith) (omega arith)
+    (λ k p. l.invariant.1.0 k (omega arith) ∙ sym (o.shift a.shift.up k (omega arith)) ∙ words-at 8 (value a.h * 2 ^ a.shift.up) k (omega arith)) (λ k p. l.invariant.1.1 k (omega arith))
