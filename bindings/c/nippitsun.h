@@ -29,9 +29,9 @@
 #include <stddef.h>
 #include <stdint.h>
 
-#define NIPPITSUN_VERSION "0.14.0"
+#define NIPPITSUN_VERSION "0.15.0"
 #define NIPPITSUN_VERSION_MAJOR 0
-#define NIPPITSUN_VERSION_MINOR 14
+#define NIPPITSUN_VERSION_MINOR 15
 #define NIPPITSUN_VERSION_PATCH 0
 
 #ifdef __cplusplus
