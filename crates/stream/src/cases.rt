@@ -126,7 +126,8 @@ fn link_up_far(last: u16, number: u16) -> bool
     last != 0 && (1..=127).contains(&steps)
 }
 
-// A virtual link: the history stays zero, and there is no rogue and nothing out of order.
+// A virtual link: the history stays zero, and there is no rogue and nothing out of order. (What it has in common with match is `taken`;
+// the test is another, and so is what is out of order.)
 #[tactic(auto, unfolding(crate::specs::Steps::weighed_as, crate::specs::Decisions::state_after, crate::specs::Decisions::losses, crate::specs::Decisions::out_of_order, crate::specs::Decisions::case_of, crate::specs::Decisions::link_case, record::specs::Words::yes))]
 pub fn by_link(s: Stream, number: u16) -> Weighed
     requires { (s.rule ≡ link_rule) × ((s.state.any == 0) ≡ true → s.state.anchor ≤ 255) }

@@ -69,7 +69,8 @@ fn short_after(h: [u64; 8], rule: u8, window: u16, m: Marks) -> [u64; 8]
     }
 }
 
-// Handed up, with the history after it.
+// Handed up, with the history after it. (Record, network and marks one by one, as the pages name them of `handed_up`; rule and window
+// go on to the history as fields, so that no record is copied around a call.)
 #[tactic(auto, unfolding(crate::specs::Decisions::tally))]
 fn up_with(s: Stream, network: u8, m: Marks, history: [u64; 8]) -> Stream
     ensures { result ≡ record_up s network m history }

@@ -28,6 +28,7 @@ pub struct Marks {
     pub bit: u16,
     pub anchor: u16,
     pub early: u16,
+    // A flag, since it raises a counter of its own.
     pub disorder: bool,
 }
 
@@ -81,7 +82,8 @@ pub fn closed(s: Stream) -> Stream
     Stream { used: 0, ..s }
 }
 
-// A rule, and with rule 3 no other VLAN id than 0.
+// A rule, and with rule 3 no other VLAN id than 0. (A rule is a number, which C fills: it is asked wherever each rule does something
+// else.)
 fn is_rule(rule: u8, vlan: u16) -> bool
     ensures { result ≡ (rule == vector_rule || rule == match_rule || (rule == link_rule && vlan == 0)) }
 {
