@@ -2,7 +2,10 @@
 // and "Decisions"). No public function has a condition on its caller: every bit pattern of a record is answered for.
 #![tactic(auto)]
 
+// What the module decides is the definitions' words, one for one: so its proofs look into them, and need little else.
+#[tactic(auto, unfolding(crate::specs::Steps::weighed_as, crate::specs::Decisions::case_of, crate::specs::Decisions::vector_case, crate::specs::Decisions::match_case, crate::specs::Decisions::link_case, crate::specs::Decisions::link_up, crate::specs::Decisions::link_steps, crate::specs::Decisions::state_after, crate::specs::Decisions::losses, crate::specs::Decisions::out_of_order, record::specs::Words::yes))]
 mod cases;
+#[tactic(auto, unfolding(crate::specs::Steps::history_after, crate::specs::Steps::short_after, crate::specs::Steps::record_after, crate::specs::Steps::record_short, crate::specs::Decisions::tally))]
 mod effects;
 mod history;
 mod number;
