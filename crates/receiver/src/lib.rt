@@ -28,7 +28,8 @@ use record::Stream;
 use refusal::Refusal;
 use stream::{Marks, Weighed};
 
-// The lowest slot whose record passes the test: the search stops at it and yields its place.
+// The lowest slot whose record passes the test: the search stops at it and yields its place. (A loop with break, as document 01 names
+// it for this place; the library's `position` counts the same.)
 fn find<F: Fn(Stream) -> bool>(t: &[Stream], passes: F) -> Option<usize>
     requires { F.IsAlwaysCallable passes }
     ensures { (p : Stream → Bool) → ((s : Stream) (r : Bool) → F.post passes s r → r ≡ p s) → result ≡ found p t.now }
@@ -253,7 +254,8 @@ pub fn arrival(
     calls::finish(judged, slot, tag, frame, out)
 }
 
-// Arrival of a virtual link (document 02, order 10): 1 to 4, 14, 6 to 8, in the same way.
+// Arrival of a virtual link (document 02, order 10): 1 to 4, 14, 6 to 8, in the same way. (Each step is another function, and what the
+// frame's reader gives another type: a trait with these four steps and their laws would be longer than the two.)
 pub fn link_arrival(
     t: &mut [Stream],
     network: u8,
@@ -369,7 +371,8 @@ pub fn rebuild(t: &[Stream], index: &mut [u8]) -> Result<(), Refusal>
     Ok(())
 }
 
-// Reset: 1, 12, then 7 only if the settings are out of range. Otherwise fresh state, resets rises.
+// Reset: 1, 12, then 7 only if the settings are out of range. Otherwise fresh state, resets rises. (The three steps of `close_in` with
+// another change in the middle: one function with the change as a parameter would be longer than the two.)
 pub fn reset(t: &mut [Stream], slot: usize) -> Result<(), Refusal>
     ensures { Meets t.old (resetting slot) (record { said = said_done result; table = t.new; output = [] }) }
 {
