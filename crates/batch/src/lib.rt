@@ -31,8 +31,8 @@ pub struct Batched {
     pub refusal: u8,
 }
 
-// Where a batch is.
-#[derive(Clone, Copy)]
+// Where a batch is. (Places and no slices: `next_frame` and `cursor_after` say them so, and the output is lent anew for each frame.)
+#[derive(Clone, Copy, Debug, PartialEq, Eq)]
 pub struct Cursor {
     // The place of the next frame's length.
     pub at: usize,
@@ -45,14 +45,14 @@ pub struct Cursor {
 }
 
 // The next frame: where it starts and ends, and from where on the output is its.
-#[derive(Clone, Copy)]
+#[derive(Clone, Copy, Debug, PartialEq, Eq)]
 pub struct Next {
     pub start: usize,
     pub end: usize,
     pub from: usize,
 }
 
-// The length that stands at a place.
+// The length that stands at a place. (`frame` reads a number so too: a function that asks for something is not public.)
 fn length_at(frames: &[u8], at: usize) -> usize
     requires { at + 2 ≤ length frames.now }
     ensures { (result ≡ word frames.now at) × (result < 65536) }
@@ -116,7 +116,7 @@ fn seek(c: Cursor, frames: &[u8], room: usize) -> Option<Next>
     })
 }
 
-// Behind the two length bytes, or at the end of the output where there is no room for them.
+// Behind the two length bytes, or at the end of the output where there is no room for them. (No `min`: the sum might not fit.)
 fn from_of(used: usize, room: usize) -> usize
     requires { used ≤ room }
     ensures { result ≡ from_of used room }
@@ -245,7 +245,7 @@ fn fill(
     Ok(c.frames)
 }
 
-// The call: 1, 18, 2, 15.
+// The call: 1, 18, 2, 15. (Its parameters are as the README names them, and as C passes them; so are those of `fill`.)
 pub fn batch(
     t: &mut [Stream],
     index: &[u8],

@@ -122,7 +122,7 @@ fn from_at<const AT: usize>(
 
 // From PRP: the tagged frame, at the start of out. No frame is both short and too long, so that the order of the first two tests
 // is open: like this the compiler knows the frame's length where it is written. Frame, kind and output come one by one, here and in
-// to_prp, since README names the two calls so and C passes them so.
+// to_prp, since README names the two calls so and C passes them so; so do the functions below them.
 #[tactic(auto, using(crate::proofs::Trailers::width_is))]
 pub fn from_prp(frame: &[u8], kind: Kind, out: &mut [u8]) -> Result<Turned, Refusal>
     ensures result_value { said_turned result ≡ (from_prp (trailer_of kind) frame.now out.old).said }

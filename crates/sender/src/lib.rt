@@ -30,7 +30,7 @@ pub struct Sending {
     pub answer: Result<Sent, Refusal>,
 }
 
-// A sender at first.
+// A sender at first. (A function and no `Default`: the pages and `CodeMeets` name it.)
 pub fn at_first() -> Sender
     ensures { result ≡ sender_at_first }
 {

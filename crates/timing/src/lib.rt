@@ -10,13 +10,14 @@ use stream::Weighed;
 
 // The record after an arrival, and what the arrival was to it.
 #[repr(C)]
-#[derive(Clone, Copy)]
+#[derive(Clone, Copy, Debug, PartialEq, Eq)]
 pub struct Decided {
     pub stream: Stream,
-    // 0 damaged, 1 handed up, 2 duplicate, 3 rogue.
+    // 0 damaged, 1 handed up, 2 duplicate, 3 rogue: a number, since it goes to C.
     pub verdict: u8,
 }
 
+// (No `From`: neither type is this crate's.)
 fn tell(w: Option<Weighed>) -> u8
     ensures { result ≡ tell w }
 {
