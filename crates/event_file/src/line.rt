@@ -86,7 +86,7 @@ fn priority(a: Arrived, to: &mut Writer)
 }
 
 // What a call answers where it does not refuse.
-trait Print {
+trait Worded {
     // What document 01 says of it.
     ghost said: { Self → Answer };
 
@@ -95,7 +95,7 @@ trait Print {
 }
 
 // The slot.
-impl Print for usize {
+impl Worded for usize {
     ghost said = { placed };
 
     fn print(self, to: &mut Writer) {
@@ -103,7 +103,7 @@ impl Print for usize {
     }
 }
 
-impl Print for () {
+impl Worded for () {
     ghost said = { λ _. done };
 
     fn print(self, to: &mut Writer) {
@@ -111,7 +111,7 @@ impl Print for () {
     }
 }
 
-impl Print for Arrived {
+impl Worded for Arrived {
     ghost said = { λ a. arrived a.slot a.number a.rank (said_verdict a.verdict) };
 
     fn print(self, to: &mut Writer) {
@@ -122,7 +122,7 @@ impl Print for Arrived {
     }
 }
 
-impl Print for Sums {
+impl Worded for Sums {
     ghost said = { λ s. swept s.resets s.damaged };
 
     fn print(self, to: &mut Writer) {
@@ -131,7 +131,7 @@ impl Print for Sums {
 }
 
 // What a call answers, or `no` and the number of its refusal.
-fn write_result<A: Print>(a: Result<A, Refusal>, to: &mut Writer)
+fn write_result<A: Worded>(a: Result<A, Refusal>, to: &mut Writer)
     ensures { Adds 68 (answer_of (said_by A.said a)) to.old to.new }
 {
     match a {

@@ -2,7 +2,7 @@
 use Rattle.std.proofs.Common.{sym}
 use Rattle.event_file.specs.Lines.{answer_of}
 use Rattle.event_file.proofs.Writing.{adds_joined, adds_within}
-use Rattle.event_file.proofs.line.ArrivedPrint.print.Goals as goal
+use Rattle.event_file.proofs.line.ArrivedWorded.print.Goals as goal
 
 pub returns : goal.returns
 unfolding answer_of

@@ -2,7 +2,7 @@
 use Rattle.std.proofs.Common.{arith, refl}
 use Rattle.event_file.specs.Lines.{answer_of}
 use Rattle.event_file.proofs.Writing.{adds_within}
-use Rattle.event_file.proofs.line.UnitPrint.print.Goals as goal
+use Rattle.event_file.proofs.line.UnitWorded.print.Goals as goal
 
 pub returns : goal.returns
 unfolding answer_of
