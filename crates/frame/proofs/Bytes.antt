@@ -1,25 +1,14 @@
 -- Laws of `overlay`. Assumes nothing.
-use mathlib.Core.Path.{◌≡◌, refl, ap, ◌∙◌}
-use mathlib.Core.List.{List, [], ◌∷◌, ◌++◌, append_assoc, append-nil}
-use Prim.Native.Nat.{ℕ, zero, suc, ◌+◌, ◌-◌, ◌<◌}
-use native.Mathlib.Nat.{le_of_suc-le-suc, not-suc-le-zero, le_of_eq}
-use lib.ListN.{length, take, drop, get_or, set, length-append, length-drop, drop_of_length-le}
-use native.Mathlib.Numerals.{add-one}
+use mathlib.Core.Path.{◌≡◌, ap, ◌∙◌}
+use mathlib.Core.List.{List, [], ◌++◌, append_assoc, append-nil}
+use Prim.Native.Nat.{ℕ, ◌-◌}
+use native.Mathlib.Nat.{le_of_eq}
+use lib.ListN.{length, take, drop, length-append, length-drop, drop_of_length-le}
 use lib.Seq.{take_all, take-length, take-append_seam, drop-append_seam, drop-drop}
 use borrow.Rule.Slice.PartMut.{mid_of, put_mid}
 use Rattle.frame.specs.Bytes.{overlay}
 
--- one byte more of a copy
-pub store : (src dst : List ℕ) (i : ℕ) → i < length src → i < length dst → set (take i src ++ drop i dst) i (get_or src i 0) ≡ take (suc i) src ++ drop (suc i) dst
-store [] dst i h k = absurd (not-suc-le-zero h)
-store (x ∷ xs) [] i h k = absurd (not-suc-le-zero k)
-store (x ∷ xs) (y ∷ ys) zero h k = refl
-store (x ∷ xs) (y ∷ ys) (suc i) h k = ap (λ (l : List ℕ). x ∷ l) (store xs ys i (le_of_suc-le-suc h) (le_of_suc-le-suc k))
-
--- the same, as a turn of the copy's loop has it, and at the loop's end
-pub copy_step : (src old : List ℕ) {now : List ℕ} (i : ℕ) → now ≡ take i src ++ drop i old → i < length src → i < length old → set now i (get_or src i 0) ≡ take (i + 1) src ++ drop (i + 1) old
-copy_step src old i e h k = rw (e, add-one) (store src old i h k)
-
+-- at the end of a loop that copies byte by byte
 pub copy-end : (src old : List ℕ) {now : List ℕ} (i : ℕ) → now ≡ take i src ++ drop i old → i ≡ length src → now ≡ overlay src old
 unfolding overlay
 copy-end src old i e h = e ∙ rw (h, take-length)

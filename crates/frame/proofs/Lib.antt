@@ -1,6 +1,5 @@
 -- The laws that other crates may cite: of bytes, of headers, of the two tag calls, and what document 01 says of a frame.
 pub mod Bytes
-pub mod Joined
 pub mod Heads
 pub mod Writes
 pub mod Words

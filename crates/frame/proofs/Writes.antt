@@ -2,7 +2,6 @@
 use mathlib.Core.Path.{◌≡◌, refl, sym, ap, ◌∙◌}
 use Prim.Native.Nat.{ℕ, ◌+◌, ◌-◌, ◌≤◌, ◌<◌}
 use native.Mathlib.Omega.{arith}
-use native.Mathlib.Decide.{dec_lt}
 use mathlib.Core.Bool.{Bool, true, false, cond, ◌&&◌, ◌||◌}
 use mathlib.Core.List.{List}
 use lib.ListN.{length, length-append, length-take, length-drop}
@@ -52,15 +51,6 @@ module _ (f : List ℕ) (o : ℕ) (out : List ℕ) (place : type_place o ≡ tru
   unfolding written_with tag_fits
   with-fits n a b c = simp (place, le-leb _ _ a, le-leb _ _ b, le-leb _ _ c)
 
--- the same, once they are written at a place that is known
-pub without-done : (f : List ℕ) {o : ℕ} (p : ℕ) (out : List ℕ) {new : List ℕ} → o ≡ p → type_place p ≡ true → p + 6 ≤ length f → length f ≤ frame_most → length f ≤ length out + 6
-    → new ≡ overlay (cut_at f p) out → new ≡ written_without f o out
-without-done f p out e k a b c w = w ∙ sym (without-fits f p out k a b c) ∙ ap (λ (o : ℕ). written_without f o out) (sym e)
-
-pub with-done : (f : List ℕ) {o : ℕ} (p n : ℕ) (out : List ℕ) {new : List ℕ} → o ≡ p → type_place p ≡ true → p ≤ length f → length f ≤ untagged_most → length f + 6 ≤ length out
-    → new ≡ overlay (tag_at f p n) out → new ≡ written_with f o n out
-with-done f p n out e k a b c w = w ∙ sym (with-fits f p out k n a b c) ∙ ap (λ (o : ℕ). written_with f o n out) (sym e)
-
 -- they don't: each reason by itself
 pub and_no : (a : Bool) → a && false ≡ false
 and_no true = refl
@@ -74,10 +64,6 @@ module _ (f : List ℕ) (o : ℕ) (out : List ℕ) where
   pub without-cut : length f < o + 6 → out ≡ written_without f o out
   unfolding written_without cut_fits
   without-cut h = simp (lt-leb _ _ h, and_no (type_place o))
-
-  -- no tag fits into so short a frame, wherever it stands
-  pub without-none : length f < 18 → out ≡ written_without f o out
-  without-none h = elim (dec_lt o 12) [ yes p ↦ without-elsewhere (λ e. omega arith) (λ e. omega arith) | no p ↦ without-cut (omega arith) ]
 
   pub without-long : frame_most < length f → out ≡ written_without f o out
   unfolding written_without cut_fits
@@ -94,9 +80,6 @@ module _ (f : List ℕ) (o : ℕ) (out : List ℕ) where
   pub with-cut : (n : ℕ) → length f < o → out ≡ written_with f o n out
   unfolding written_with tag_fits
   with-cut n h = simp (lt-leb _ _ h, and_no)
-
-  pub with_none : (n : ℕ) → length f < 12 → out ≡ written_with f o n out
-  with_none n h = elim (dec_lt o 12) [ yes p ↦ with-elsewhere n (λ e. omega arith) (λ e. omega arith) | no p ↦ with-cut n (omega arith) ]
 
   pub with-long : (n : ℕ) → untagged_most < length f → out ≡ written_with f o n out
   unfolding written_with tag_fits

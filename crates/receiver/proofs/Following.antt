@@ -12,7 +12,7 @@ use Rattle.record.specs.declared.Stream.{Stream}
 use Rattle.receiver.proofs.Lists.{some_and}
 use borrow.Author.Tests.{le-leb, lt-ltb, le-ltb, lt-leb}
 use Rattle.calls.specs.Table.{Table, at, blank, hears}
-use Rattle.std.specs.Prelude.{Option, Some, None, SomeIff}
+use Rattle.std.specs.Prelude.{Option, Some, None}
 use Rattle.calls.specs.declared.Key.{Key}
 use Rattle.index.specs.Index.{keyed, Index, places, home, named, walk, follow}
 use Rattle.receiver.specs.Seek.{name_in, named_at, place_as}
@@ -39,11 +39,6 @@ module _ (ix : Index) (from k : ℕ) where
       go : (v : ℕ) → get_or ix ((from + k) % places) 0 ≡ v → Some (x - 1) ≡ named_at ix from k
       go zero q = absurd (omega (arith, e, q, z))
       go (suc i) q = let f : x - 1 ≡ i = omega (arith, e, q) in rw (lt-leb places k l, q) (ap Some f)
-
-  -- a value less one, where it is not 0
-  pub name-made : {x : ℕ} (r : Option ℕ) → k < places → x ≡ get_or ix ((from + k) % places) 0 → SomeIff r (1 ≤ x) (x - 1) → r ≡ named_at ix from k
-  name-made None l e none = name-empty l e (omega (arith, none))
-  name-made (Some i) l e some = ap Some some.1 ∙ name-slot l e (omega (arith, some.0))
 
 -- beyond the table no slot has a key
 pub not_beyond : (dest vlan : ℕ) (link : Bool) (t : Table) (i : ℕ) → length t ≤ i → false ≡ hears link dest vlan (get_or t i blank)

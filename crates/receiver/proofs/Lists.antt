@@ -19,9 +19,6 @@ drop_past [] (suc i) h = refl
 drop_past (x ∷ xs) zero h = absurd (not-suc-le-zero h)
 drop_past (x ∷ xs) (suc i) h = drop_past xs i (le_of_suc-le-suc h)
 
-pub from-0 : (k : ℕ) → 0 ≤ k
-from-0 k = omega arith
-
 pub one_more : (i : ℕ) → i + 1 ≡ suc i
 one_more i = omega arith
 

@@ -24,7 +24,6 @@ fn taken(anchor: u16, early: u16, disorder: bool) -> Weighed
 }
 
 // Vector, k behind the anchor. The anchor stays, so that the number itself is not looked at.
-#[tactic(auto, unfolding(crate::specs::Steps::weighed_as, crate::specs::Decisions::state_after, crate::specs::Decisions::losses, crate::specs::Decisions::out_of_order))]
 fn behind(s: Stream, k: u16) -> Weighed
     requires { k < window_most }
     ensures { (number : ℕ) → result ≡ weighed_as s number (if bit k s.state.history then again else late k) }
@@ -42,7 +41,6 @@ fn behind(s: Stream, k: u16) -> Weighed
 }
 
 // Vector, k ahead of the anchor.
-#[tactic(auto, unfolding(crate::specs::Steps::weighed_as, crate::specs::Decisions::state_after, crate::specs::Decisions::losses, crate::specs::Decisions::out_of_order))]
 fn ahead(s: Stream, number: u16, k: u16) -> Weighed
     requires { (1 ≤ k) × ((k < s.window) × (s.window ≤ window_most)) }
     ensures { result ≡ weighed_as s number (next k) }
@@ -63,7 +61,6 @@ fn ahead(s: Stream, number: u16, k: u16) -> Weighed
 }
 
 // Vector. The two rogue tests come before the history is looked at, so that its bits are asked for within the window only.
-#[tactic(auto, unfolding(crate::specs::Steps::weighed_as, crate::specs::Decisions::state_after, crate::specs::Decisions::losses, crate::specs::Decisions::out_of_order, crate::specs::Decisions::case_of, crate::specs::Decisions::vector_case, record::specs::Words::yes))]
 pub fn by_vector(s: Stream, number: u16) -> Weighed
     requires { (window_least ≤ s.window) × ((s.window ≤ window_most) × (s.rule ≡ vector_rule)) }
     ensures { result ≡ weighed_as s number (case_of s number) }
@@ -85,7 +82,6 @@ pub fn by_vector(s: Stream, number: u16) -> Weighed
 }
 
 // Match: the history stays zero, and there is no rogue.
-#[tactic(auto, unfolding(crate::specs::Steps::weighed_as, crate::specs::Decisions::state_after, crate::specs::Decisions::losses, crate::specs::Decisions::out_of_order, crate::specs::Decisions::case_of, crate::specs::Decisions::match_case, record::specs::Words::yes))]
 pub fn by_match(s: Stream, number: u16) -> Weighed
     requires { ((s.rule == vector_rule) ≡ false) × ((s.rule == link_rule) ≡ false) }
     ensures { result ≡ weighed_as s number (case_of s number) }
@@ -102,7 +98,6 @@ pub fn by_match(s: Stream, number: u16) -> Weighed
 
 // A virtual link: is a number handed up after the last one? Among 1 to 255 the steps forward are counted in a ring of 255, and
 // after 0 from 0 on. Both are bytes, so that this needs no division.
-#[tactic(auto, unfolding(crate::specs::Decisions::link_up, crate::specs::Decisions::link_steps))]
 fn link_up(last: u16, number: u16) -> bool
     requires { last ≤ 255 }
     ensures { result ≡ link_up last number }
@@ -117,7 +112,6 @@ fn link_up(last: u16, number: u16) -> bool
 
 // The same of a number that no frame has, as the definition counts: `weigh` takes any. (Where the number is read from a frame the
 // compiler knows that it is a byte, and leaves this out.)
-#[tactic(auto, unfolding(crate::specs::Decisions::link_up, crate::specs::Decisions::link_steps))]
 fn link_up_far(last: u16, number: u16) -> bool
     requires { (last ≤ 255) × (255 < number) }
     ensures { result ≡ link_up last number }
@@ -126,8 +120,8 @@ fn link_up_far(last: u16, number: u16) -> bool
     last != 0 && (1..=127).contains(&steps)
 }
 
-// A virtual link: the history stays zero, and there is no rogue and nothing out of order.
-#[tactic(auto, unfolding(crate::specs::Steps::weighed_as, crate::specs::Decisions::state_after, crate::specs::Decisions::losses, crate::specs::Decisions::out_of_order, crate::specs::Decisions::case_of, crate::specs::Decisions::link_case, record::specs::Words::yes))]
+// A virtual link: the history stays zero, and there is no rogue and nothing out of order. (What it has in common with match is `taken`;
+// the test is another, and so is what is out of order.)
 pub fn by_link(s: Stream, number: u16) -> Weighed
     requires { (s.rule ≡ link_rule) × ((s.state.any == 0) ≡ true → s.state.anchor ≤ 255) }
     ensures { result ≡ weighed_as s number (case_of s number) }

@@ -37,7 +37,6 @@ fn arrived(c: Counts, network: u8) -> Counts
 }
 
 // The history after marks. That of a match record stays, and so does one that the marks do not fit.
-#[tactic(auto, unfolding(crate::specs::Steps::history_after))]
 fn history_after(h: [u64; 8], rule: u8, window: u16, m: Marks) -> [u64; 8]
     ensures { result ≡ history_after rule window m h }
 {
@@ -54,7 +53,6 @@ fn history_after(h: [u64; 8], rule: u8, window: u16, m: Marks) -> [u64; 8]
 
 // The same for a window of at most a word: the first word alone is read and written. Two functions and not one with a parameter: what
 // they have in common is `fits`, and they differ in the function that they call.
-#[tactic(auto, unfolding(crate::specs::Steps::short_after))]
 fn short_after(h: [u64; 8], rule: u8, window: u16, m: Marks) -> [u64; 8]
     ensures { result ≡ short_after rule window m h }
 {
@@ -69,8 +67,8 @@ fn short_after(h: [u64; 8], rule: u8, window: u16, m: Marks) -> [u64; 8]
     }
 }
 
-// Handed up, with the history after it.
-#[tactic(auto, unfolding(crate::specs::Decisions::tally))]
+// Handed up, with the history after it. (Record, network and marks one by one, as the pages name them of `handed_up`; rule and window
+// go on to the history as fields, so that no record is copied around a call.)
 fn up_with(s: Stream, network: u8, m: Marks, history: [u64; 8]) -> Stream
     ensures { result ≡ record_up s network m history }
 {
@@ -93,7 +91,6 @@ fn up_with(s: Stream, network: u8, m: Marks, history: [u64; 8]) -> Stream
     }
 }
 
-#[tactic(auto, unfolding(crate::specs::Steps::record_after))]
 pub fn handed_up(s: Stream, network: u8, m: Marks) -> Stream
     ensures { result ≡ record_after s network (Some (Weighed.HandedUp m)) }
 {
@@ -103,7 +100,6 @@ pub fn handed_up(s: Stream, network: u8, m: Marks) -> Stream
 
 // The same where the window is at most a word: of the history the first word alone is new, so that a caller who stores the
 // record stores no more of it.
-#[tactic(auto, unfolding(crate::specs::Steps::record_short))]
 pub fn handed_up_short(s: Stream, network: u8, m: Marks) -> Stream
     ensures { result ≡ record_short s network m }
 {
@@ -111,7 +107,6 @@ pub fn handed_up_short(s: Stream, network: u8, m: Marks) -> Stream
     up_with(s, network, m, history)
 }
 
-#[tactic(auto, unfolding(crate::specs::Steps::record_after, crate::specs::Decisions::tally))]
 pub fn duplicate(s: Stream, network: u8) -> Stream
     ensures { result ≡ record_after s network (Some Weighed.Duplicate) }
 {
@@ -122,7 +117,6 @@ pub fn duplicate(s: Stream, network: u8) -> Stream
     Stream { counts, ..s }
 }
 
-#[tactic(auto, unfolding(crate::specs::Steps::record_after, crate::specs::Decisions::tally))]
 pub fn rogue(s: Stream, network: u8) -> Stream
     ensures { result ≡ record_after s network (Some Weighed.Rogue) }
 {

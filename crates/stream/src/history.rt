@@ -1,6 +1,7 @@
 // The history of a vector record: bit k stands for the number anchor - k. This file alone knows how a history is held:
 // eight words of 64 bits, the lowest first. Words are named by constant places wherever the common cases go, since a place
-// that is computed would keep the whole record in memory; and a window of at most a word has a short way.
+// that is computed would keep the whole record in memory; and a window of at most a word has a short way. (Document 01 names the form:
+// an array by value of eight words in the record, shifted across words and tested bit by bit.)
 // A place is a number below 512 and has no type of its own: the callers have it from a record or from marks, which C and other
 // crates fill, and would make the type only to take it apart again.
 ghost use Rattle.std.specs.Prelude.{◌≡◌, ◌+◌, ◌-◌, ◌*◌, ◌/◌, ◌%◌, ◌^◌, ◌<◌, ◌≤◌, bit_or, count_ones, fold, ◌↔◌, IsTrue, EachIndex, slice_index};

@@ -2,7 +2,10 @@
 // and "Decisions"). No public function has a condition on its caller: every bit pattern of a record is answered for.
 #![tactic(auto)]
 
+// What the module decides is the definitions' words, one for one: so its proofs look into them, and need little else.
+#[tactic(auto, unfolding(crate::specs::Steps::weighed_as, crate::specs::Decisions::case_of, crate::specs::Decisions::vector_case, crate::specs::Decisions::match_case, crate::specs::Decisions::link_case, crate::specs::Decisions::link_up, crate::specs::Decisions::link_steps, crate::specs::Decisions::state_after, crate::specs::Decisions::losses, crate::specs::Decisions::out_of_order, record::specs::Words::yes))]
 mod cases;
+#[tactic(auto, unfolding(crate::specs::Steps::history_after, crate::specs::Steps::short_after, crate::specs::Steps::record_after, crate::specs::Steps::record_short, crate::specs::Decisions::tally))]
 mod effects;
 mod history;
 mod number;
@@ -28,6 +31,7 @@ pub struct Marks {
     pub bit: u16,
     pub anchor: u16,
     pub early: u16,
+    // A flag, since it raises a counter of its own.
     pub disorder: bool,
 }
 
@@ -81,7 +85,8 @@ pub fn closed(s: Stream) -> Stream
     Stream { used: 0, ..s }
 }
 
-// A rule, and with rule 3 no other VLAN id than 0.
+// A rule, and with rule 3 no other VLAN id than 0. (A rule is a number, which C fills: it is asked wherever each rule does something
+// else.)
 fn is_rule(rule: u8, vlan: u16) -> bool
     ensures { result ≡ (rule == vector_rule || rule == match_rule || (rule == link_rule && vlan == 0)) }
 {
