@@ -18,6 +18,6 @@ pub fn home(key: Key) -> usize
 {
     let Key { dest, vlan, .. } = key;
     let low = dest % 4294967296 * 1234164911;
-    let high = (dest / 1048576 % 4294967296 + (vlan as u64) * 65536) * 557513737;
+    let high = (dest / 1048576 % 4294967296 + u64::from(vlan) * 65536) * 557513737;
     ((low + high) % 4294967296 / 33554432) as usize
 }

@@ -180,7 +180,7 @@ pub fn lawful(s: Stream) -> bool
 }
 
 // The first step of the decision: what an arrival is to the record. One that is not lawful has no verdict. It makes no record and
-// reads no counter.
+// reads no counter. (Each of the three asks for take-any itself: asked here once it took 5 instructions more of 326.)
 #[tactic(auto, unfolding(crate::specs::Steps::weighed))]
 pub fn weigh(s: Stream, number: u16) -> Option<Weighed>
     ensures { result ≡ weighed s number }

@@ -34,6 +34,7 @@ pub fn timing_decide(s: Stream, number: u16, network: u8) -> Decided
     ensures { result ≡ decided_of s number network }
 {
     let w = stream::weigh(s, number);
+    // Before the record: after it this took 338 instructions in place of 326.
     let verdict = tell(w);
     Decided {
         stream: stream::next(s, network, w),

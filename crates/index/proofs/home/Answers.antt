@@ -5,4 +5,4 @@ use Rattle.index.proofs.home.Goals as goal
 
 pub returns : goal.returns
 unfolding place_of mixed
-returns c = (refl, omega arith)
+returns c = (rw c.from.ensures refl, omega arith)
