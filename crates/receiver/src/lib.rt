@@ -229,7 +229,8 @@ fn refill(t: &[Stream], index: &mut [u8; PLACES])
 
 // ---- the calls
 // What a call comes to is `Meets`, and with an index `MeetsIndexed`, for every input. Each asks for 1 before it reads the table: a caller
-// whose length is far too great is answered, not overrun. Open, close and reset decide by value, and then store.
+// whose length is far too great is answered, not overrun. Open, close and reset decide by value, and then store. Their parameters are as
+// the README names them, and as C passes them.
 
 // Arrival: 1 to 8, and 14 behind 5. 1 to 5 and 14 are answered before the table is searched, and the room is known before
 // anything is marked.
@@ -313,9 +314,8 @@ fn open_in(
     Ok(slot)
 }
 
-// Open: 1, 18, 9, 10, 11. After a success the index is the rebuilt one; a refused open changes no byte of it. (Its parameters are as
-// the README names them, and as C passes them. It begins as `close` does: `as_mut_array` lends the places on, so that `unfit`, which
-// lends nothing, does not serve.)
+// Open: 1, 18, 9, 10, 11. After a success the index is the rebuilt one; a refused open changes no byte of it. (It begins as
+// `close` does: `as_mut_array` lends the places on, so that `unfit`, which lends nothing, does not serve.)
 pub fn open(
     t: &mut [Stream],
     index: &mut [u8],

@@ -136,6 +136,9 @@ pub vector-right : (rule window any n : ℕ) (h : History) → any ≡ 0 → rul
 unfolding right
 vector-right rule window any n h a r = rw (is-no any a, eq-eqb rule vector_rule r)
 
+pub not_plain : (s : Stream) → plain s ≡ false → lawful s ≡ false
+not_plain s e = halves s ∙ rw e
+
 pub plain-is : (s : Stream) → true ≡ yes s.used → true ≡ settled s → true ≡ leb s.state.remaining s.time
     → (z a : Bool) → eqb s.state.remaining 0 ≡ z → yes s.state.any ≡ a
     → plain s ≡ (beq z a && (if a then eqb s.state.anchor anchor_fresh else linked s.rule s.state.anchor))

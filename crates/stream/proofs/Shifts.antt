@@ -188,6 +188,10 @@ ones-span-le h at low p =
 pub ones-word-le : (x r : ℕ) → x < 2 ^ 64 → ones (x / 2 ^ r) ≤ 64
 ones-word-le x r p = ones-le 64 (x / 2 ^ r) (lt_of_le_of_lt (shr_le x r) p)
 
+pub ones_none : (h low : ℕ) → 0 ≡ ones (h % 2 ^ low / 2 ^ low)
+unfolding ones
+ones_none h low = ap ones (sym (div-eq_of_lt (mod-lt h (pow_pos low))))
+
 -- the same of a list of words
 module _ (h : List ℕ) (s : Small h) where
   pub first-up : (d : ℕ) → (get_or h 0 0 * 2 ^ (d % 64)) % 2 ^ 64 ≡ word_at (value h * 2 ^ d) (d / 64)

@@ -2,8 +2,8 @@
 // eight words of 64 bits, the lowest first. Words are named by constant places wherever the common cases go, since a place
 // that is computed would keep the whole record in memory; and a window of at most a word has a short way. (Document 01 names the form:
 // an array by value of eight words in the record, shifted across words and tested bit by bit.)
-// A place is a number below 512 and has no type of its own: the callers have it from a record or from marks, which C and other
-// crates fill, and would make the type only to take it apart again.
+// A place is a number below 512, and a shift within a word one below 64. Neither has a type of its own: the callers have them from a
+// record or from marks, which C and other crates fill, and would make the type only to take it apart again.
 ghost use Rattle.std.specs.Prelude.{◌≡◌, ◌+◌, ◌-◌, ◌*◌, ◌/◌, ◌%◌, ◌^◌, ◌<◌, ◌≤◌, bit_or, count_ones, fold, ◌↔◌, IsTrue, EachIndex, slice_index};
 ghost use Rattle.record.specs.Sizes.{window_most};
 ghost use Rattle.stream.specs.History.{value, words_of, is_empty, bit, within, set_bit, leaving, marked, marked_first};

@@ -145,7 +145,8 @@ fn is_plain(s: Stream) -> bool
 }
 
 // The other half: the history, and the places for older numbers, which are asked for last, since most often there are none. The
-// tests of take-any and of the rule stand apart, as in `is_plain`: joined they took 3 instructions more in a decision.
+// tests of take-any and of the rule stand apart, as in `is_plain`: joined they took 3 instructions more in a decision. (That the window
+// is within the sizes comes from `settled`: a type for it would be made from the record's number and taken apart again.)
 #[tactic(auto, unfolding(crate::specs::Steps::right, record::specs::Words::yes))]
 fn is_right(rule: u8, window: u16, any: u16, n: u16, h: [u64; 8]) -> bool
     requires { (window_least ≤ window) × (window ≤ window_most) }
