@@ -1,5 +1,6 @@
 // The places of the index (document 02, order 9), by value: what a place says, the test of a slot by the index alone, and a
-// slot entered. The walks over table and index are in lib.rt.
+// slot entered. The walks over table and index are in lib.rt. (That `from` is a place stands in three contracts here: a type for it,
+// with its invariant and the number taken out again, would be longer than the three.)
 ghost use Rattle.std.specs.Prelude.{◌≡◌, ◌+◌, ◌<◌, ◌^◌};
 ghost use Rattle.index.specs.Index.{places, probe};
 ghost use Rattle.receiver.specs.Seek.{named_at, holder_of, sure_from, sure_at, not_above, entered_as};
