@@ -1,10 +1,10 @@
 -- A tick of a table, record by record: the laws are goals of its loop. Assumes nothing.
 use mathlib.Core.Path.{◌≡◌, sym, ◌∙◌, ap}
-use Prim.Native.Nat.{ℕ, ◌+◌, ◌^◌, ◌<◌, ◌≤◌}
+use Prim.Native.Nat.{ℕ, ◌+◌, ◌^◌, ◌<◌}
 use native.Mathlib.Omega.{arith}
-use mathlib.Core.List.{[], ◌∷◌, ◌++◌, append_assoc, append-nil}
+use mathlib.Core.List.{[], ◌∷◌, ◌++◌, append_assoc}
 use lib.ListN.{length, get_or, set, take, drop}
-use lib.Seq.{take_all, length-take-le, drop-cons, get_or_at, set_at}
+use lib.Seq.{length-take-le, drop-cons, get_or_at, set_at}
 use Rattle.std.proofs.lemmas.List.{take_more, get_or_default}
 use Rattle.std.proofs.Common.{add-one}
 use Rattle.record.specs.declared.Stream.{Stream}
@@ -13,19 +13,12 @@ use Rattle.calls.specs.Ticks.{sums, ticked_all, visited}
 use Rattle.calls.specs.declared.Sums.{Sums}
 use Rattle.calls.specs.declared.Visited.{Visited}
 use Rattle.calls.proofs.Visits.{sums-snoc, ticked-nil, ticked-snoc, ticked-length}
-use Rattle.receiver.proofs.Lists.{drop_past}
 
 pub sweep-starts : (t : Table) → t ≡ ticked_all (take 0 t) ++ drop 0 t
 sweep-starts t = ap (λ (l : Table). l ++ t) (sym ticked-nil)
 
 -- the first i records had their tick, c are their sums, and zs is the table
 module _ (t zs : Table) (i : ℕ) (c : Sums) (counted : c ≡ sums (take i t)) (ticked : zs ≡ ticked_all (take i t) ++ drop i t) where
-  pub sweep-ended : length t ≤ i → (c ≡ sums t) × (zs ≡ ticked_all t)
-  sweep-ended h = (
-    counted ∙ ap sums (take_all i t h),
-    ticked ∙ (λ j. ticked_all (take_all i t h j) ++ drop_past t i h j) ∙ append-nil (ticked_all t),
-  )
-
   module _ (l : i < length t) where
     abbrev front : Table
     front = ticked_all (take i t)

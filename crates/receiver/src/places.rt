@@ -73,7 +73,7 @@ pub fn not_above(found: Option<usize>, i: usize) -> bool
 }
 
 // The first empty place from a place on, round the end. (A walk of its own beside `sure_from`'s: the two stop at other tests, and answer
-// other things. Both are asked of a place below 128 alone, which `home` gives.)
+// other things.)
 fn vacant_from(index: &[u8; PLACES], from: usize) -> usize
     requires { from < places }
     ensures { (result ≡ probe index.now places from) × (result < places) }

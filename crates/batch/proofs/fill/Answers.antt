@@ -31,9 +31,6 @@ loop-next-init c =
       agree = unfit-none a.index.now a.t.now _ c.unfit.ensures c.in_ok-unfit.was;
     }
 
-pub seek-requires : goal.seek-requires
-seek-requires c = let w = c.loop-next.invariant.whole in ((w.at, w.used), w.past)
-
 pub slice_bounds-arrive_by-count : goal.slice_bounds-arrive_by-count
 slice_bounds-arrive_by-count c = let n = c.in-Some.next in (framed _ _ _ n.start n.end n.from c.loop-next.invariant.whole (sym c.seek.ensures ∙ c.in-Some.is)).start
 
@@ -49,21 +46,12 @@ slice_bounds-arrive_by-count-in-Some c = let n = c.in-Some.next in (framed _ _ _
 pub slice_bounds-arrive_by-start-in-Some : goal.slice_bounds-arrive_by-start-in-Some
 slice_bounds-arrive_by-start-in-Some c = let n = c.in-Some.next in (framed _ _ _ n.start n.end n.from c.loop-next.invariant.whole (sym c.seek.ensures ∙ c.in-Some.is)).from
 
-pub arrive_by-answer-requires : goal.arrive_by-answer-requires
-arrive_by-answer-requires c = c.loop-next.invariant.agree.1
-
 pub put_length-requires : goal.put_length-requires
 put_length-requires c =
     let n = c.in-Some.next in
     let w = c.loop-next.invariant.whole in
     let sought = sym c.seek.ensures ∙ c.in-Some.is in
     adds_inside _ _ _ _ _ _ _ c.loop-next.answers n.start n.end n.from _ _ w sought (framed _ _ _ n.start n.end n.from w sought).from c.arrive_by-answer.ensures c.arrive_by-answer.auto.out refl
-
-pub offset_bounds-answers-c : goal.offset_bounds-answers-c
-offset_bounds-answers-c c =
-    let n = c.in-Some.next in
-    let f = framed _ _ _ n.start n.end n.from c.loop-next.invariant.whole (sym c.seek.ensures ∙ c.in-Some.is) in
-    omega (arith, f.few)
 
 pub bounds-answers-c : goal.bounds-answers-c
 bounds-answers-c c = let n = c.in-Some.next in (framed _ _ _ n.start n.end n.from c.loop-next.invariant.whole (sym c.seek.ensures ∙ c.in-Some.is)).few

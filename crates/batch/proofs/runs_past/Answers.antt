@@ -5,9 +5,6 @@ use Rattle.batch.specs.Batch.{runs_past}
 use Rattle.batch.proofs.Lengths.{past-nought, past-short, past-cut, past-kept}
 use Rattle.batch.proofs.runs_past.Goals as goal
 
-pub loop-init : goal.loop-init
-loop-init c = let e : c.args.count - 0 ≡ c.args.count = omega arith in ap (λ (n : ℕ). runs_past n c.args.frames.now) e
-
 pub returns-in_default : goal.returns-in_default
 returns-in_default c = past-short c.loop.rest.now _ (omega arith) c.in_default.ensures.cases ∙ c.loop.invariant
 

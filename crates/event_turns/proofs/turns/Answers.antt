@@ -1,5 +1,5 @@
 -- `event_turns::turns` meets its contract: its loop goes by turns, each with the answer to go on.
-use Rattle.std.proofs.Common.{◌≡◌, ◌+◌, [], refl, arith, rules, SFits, w32}
+use Rattle.std.proofs.Common.{◌≡◌, ◌+◌, [], refl, rules, SFits, w32}
 use Rattle.std.proofs.Math.Facts.{to_z-of_z}
 use Rattle.event_turns.specs.declared.Stand.TheVariants.{Going}
 use Rattle.event_turns.specs.Turns.{here}
@@ -31,16 +31,4 @@ loop-turn-preserved g c =
       in_order = t.ensures.at_le_to.0;
       within = t.ensures.at_le_to.1;
       gone = gone-on c.loop-turn.invariant.gone t.ensures.turned _ e;
-    }
-
-pub returns : goal.returns
-returns g c =
-    let onto : SFits w32 c.args.ends.onto = search rules in
-    record {
-      turns = c.loop-turn._turn;
-      stand = Going;
-      held = c.loop-turn.held;
-      gone = c.loop-turn.invariant.gone;
-      stops = rw (to_z-of_z onto) at c.finish-2.ensures;
-      all = λ _. omega arith;
     }

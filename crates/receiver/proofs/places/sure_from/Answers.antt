@@ -1,10 +1,7 @@
 -- `receiver::places::sure_from` meets its contract.
 use Rattle.std.proofs.Common.{inl, inr}
-use Rattle.receiver.proofs.Agreeing.{sure-start, sure-out, sure-hit, sure-empty, sure-above, sure-on}
+use Rattle.receiver.proofs.Agreeing.{sure-out, sure-hit, sure-empty, sure-above, sure-on}
 use Rattle.receiver.proofs.places.sure_from.Goals as goal
-
-pub loop-k-init : goal.loop-k-init
-loop-k-init c = sure-start c.args.index.now c.args.i c.args.from
 
 pub returns-then-name-i : goal.returns-then-name-i
 returns-then-name-i c = sure-hit c.args.index.now c.args.i c.args.from c.loop-k.k c.loop-k.invariant c.loop-k-test.true c.from-name.ensures c.if-name-i.true
