@@ -88,15 +88,8 @@ front_of {new} {old} {now} {at} {r} p =
 
 -- a writer for every place: with room it puts its bytes, and without it writes nothing
 module _ {new old now : List ℕ} (most at : ℕ) {r : ℕ} where
-  pub put-writes : at + most ≤ length old → Put new at old now r → Writes most new at old now r
-  put-writes h p = record { same = rw (le-leb _ _ h) p.same; place = rw (le-leb _ _ h) p.place; enough = λ _. p.room }
-
   pub writes-put : at + most ≤ length old → Writes most new at old now r → Put new at old now r
   writes-put h w = record { room = w.enough h; same = rw (le-leb _ _ h) at w.same; place = rw (le-leb _ _ h) at w.place }
-
--- what a writer that was lent this buffer has added
-pub adds_writes : (most : ℕ) {new now : List ℕ} {u v : Writer} → u.at + most ≤ length u.buf.now → Adds most new u v → now ≡ v.buf.now → Writes most new u.at u.buf.now now v.at
-adds_writes most {new} {now} {u} {v} h a e = put-writes most u.at h (rw e (a.put (omega (arith, a.short))))
 
 pub writes-coincide : WritesCoincide
 writes-coincide most new at old now other next behind a b = (a.same ∙ sym b.same, a.place ∙ sym b.place)
