@@ -68,7 +68,14 @@ module _ (e : ArrivalAnswer) where
   pub added-some : e.verdict ≡ 1 → added e ≡ 2 + e.length
   added-some h = simp (eq-eqb _ _ h)
 
+  pub added_none : (e.verdict ≡ 1 → ⊥) → added e ≡ 0
+  added_none h = simp (ne_eqb _ _ h)
+
   module _ (used : ℕ) (out : List ℕ) where
+    pub put_some : e.verdict ≡ 1 → set (set out used (e.length / 256 % 256)) (used + 1) (e.length % 256) ≡ length_put used e out
+    unfolding length_put
+    put_some h = simp (eq-eqb _ _ h)
+
     pub put-none : (e.verdict ≡ 1 → ⊥) → out ≡ length_put used e out
     unfolding length_put
     put-none h = simp (ne_eqb _ _ h)

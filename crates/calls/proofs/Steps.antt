@@ -1,7 +1,7 @@
 -- What the steps of a call come to, by the tests that the code makes. Assumes nothing.
 use Prim.Native.Nat.{ℕ, ◌≤◌, ◌<◌}
 use mathlib.Core.Path.{◌≡◌, refl, sym, ap, ◌∙◌}
-use mathlib.Core.Bool.{Bool, true, false, ◌&&◌}
+use mathlib.Core.Bool.{Bool, true, false, ◌&&◌, ◌||◌}
 use mathlib.Core.List.{List}
 use lib.Dec.{ltb}
 use borrow.Author.Tests.{lt-ltb, le-ltb}
@@ -19,7 +19,9 @@ use Rattle.refusal.specs.declared.Refusal.{Refusal}
 use Rattle.refusal.specs.declared.Refusal.TheVariants.{Table, Network, Damaged, Room, Taken, Full, Slot}
 use Rattle.stream.specs.Record.{settled, lawful, closed}
 use Rattle.stream.specs.Decisions as decisions
+use Rattle.stream.specs.declared.Marks.{Marks}
 use Rattle.stream.specs.declared.Weighed.{Weighed}
+use Rattle.stream.specs.declared.Weighed.TheVariants as weighs
 use Rattle.stream.specs.Steps.{weighed_as, weighed}
 use Rattle.calls.specs.Calls.{admitted}
 use Rattle.calls.specs.Steps.{begun, asked, judged, placing_of, close_change, reset_change}
@@ -129,16 +131,34 @@ module _ (s : Stream) (number : ℕ) (room : Bool) where
         go true r = ap (λ (b : Bool). if b then Ok w else Err Room) r ∙ granted-verdict r
         go false r = ap (λ (b : Bool). if b then Ok w else Err Room) r ∙ granted-small r
 
+  -- each verdict by itself
+  pub granted-up : {m : Marks} → weighed s number ≡ Some (weighs.HandedUp m) → room ≡ true → Ok (weighs.HandedUp m) ≡ judged s number room
+  granted-up e r = granted-verdict e r
+
+  pub granted-duplicate : weighed s number ≡ Some weighs.Duplicate → room ≡ true → Ok weighs.Duplicate ≡ judged s number room
+  granted-duplicate e r = granted-verdict e r
+
+  pub granted-rogue : weighed s number ≡ Some weighs.Rogue → room ≡ true → Ok weighs.Rogue ≡ judged s number room
+  granted-rogue e r = granted-verdict e r
+
 -- ---- place
+
+-- whether a key is taken, by the searches for it
+module _ (key link : Option ℕ) where
+  pub seen_here : is_some key ≡ true → true ≡ (is_some key || is_some link)
+  seen_here e = simp e
+
+  pub seen-there : {b : Bool} → is_some key ≡ false → b ≡ is_some link → b ≡ (is_some key || is_some link)
+  seen-there n e = e ∙ simp n
 
 module _ (key link free : Option ℕ) where
   pub place-taken : is_some key ≡ true → Err Taken ≡ placing_of key link free
   unfolding placing_of
-  place-taken e = simp e
+  place-taken e = rw (← seen_here key link e)
 
   pub place-link-taken : is_some key ≡ false → is_some link ≡ true → Err Taken ≡ placing_of key link free
   unfolding placing_of
-  place-link-taken n e = simp (n, e)
+  place-link-taken n e = rw (← seen-there key link n (sym e))
 
   pub place-free : is_some key ≡ false → is_some link ≡ false → ok_or free Full ≡ placing_of key link free
   unfolding placing_of

@@ -1,5 +1,5 @@
 -- Order 9: the tests that the code makes are the agreement's. Assumes nothing.
-use Prim.Native.Nat.{ℕ, zero, suc, ◌+◌, ◌-◌, ◌%◌, ◌≤◌, ◌<◌}
+use Prim.Native.Nat.{ℕ, zero, suc, ◌+◌, ◌-◌, ◌^◌, ◌%◌, ◌≤◌, ◌<◌}
 use mathlib.Core.Path.{◌≡◌, refl, ap, sym, ◌∙◌}
 use mathlib.Core.Bool.{Bool, true, false, not, ◌&&◌, ◌||◌, cond, false≢true, and-eq-true_iff}
 use native.Mathlib.Decide.{dec_lt}
@@ -148,7 +148,14 @@ module _ (ix : Index) (t : Table) (i : ℕ) where
 
 -- ---- all slots, of any test
 module _ (p : ℕ → Bool) where
+  pub none_yet : (n : ℕ) → (0 ≤ n) × (every_to p 0 ≡ true)
+  unfolding every_to
+  none_yet n = (omega arith, refl)
+
   module _ (n i : ℕ) where
+    pub all_pass : (i ≤ n) × (every_to p i ≡ true) → n ≤ i → true ≡ every_to p n
+    all_pass f h = let e : i ≡ n = (let a : i ≤ n = f.0 in omega (arith, a, h)) in sym (ap (every_to p) (sym e) ∙ f.1)
+
     pub one-more-passes : i < n → (i ≤ n) × (every_to p i ≡ true) → {r : Bool} → r ≡ p i → r ≡ true → (i + 1 ≤ n) × (every_to p (i + 1) ≡ true)
     unfolding every_to
     one-more-passes l f said y = (omega (arith, l), ap (every_to p) (one_more i) ∙ rw (f.1, sym said ∙ y))
@@ -214,6 +221,9 @@ every-gives p q g (suc n) h = let a = (and-eq-true_iff (every_to p n) (p n)).0 h
 pub all-sure-agree : (ix : Index) (t : Table) {ok : Bool} → ok ≡ sure_all ix t → ok ≡ true → true ≡ agrees ix t
 unfolding sure_all agrees
 all-sure-agree ix t e y = sym (every-gives (sure_in ix t) (agrees_at ix t) (sure-agrees ix t) (length t) (sym e ∙ y))
+
+pub slot_small : (t : Table) (i : ℕ) → i < length t → length t < 2 ^ 64 → i + 1 < 2 ^ 64
+slot_small t i l r = omega (arith, l, r)
 
 -- ---- the loop of `sure_from`: what is left from the k-th place on comes to what all comes to
 abbrev pub SureLeft : Index → (slot from k : ℕ) → Type 0
