@@ -16,6 +16,7 @@ use Rattle.calls.specs.Calls.{Call, Act, refuse, opens, closes, closing, act, ch
 use Rattle.calls.specs.Said.{said_done}
 use Rattle.calls.specs.Steps.{close_change, reset_change}
 use Rattle.record.specs.declared.Stream.{Stream}
+use Rattle.stream.specs.Record.{closed}
 use Rattle.record.specs.Words as words
 use Rattle.std.specs.Prelude.{Result, Ok, Err, if◌then◌else◌, not, ◌&&◌}
 use mathlib.Core.Logic.{◌⊎◌, inl, inr}
@@ -163,10 +164,6 @@ module _ (ix : indices.Index) (t : tables.Table) (r : Told) (said : told_unfit r
       go false p false q = absurd (let e : 0 ≡ INDEX = no ∙ rw (p, q) refl in omega (arith, e))
       go false p true q = (ltb-false slots_most (length t) p, q)
 
-pub sizes-refused : (ix : indices.Index) (t : tables.Table) (c : Call) {w : Said Answer} (refusal : Refusal) → sizes_unfit (length t) (length ix) ≡ Err refusal → w ≡ refused (number_of refusal)
-    → MeetsIndexed ix t c (record { said = w; table = t; index = ix })
-sizes-refused ix t c refusal said e = unfit-refused ix t (Err refusal) (sizes-refuse ix t refusal said) c refusal refl e
-
 pub good-size : (ix : indices.Index) (t : tables.Table) → indexed ix t ≡ true → length ix ≡ places
 good-size ix t h = ((indexed-is ix t).0 h).0
 
@@ -227,6 +224,15 @@ within n i used r {a} e = go (ltb i n) refl e
 pub close-within : (n i : ℕ) (s : Stream) {next : Stream} → close_change n i s ≡ Ok next → i < n
 unfolding close_change
 close-within n i s e = within n i s.used _ e
+
+-- and the record of a close that is not refused is the one in the slot, closed
+pub close-is : (n i : ℕ) (s : Stream) {next : Stream} → close_change n i s ≡ Ok next → next ≡ closed s
+unfolding close_change
+close-is n i s {next} e = go (ltb i n && words.yes s.used) e
+  where
+    go : (b : Bool) → (if not b then Err refusals.Slot else Ok (closed s)) ≡ Ok next → next ≡ closed s
+    go true e = let f : Ok (closed s) ≡ Ok next = e in cc
+    go false e = let f : Err refusals.Slot ≡ Ok next = e in cc
 
 pub reset-within : (n i : ℕ) (s : Stream) {next : Stream} → reset_change n i s ≡ Ok next → i < n
 unfolding reset_change

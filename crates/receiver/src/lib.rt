@@ -314,8 +314,8 @@ fn open_in(
     Ok(slot)
 }
 
-// Open: 1, 18, 9, 10, 11. After a success the index is the rebuilt one; a refused open changes no byte of it. (It begins as
-// `close` does: `as_mut_array` lends the places on, so that `unfit`, which lends nothing, does not serve.)
+// Open: 1, 18, 9, 10, 11. After a success the index is the rebuilt one; a refused open changes no byte of it. (`unfit` lends
+// nothing on, so `as_mut_array` lends the places: an index that is not of 128 is refused before.)
 pub fn open(
     t: &mut [Stream],
     index: &mut [u8],
@@ -327,24 +327,23 @@ pub fn open(
 ) -> Result<usize, Refusal>
     ensures { MeetsIndexed index.old t.old (opening dest vlan rule window time) (record { said = said_opened result; table = t.new; index = index.new }) }
 {
-    table_fits(t)?;
+    unfit(t, index)?;
     let Some(places) = index.as_mut_array() else {
         return Err(Refusal::Index);
     };
-    differs(agreed(t, places))?;
     let slot = open_in(t, places, dest, vlan, rule, window, time)?;
     refill(t, places);
     Ok(slot)
 }
 
 // The close as without the index: 12. The slot becomes free; its other fields stay. A damaged record can be closed. (It asks for 1
-// once more, as `reset` does.)
+// once more, as `reset` does. The record is read again, as in `decide_at`: out of the answer it would be copied whole, there and back.)
 fn close_in(t: &mut [Stream], slot: usize) -> Result<(), Refusal>
     ensures { Meets t.old (closing slot) (record { said = said_done result; table = t.new; output = [] }) }
 {
     table_fits(t)?;
-    let s = calls::close(t.len(), slot, record_at(t, slot))?;
-    t[slot] = s;
+    calls::close(t.len(), slot, record_at(t, slot))?;
+    t[slot] = stream::closed(t[slot]);
     Ok(())
 }
 
@@ -352,11 +351,10 @@ fn close_in(t: &mut [Stream], slot: usize) -> Result<(), Refusal>
 pub fn close(t: &mut [Stream], index: &mut [u8], slot: usize) -> Result<(), Refusal>
     ensures { MeetsIndexed index.old t.old (closing slot) (record { said = said_done result; table = t.new; index = index.new }) }
 {
-    table_fits(t)?;
+    unfit(t, index)?;
     let Some(places) = index.as_mut_array() else {
         return Err(Refusal::Index);
     };
-    differs(agreed(t, places))?;
     close_in(t, slot)?;
     refill(t, places);
     Ok(())
