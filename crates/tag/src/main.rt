@@ -3,7 +3,8 @@
 #![tactic(auto)]
 
 use record::Stream;
-use std::io::{Read, Write};
+use std::io::Read;
+use std::os::fd::AsRawFd;
 
 fn main(rt: HostRuntime) {
     let mut input = [0; Stream::FRAME_MOST];
@@ -14,6 +15,7 @@ fn main(rt: HostRuntime) {
     let Ok(length) = frame::write_tag(&input[..n], 7, &mut out) else {
         return;
     };
-    // A write that fails is told to nobody: the status is always 0.
-    let _ = rt.stdout().write_all(&out[..length]);
+    // A write that fails is told to nobody: the status is always 0. (By the kit's `io`, as `events` writes: one that a signal interrupts
+    // before a byte has moved counts as failed, and std's `write_all` would try it again.)
+    io::write_all(rt.stdout().as_raw_fd(), &out[..length]);
 }
