@@ -68,16 +68,21 @@ adds_nothing n w =
 
 -- a number of 64 bits, digit by digit
 module _ (n : ℕ) (h : n < 2 ^ 64) where
-  pub adds_small : {u v : Writer} → n < 10 → Adds 1 (digit n ∷ []) u v → Adds 20 (decimal_of n) u v
-  adds_small s x = let e : 48 + n ≡ digit n = omega arith in adds_within 20 (omega arith) (decimal-small n s ∙ ap (λ (d : ℕ). d ∷ []) e) x
+  pub adds_small : {u v : Writer} → n < 10 → Adds 1 ((48 + n) ∷ []) u v → Adds 20 (decimal_of n) u v
+  adds_small s x = adds_within 20 (omega arith) (decimal-small n s) x
 
-  pub adds_both : {u v : Writer} → n < 100 → 10 ≤ n → Adds 2 (digit (n / 10) ∷ (digit n ∷ [])) u v → Adds 20 (decimal_of n) u v
-  adds_both s l x = adds_within 20 (omega arith) (decimal-both n s l) x
+  module _ {at r : ℕ} {old now : List ℕ} where
+    pub digits-both : n < 100 → 10 ≤ n → (at + 2 ≤ length old → Put (digit (n / 10) ∷ (digit n ∷ [])) at old now r) → at + length (decimal_of n) ≤ length old → Put (decimal_of n) at old now r
+    digits-both s l x k = rw (decimal-both n s l) (x (omega (arith, ap length (decimal-both n s l))))
 
-  pub adds_large : {u v w : Writer} → 100 ≤ n → Adds 20 (decimal_of (n / 100)) u v → Adds 2 (digit (n / 10) ∷ (digit n ∷ [])) v w → Adds 20 (decimal_of n) u w
-  adds_large l x y =
-      let j = adds_joined x y in
-      rw (decimal-two n h l) (record { short = omega (arith, ap length (decimal-two n h l), decimal-most n h); put = j.put; lent = j.lent })
+    pub digits-large : {m : ℕ} {mid : List ℕ} → 100 ≤ n → (at + length (decimal_of (n / 100)) ≤ length old → Put (decimal_of (n / 100)) at old mid m)
+        → (m + 2 ≤ length mid → Put (digit (n / 10) ∷ (digit n ∷ [])) m mid now r) → at + length (decimal_of n) ≤ length old → Put (decimal_of n) at old now r
+    digits-large l x y k =
+        let e = ap length (decimal-two n h l) in
+        let f = length-append (decimal_of (n / 100)) (digit (n / 10) ∷ (digit n ∷ [])) in
+        let p = x (omega (arith, e, f)) in
+        let g = ap length p.same ∙ length-written at (decimal_of (n / 100)) old p.room in
+        rw (decimal-two n h l) (joined p (y (omega (arith, e, f, g, p.place))))
 
 -- what stands before the answered place
 pub front_of : {new old now : List ℕ} {at r : ℕ} → Put new at old now r → take r now ≡ take at old ++ new

@@ -28,41 +28,40 @@ pub const LINE: usize = 92;
 
 pub const LAST: usize = 4;
 
-// A refusal's number as it is printed. (Document 01, "Which form goes where": a match on refusal numbers for printing.)
+// A refusal's number as it is printed. (Document 01, "Which form goes where": a match on refusal numbers for printing. Each arm
+// writes its own bytes, since a text of known length is a store or two, and one of unknown length a call of memcpy.)
 #[tactic(auto, unfolding(crate::specs::Text::decimal_of, crate::specs::Text::digits_of))]
-fn in_digits(refusal: Refusal) -> &'static [u8]
-    ensures value { result.now ≡ decimal_of (number_of refusal) }
-    ensures short { length result.now ≤ 2 }
+fn in_digits(refusal: Refusal, to: &mut Writer)
+    ensures { Adds 2 (decimal_of (number_of refusal)) to.old to.new }
 {
     match refusal {
-        Refusal::Table => b"1",
-        Refusal::Network => b"2",
-        Refusal::Long => b"3",
-        Refusal::Short => b"4",
-        Refusal::Untagged => b"5",
-        Refusal::Unknown => b"6",
-        Refusal::Damaged => b"7",
-        Refusal::Room => b"8",
-        Refusal::Setting => b"9",
-        Refusal::Taken => b"10",
-        Refusal::Full => b"11",
-        Refusal::Slot => b"12",
-        Refusal::Tagged => b"13",
-        Refusal::Group => b"14",
-        Refusal::Batch => b"15",
-        Refusal::Trailer => b"16",
-        Refusal::Index => b"18",
+        Refusal::Table => to.text(b"1"),
+        Refusal::Network => to.text(b"2"),
+        Refusal::Long => to.text(b"3"),
+        Refusal::Short => to.text(b"4"),
+        Refusal::Untagged => to.text(b"5"),
+        Refusal::Unknown => to.text(b"6"),
+        Refusal::Damaged => to.text(b"7"),
+        Refusal::Room => to.text(b"8"),
+        Refusal::Setting => to.text(b"9"),
+        Refusal::Taken => to.text(b"10"),
+        Refusal::Full => to.text(b"11"),
+        Refusal::Slot => to.text(b"12"),
+        Refusal::Tagged => to.text(b"13"),
+        Refusal::Group => to.text(b"14"),
+        Refusal::Batch => to.text(b"15"),
+        Refusal::Trailer => to.text(b"16"),
+        Refusal::Index => to.text(b"18"),
     }
 }
 
-fn verdict_word(v: Verdict) -> &'static [u8]
-    ensures value { result.now ≡ verdict_word (said_verdict v) }
-    ensures short { length result.now ≤ 5 }
+fn verdict_word(v: Verdict, to: &mut Writer)
+    ensures { Adds 5 (verdict_word (said_verdict v)) to.old to.new }
 {
     match v {
-        Verdict::HandedUp(_) => b"up",
-        Verdict::Duplicate => b"dup",
-        Verdict::Rogue => b"rogue",
+        Verdict::HandedUp(_) => to.text(b"up"),
+        Verdict::Duplicate => to.text(b"dup"),
+        Verdict::Rogue => to.text(b"rogue"),
     }
 }
 
@@ -115,7 +114,7 @@ impl Worded for Arrived {
     ghost said = { λ a. arrived a.slot a.number a.rank (said_verdict a.verdict) };
 
     fn print(self, to: &mut Writer) {
-        to.text(verdict_word(self.verdict));
+        verdict_word(self.verdict, to);
         to.text(b" ");
         pair(self.slot as u64, u64::from(self.number), to);
         priority(self, to);
@@ -138,7 +137,7 @@ fn write_result<A: Worded>(a: Result<A, Refusal>, to: &mut Writer)
         Ok(a) => a.print(to),
         Err(refusal) => {
             to.text(b"no ");
-            to.text(in_digits(refusal));
+            in_digits(refusal, to);
         }
     }
 }

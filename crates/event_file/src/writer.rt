@@ -1,8 +1,9 @@
 // Writing into a lent buffer: words and numbers, one behind the other. (`write!` and `Display` would do it through a
 // `fmt::Write`, and no clause of theirs says that a write succeeds, nor what stands in the buffer when it fails. What `say`
 // and `say_last` promise, `Writes`, says each byte for every buffer.)
-ghost use Rattle.std.specs.Prelude.{◌≤◌, length};
+ghost use Rattle.std.specs.Prelude.{◌+◌, ◌≤◌, length};
 ghost use Rattle.event_file.specs.Text.{decimal_of};
+ghost use Rattle.event_file.specs.Buffers.{Put};
 
 // A buffer, and the place in it where the next bytes go. Bytes that have no room behind it are left out.
 #[derive(Drop)]
@@ -27,17 +28,42 @@ impl Writer<'_> {
         self.at = end;
     }
 
-    // A number in decimal, two digits at a time: one at a time, `events` would take a tenth longer.
+    // A number in decimal. (One digit, as most slots and priorities have, asks for no call.)
     pub fn number(&mut self, n: u64)
         ensures { Adds 20 (decimal_of n) self.old self.new }
     {
-        let last = b'0' + (n % 10) as u8;
         if n < 10 {
-            return self.text(&[last]);
+            return self.text(&[b'0' + n as u8]);
         }
-        if n >= 100 {
-            self.number(n / 100);
-        }
-        self.text(&[b'0' + (n / 10 % 10) as u8, last]);
+        self.at = digits(n, self.buf, self.at);
     }
+}
+
+// Bytes at a place of a buffer, if they have room there, and the place behind them.
+fn put(text: &[u8], buf: &mut [u8], at: usize) -> usize
+    requires { at ≤ length buf.old }
+    ensures put { at + length text.now ≤ length buf.old → Put text.now at buf.old buf.new result }
+    ensures within { result ≤ length buf.old }
+{
+    let mut to = Writer { buf, at };
+    to.text(text);
+    to.at
+}
+
+// The digits of a number, two at a time: one at a time, `events` would take a tenth longer. It takes a place and answers one, and takes
+// no writer: one that is lent to a function that calls itself stays in memory, and is read again for each piece.
+fn digits(n: u64, buf: &mut [u8], at: usize) -> usize
+    requires { at ≤ length buf.old }
+    ensures put { at + length (decimal_of n) ≤ length buf.old → Put (decimal_of n) at buf.old buf.new result }
+    ensures within { result ≤ length buf.old }
+{
+    if n < 10 {
+        return put(&[b'0' + n as u8], buf, at);
+    }
+    let two = [b'0' + (n / 10 % 10) as u8, b'0' + (n % 10) as u8];
+    if n < 100 {
+        return put(&two, buf, at);
+    }
+    let behind = digits(n / 100, buf, at);
+    put(&two, buf, behind)
 }

@@ -73,18 +73,22 @@ fn handle(table: &mut [Stream], body: &[u8], out: &mut [u8]) -> Option<Reply>
     ensures { Handled table.old body.now out.old table.new result out.new }
 {
     let event = event_file::reader::decode(body)?;
-    Some(match event {
-        Event::Open(s) => Reply::Open(open_here(table, event_file::reader::destination(body), s)),
-        Event::Close(slot) => Reply::Close(close_here(table, slot)),
-        Event::Reset(slot) => Reply::Reset(receiver::reset(table, slot)),
-        Event::Arrival(network) => Reply::Arrival(receiver::arrival(
+    match event {
+        Event::Open(s) => Some(Reply::Open(open_here(
+            table,
+            event_file::reader::destination(body),
+            s,
+        ))),
+        Event::Close(slot) => Some(Reply::Close(close_here(table, slot))),
+        Event::Reset(slot) => Some(Reply::Reset(receiver::reset(table, slot))),
+        Event::Arrival(network) => Some(Reply::Arrival(receiver::arrival(
             table,
             network,
             &body[2..],
             out,
-        )),
-        Event::Tick => Reply::Tick(receiver::tick(table)),
-    })
+        ))),
+        Event::Tick => Some(Reply::Tick(receiver::tick(table))),
+    }
 }
 
 // All records that can be answered: each is answered, and its line is noted.

@@ -4,6 +4,7 @@
 #![tactic(auto)]
 
 ghost use Rattle.std.specs.Prelude.{ℤ, IfSome, ◌≡◌, false, ◌+◌, ◌-◌, ◌≤◌, ◌<◌, length, take, drop};
+ghost use Rattle.event_file.specs.Files.{output};
 ghost use Rattle.std.specs.Io.KnownBytes.{ReadConsumes};
 ghost use Rattle.event_file.specs.Records.{read_at};
 ghost use Rattle.event_run.specs.Run.{Drained};
@@ -23,12 +24,11 @@ const INPUT: usize = 262144;
 
 const LINES: usize = 65536;
 
-// The buffers of a run: what was read and is still to be answered, the lines of a turn, and the output that each arrival gets.
+// The buffers of a run: what was read and is still to be answered, and the lines of a turn.
 #[derive(Drop)]
 struct Buffers {
     input: [u8; INPUT],
     lines: [u8; LINES],
-    out: [u8; Stream::FRAME_MOST],
 }
 
 // The descriptors of a run: the one that its reader names, and the one onto which its lines go. The reader and the buffers
@@ -150,14 +150,9 @@ struct Turn {
 
 // The records that can be answered, of the part of the input buffer that is held. (Of two fields that it lends at once a
 // caller is not told that they keep the length of their type: the last clause says it.)
-fn drain_to(
-    h: Held,
-    input: &[u8; INPUT],
-    lines: &mut [u8; LINES],
-    out: &mut [u8; Stream::FRAME_MOST],
-) -> Round
+fn drain_to(h: Held, input: &[u8; INPUT], lines: &mut [u8; LINES]) -> Round
     requires { (h.at ≤ h.to) × (h.to ≤ length input.now) }
-    ensures drained { Drained h.table (place_of h) (take h.to input.now) lines.old out.old result.table result.place lines.new }
+    ensures drained { Drained h.table (place_of h) (take h.to input.now) lines.old output result.table result.place lines.new }
     ensures at_le_to { (result.place.at ≤ h.to) × (result.place.used ≤ length lines.new) }
     ensures room { length lines.new ≡ LINES }
 {
@@ -166,7 +161,8 @@ fn drain_to(
         at: h.at,
         used: 0,
     };
-    event_run::drain8(h.table, place, &input[..h.to], lines, out)
+    let mut out = [0; Stream::FRAME_MOST];
+    event_run::drain8(h.table, place, &input[..h.to], lines, &mut out)
 }
 
 // Does a whole record stand there?
@@ -205,7 +201,7 @@ fn go_on<R: Read>(reader: &mut R, ends: Ends, h: Held, buffers: &mut Buffers) ->
     ensures turned { Turned ends.from ends.onto h buffers.old.input buffers.new.input buffers.new.lines result }
     ensures at_le_to { (result.held.at ≤ result.held.to) × (result.held.to ≤ length buffers.new.input) }
 {
-    let Round { table, place } = drain_to(h, &buffers.input, &mut buffers.lines, &mut buffers.out);
+    let Round { table, place } = drain_to(h, &buffers.input, &mut buffers.lines);
     let held = Held {
         table,
         number: place.number,
@@ -347,7 +343,6 @@ pub fn run<R: Read + AsRawFd>(from: &mut R, onto: i32) -> Over
     let mut buffers = Buffers {
         input: [0; INPUT],
         lines: [0; LINES],
-        out: [0; Stream::FRAME_MOST],
     };
     serve(from, ends, &mut buffers)
 }
