@@ -71,18 +71,27 @@ module _ (n : ℕ) (h : n < 2 ^ 64) where
   pub adds_small : {u v : Writer} → n < 10 → Adds 1 ((48 + n) ∷ []) u v → Adds 20 (decimal_of n) u v
   adds_small s x = adds_within 20 (omega arith) (decimal-small n s) x
 
-  module _ {at r : ℕ} {old now : List ℕ} where
-    pub digits-both : n < 100 → 10 ≤ n → (at + 2 ≤ length old → Put (digit (n / 10) ∷ (digit n ∷ [])) at old now r) → at + length (decimal_of n) ≤ length old → Put (decimal_of n) at old now r
-    digits-both s l x k = rw (decimal-both n s l) (x (omega (arith, ap length (decimal-both n s l))))
+-- the same, written from a place on where there is room for all of it: a number of two digits, one of more, and one of more than four
+pub digits-both : (n : ℕ) → n < 100 → 10 ≤ n → {at r : ℕ} {old now : List ℕ} → (at + 2 ≤ length old → Put (digit (n / 10) ∷ (digit n ∷ [])) at old now r)
+    → at + length (decimal_of n) ≤ length old → Put (decimal_of n) at old now r
+digits-both n s l x k = rw (decimal-both n s l) (x (omega (arith, ap length (decimal-both n s l))))
 
-    pub digits-large : {m : ℕ} {mid : List ℕ} → 100 ≤ n → (at + length (decimal_of (n / 100)) ≤ length old → Put (decimal_of (n / 100)) at old mid m)
-        → (m + 2 ≤ length mid → Put (digit (n / 10) ∷ (digit n ∷ [])) m mid now r) → at + length (decimal_of n) ≤ length old → Put (decimal_of n) at old now r
-    digits-large l x y k =
-        let e = ap length (decimal-two n h l) in
-        let f = length-append (decimal_of (n / 100)) (digit (n / 10) ∷ (digit n ∷ [])) in
-        let p = x (omega (arith, e, f)) in
-        let g = ap length p.same ∙ length-written at (decimal_of (n / 100)) old p.room in
-        rw (decimal-two n h l) (joined p (y (omega (arith, e, f, g, p.place))))
+pub digits-large : (n : ℕ) → n < 2 ^ 64 → 100 ≤ n → {at m r : ℕ} {old mid now : List ℕ} → (at + length (decimal_of (n / 100)) ≤ length old → Put (decimal_of (n / 100)) at old mid m)
+    → (m + 2 ≤ length mid → Put (digit (n / 10) ∷ (digit n ∷ [])) m mid now r) → at + length (decimal_of n) ≤ length old → Put (decimal_of n) at old now r
+digits-large n h l {at} {m} {r} {old} {mid} {now} x y k =
+    let e = ap length (decimal-two n h l) in
+    let f = length-append (decimal_of (n / 100)) (digit (n / 10) ∷ (digit n ∷ [])) in
+    let p = x (omega (arith, e, f)) in
+    let g = ap length p.same ∙ length-written at (decimal_of (n / 100)) old p.room in
+    rw (decimal-two n h l) (joined p (y (omega (arith, e, f, g, p.place))))
+
+pub digits-larger : (n : ℕ) → n < 2 ^ 64 → 10000 ≤ n → {at m k r : ℕ} {old mid half now : List ℕ} → (at + length (decimal_of (n / 10000)) ≤ length old → Put (decimal_of (n / 10000)) at old mid m)
+    → (m + 2 ≤ length mid → Put (digit (n / 100 / 10) ∷ (digit (n / 100) ∷ [])) m mid half k) → (k + 2 ≤ length half → Put (digit (n / 10) ∷ (digit n ∷ [])) k half now r)
+    → at + length (decimal_of n) ≤ length old → Put (decimal_of n) at old now r
+digits-larger n h l {at} {m} {k} {r} {old} {mid} {half} {now} x y z =
+    let e : n / 10000 ≡ n / 100 / 100 = omega arith in
+    let front : (at + length (decimal_of (n / 100 / 100)) ≤ length old → Put (decimal_of (n / 100 / 100)) at old mid m) = rw e at x in
+    digits-large n h (omega arith) (digits-large (n / 100) (omega arith) (omega arith) front y) z
 
 -- what stands before the answered place
 pub front_of : {new old now : List ℕ} {at r : ℕ} → Put new at old now r → take r now ≡ take at old ++ new

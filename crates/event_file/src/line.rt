@@ -5,7 +5,7 @@ ghost use Rattle.refusal.specs.Checks.Said.{answers};
 ghost use Rattle.calls.specs.Calls.{Answer, arrived, placed, done, swept};
 ghost use Rattle.calls.specs.Said.{said_verdict};
 ghost use Rattle.event_file.specs.Text.{decimal_of};
-ghost use Rattle.event_file.specs.Lines.{pair_of, verdict_word, priority_of, answer_of, line_of, last_line, letter_of, said_by, said_reply, said_told};
+ghost use Rattle.event_file.specs.Lines.{pair_of, verdict_word, priority_of, answer_of, line_of, told, last_line, letter_of, said_by, said_reply, said_told};
 ghost use Rattle.event_file.specs.Buffers.{Writes, line_most, last_most};
 ghost use Rattle.event_file.specs.Writer.{Adds};
 
@@ -31,6 +31,7 @@ pub const LAST: usize = 4;
 // A refusal's number as it is printed. (Document 01, "Which form goes where": a match on refusal numbers for printing. Each arm
 // writes its own bytes, since a text of known length is a store or two, and one of unknown length a call of memcpy.)
 #[tactic(auto, unfolding(crate::specs::Text::decimal_of, crate::specs::Text::digits_of))]
+#[inline(always)]
 fn in_digits(refusal: Refusal, to: &mut Writer)
     ensures { Adds 2 (decimal_of (number_of refusal)) to.old to.new }
 {
@@ -154,15 +155,27 @@ fn letter(r: Reply) -> u8
     }
 }
 
-fn write_reply(r: Reply, to: &mut Writer)
-    ensures { Adds 68 (answer_of (said_reply r)) to.old to.new }
+// The line of a record that asked for a call: its number, the letter of the call, the answer.
+fn answered<A: Worded>(number: u64, letter: u8, a: Result<A, Refusal>, to: &mut Writer)
+    ensures { Adds line_most (line_of number (told letter (said_by A.said a))) to.old to.new }
+{
+    to.number(number);
+    to.text(&[b' ', letter, b' ']);
+    write_result(a, to);
+    to.text(b"\n");
+}
+
+// (Each arm writes its whole line. So the compiler goes on from the call that a record asked for into the line of its answer, and keeps
+// no reply.)
+fn write_reply(number: u64, r: Reply, to: &mut Writer)
+    ensures { Adds line_most (line_of number (told (letter_of r) (said_reply r))) to.old to.new }
 {
     match r {
-        Reply::Open(a) => write_result(a, to),
-        Reply::Close(a) => write_result(a, to),
-        Reply::Reset(a) => write_result(a, to),
-        Reply::Arrival(a) => write_result(a, to),
-        Reply::Tick(a) => write_result(a, to),
+        Reply::Open(a) => answered(number, letter(r), a, to),
+        Reply::Close(a) => answered(number, letter(r), a, to),
+        Reply::Reset(a) => answered(number, letter(r), a, to),
+        Reply::Arrival(a) => answered(number, letter(r), a, to),
+        Reply::Tick(a) => answered(number, letter(r), a, to),
     }
 }
 
@@ -170,13 +183,13 @@ fn write_reply(r: Reply, to: &mut Writer)
 fn line(number: u64, told: Option<Reply>, to: &mut Writer)
     ensures { Adds line_most (line_of number (said_told told)) to.old to.new }
 {
-    to.number(number);
-    let Some(reply) = told else {
-        return to.text(b" bad\n");
-    };
-    to.text(&[b' ', letter(reply), b' ']);
-    write_reply(reply, to);
-    to.text(b"\n");
+    match told {
+        Some(reply) => write_reply(number, reply, to),
+        None => {
+            to.number(number);
+            to.text(b" bad\n");
+        }
+    }
 }
 
 // Writes the line of a record at a place, and answers the place behind it. Where there may not be room for it, it writes

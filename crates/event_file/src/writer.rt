@@ -1,8 +1,8 @@
 // Writing into a lent buffer: words and numbers, one behind the other. (`write!` and `Display` would do it through a
 // `fmt::Write`, and no clause of theirs says that a write succeeds, nor what stands in the buffer when it fails. What `say`
 // and `say_last` promise, `Writes`, says each byte for every buffer.)
-ghost use Rattle.std.specs.Prelude.{◌+◌, ◌≤◌, length};
-ghost use Rattle.event_file.specs.Text.{decimal_of};
+ghost use Rattle.std.specs.Prelude.{◌≡◌, ◌+◌, ◌/◌, ◌≤◌, ◌<◌, [], ◌∷◌, length};
+ghost use Rattle.event_file.specs.Text.{digit, decimal_of};
 ghost use Rattle.event_file.specs.Buffers.{Put};
 
 // A buffer, and the place in it where the next bytes go. Bytes that have no room behind it are left out.
@@ -50,20 +50,42 @@ fn put(text: &[u8], buf: &mut [u8], at: usize) -> usize
     to.at
 }
 
-// The digits of a number, two at a time: one at a time, `events` would take a tenth longer. It takes a place and answers one, and takes
-// no writer: one that is lent to a function that calls itself stays in memory, and is read again for each piece.
-fn digits(n: u64, buf: &mut [u8], at: usize) -> usize
-    requires { at ≤ length buf.old }
+// The last two digits of a number.
+fn two(n: u64) -> [u8; 2]
+    ensures { result ≡ digit (n / 10) ∷ (digit n ∷ []) }
+{
+    let both = (n % 100) as u8;
+    [b'0' + both / 10, b'0' + both % 10]
+}
+
+// The digits of a number below 100, of one or two.
+fn short(n: u64, buf: &mut [u8], at: usize) -> usize
+    requires { (at ≤ length buf.old) × (n < 100) }
     ensures put { at + length (decimal_of n) ≤ length buf.old → Put (decimal_of n) at buf.old buf.new result }
     ensures within { result ≤ length buf.old }
 {
     if n < 10 {
         return put(&[b'0' + n as u8], buf, at);
     }
-    let two = [b'0' + (n / 10 % 10) as u8, b'0' + (n % 10) as u8];
+    put(&two(n), buf, at)
+}
+
+// The digits of a number, two at a time. It takes a place and answers one, and takes no writer: one that is lent to a function that
+// calls itself stays in memory, and is read again for each piece. (It calls itself for four digits: for two or one, `events` would take
+// a tenth longer.)
+fn digits(n: u64, buf: &mut [u8], at: usize) -> usize
+    requires { at ≤ length buf.old }
+    ensures put { at + length (decimal_of n) ≤ length buf.old → Put (decimal_of n) at buf.old buf.new result }
+    ensures within { result ≤ length buf.old }
+{
     if n < 100 {
-        return put(&two, buf, at);
+        return short(n, buf, at);
     }
-    let behind = digits(n / 100, buf, at);
-    put(&two, buf, behind)
+    if n < 10_000 {
+        let behind = short(n / 100, buf, at);
+        return put(&two(n), buf, behind);
+    }
+    let first = digits(n / 10_000, buf, at);
+    let behind = put(&two(n / 100), buf, first);
+    put(&two(n), buf, behind)
 }
