@@ -46,3 +46,24 @@ pub decimal-both : (n : ℕ) → n < 100 → 10 ≤ n → decimal_of n ≡ digit
 decimal-both n h l =
     let m : digit (n / 10) ≡ 48 + n / 10 = omega arith in
     decimal-large n (omega arith) l ∙ ap (λ (x : List ℕ). x ++ (digit n ∷ [])) (decimal-small (n / 10) (omega arith) ∙ ap (λ (d : ℕ). d ∷ []) (sym m))
+
+-- four digits, and those before the last four
+abbrev four_of : ℕ → List ℕ
+four_of n = digit (n / 1000) ∷ (digit (n / 100) ∷ (digit (n / 10) ∷ (digit n ∷ [])))
+
+pub decimal-four : (n : ℕ) → n < 10000 → 1000 ≤ n → decimal_of n ≡ four_of n
+decimal-four n h l =
+    let e : n / 100 / 10 ≡ n / 1000 = omega arith in
+    decimal-two n (omega arith) (omega arith)
+    ∙ (ap (λ (x : List ℕ). x ++ (digit (n / 10) ∷ (digit n ∷ []))) (decimal-both (n / 100) (omega arith) (omega arith))
+    ∙ ap (λ (x : ℕ). digit x ∷ (digit (n / 100) ∷ (digit (n / 10) ∷ (digit n ∷ [])))) e)
+
+pub decimal-fours : (n : ℕ) → n < 2 ^ 64 → 10000 ≤ n → decimal_of n ≡ decimal_of (n / 10000) ++ four_of n
+decimal-fours n h l =
+    let d : n / 100 / 100 ≡ n / 10000 = omega arith in
+    let e : n / 100 / 10 ≡ n / 1000 = omega arith in
+    decimal-two n h (omega arith)
+    ∙ (ap (λ (x : List ℕ). x ++ (digit (n / 10) ∷ (digit n ∷ []))) (decimal-two (n / 100) (omega arith) (omega arith))
+    ∙ (append_assoc (decimal_of (n / 100 / 100)) (digit (n / 100 / 10) ∷ (digit (n / 100) ∷ [])) (digit (n / 10) ∷ (digit n ∷ []))
+    ∙ (ap (λ (x : ℕ). decimal_of x ++ (digit (n / 100 / 10) ∷ (digit (n / 100) ∷ (digit (n / 10) ∷ (digit n ∷ []))))) d
+    ∙ ap (λ (y : ℕ). decimal_of (n / 10000) ++ (digit y ∷ (digit (n / 100) ∷ (digit (n / 10) ∷ (digit n ∷ []))))) e)))

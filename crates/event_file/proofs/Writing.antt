@@ -1,6 +1,6 @@
 -- What a writer puts into a buffer: one write behind another, and none where there is no room. Assumes nothing.
 use mathlib.Core.Path.{◌≡◌, refl, sym, ap, ◌∙◌}
-use Prim.Native.Nat.{ℕ, ◌+◌, ◌/◌, ◌^◌, ◌≤◌, ◌<◌}
+use Prim.Native.Nat.{ℕ, ◌+◌, ◌/◌, ◌%◌, ◌^◌, ◌≤◌, ◌<◌}
 use native.Mathlib.Nat.{add_assoc}
 use native.Mathlib.Omega.{arith}
 use mathlib.Core.List.{List, [], ◌∷◌, ◌++◌, append_assoc}
@@ -12,7 +12,7 @@ use Rattle.event_file.specs.Buffers.{written, Put, Writes}
 use Rattle.event_file.specs.Writer.{Adds}
 use Rattle.event_file.specs.declared.writer.Writer.{Writer}
 use Rattle.event_file.specs.Laws.{WritesCoincide}
-use Rattle.event_file.proofs.Decimals.{decimal-small, decimal-two, decimal-both, decimal-most}
+use Rattle.event_file.proofs.Decimals.{decimal-small, decimal-two, decimal-both, decimal-four, decimal-fours}
 
 -- two writes, one behind the other
 written_twice : (at : ℕ) (a b old : List ℕ) → at ≤ length old → written (at + length a) b (written at a old) ≡ written at (a ++ b) old
@@ -71,27 +71,47 @@ module _ (n : ℕ) (h : n < 2 ^ 64) where
   pub adds_small : {u v : Writer} → n < 10 → Adds 1 ((48 + n) ∷ []) u v → Adds 20 (decimal_of n) u v
   adds_small s x = adds_within 20 (omega arith) (decimal-small n s) x
 
--- the same, written from a place on where there is room for all of it: a number of two digits, one of more, and one of more than four
-pub digits-both : (n : ℕ) → n < 100 → 10 ≤ n → {at r : ℕ} {old now : List ℕ} → (at + 2 ≤ length old → Put (digit (n / 10) ∷ (digit n ∷ [])) at old now r)
-    → at + length (decimal_of n) ≤ length old → Put (decimal_of n) at old now r
-digits-both n s l x k = rw (decimal-both n s l) (x (omega (arith, ap length (decimal-both n s l))))
+-- the same, written from a place on where there is room for all of it
+abbrev Put2 : (n at : ℕ) (old now : List ℕ) (r : ℕ) → Type 0
+Put2 n at old now r = at + 2 ≤ length old → Put (digit (n / 10) ∷ (digit n ∷ [])) at old now r
 
-pub digits-large : (n : ℕ) → n < 2 ^ 64 → 100 ≤ n → {at m r : ℕ} {old mid now : List ℕ} → (at + length (decimal_of (n / 100)) ≤ length old → Put (decimal_of (n / 100)) at old mid m)
-    → (m + 2 ≤ length mid → Put (digit (n / 10) ∷ (digit n ∷ [])) m mid now r) → at + length (decimal_of n) ≤ length old → Put (decimal_of n) at old now r
-digits-large n h l {at} {m} {r} {old} {mid} {now} x y k =
-    let e = ap length (decimal-two n h l) in
-    let f = length-append (decimal_of (n / 100)) (digit (n / 10) ∷ (digit n ∷ [])) in
-    let p = x (omega (arith, e, f)) in
-    let g = ap length p.same ∙ length-written at (decimal_of (n / 100)) old p.room in
-    rw (decimal-two n h l) (joined p (y (omega (arith, e, f, g, p.place))))
+abbrev Put4 : (n at : ℕ) (old now : List ℕ) (r : ℕ) → Type 0
+Put4 n at old now r = at + 4 ≤ length old → Put (digit (n / 1000) ∷ (digit (n / 100) ∷ (digit (n / 10) ∷ (digit n ∷ [])))) at old now r
 
-pub digits-larger : (n : ℕ) → n < 2 ^ 64 → 10000 ≤ n → {at m k r : ℕ} {old mid half now : List ℕ} → (at + length (decimal_of (n / 10000)) ≤ length old → Put (decimal_of (n / 10000)) at old mid m)
-    → (m + 2 ≤ length mid → Put (digit (n / 100 / 10) ∷ (digit (n / 100) ∷ [])) m mid half k) → (k + 2 ≤ length half → Put (digit (n / 10) ∷ (digit n ∷ [])) k half now r)
-    → at + length (decimal_of n) ≤ length old → Put (decimal_of n) at old now r
-digits-larger n h l {at} {m} {k} {r} {old} {mid} {half} {now} x y z =
-    let e : n / 10000 ≡ n / 100 / 100 = omega arith in
-    let front : (at + length (decimal_of (n / 100 / 100)) ≤ length old → Put (decimal_of (n / 100 / 100)) at old mid m) = rw e at x in
-    digits-large n h (omega arith) (digits-large (n / 100) (omega arith) (omega arith) front y) z
+abbrev PutAll : (n at : ℕ) (old now : List ℕ) (r : ℕ) → Type 0
+PutAll n at old now r = at + length (decimal_of n) ≤ length old → Put (decimal_of n) at old now r
+
+both-joined : {at m r p q : ℕ} {a b old mid now : List ℕ} → length a ≡ p → length b ≡ q → (at + p ≤ length old → Put a at old mid m) → (m + q ≤ length mid → Put b m mid now r)
+    → at + (p + q) ≤ length old → Put (a ++ b) at old now r
+both-joined {at} {m} {r} {p} {q} {a} {b} {old} {mid} {now} e f x y k =
+    let u = x (omega arith) in
+    let g : length mid ≡ length old = ap length u.same ∙ length-written at a old u.room in
+    joined u (y (omega (arith, u.place)))
+
+pub two-put : (n : ℕ) {at r : ℕ} {old now : List ℕ} → n < 100 → 10 ≤ n → Put2 n at old now r → PutAll n at old now r
+two-put n s l x k = rw (decimal-both n s l) (x (omega (arith, ap length (decimal-both n s l))))
+
+pub three-put : (n : ℕ) {at m r : ℕ} {old mid now : List ℕ} → n < 1000 → 100 ≤ n → (at + 1 ≤ length old → Put ((48 + n / 100) ∷ []) at old mid m) → Put2 n m mid now r → PutAll n at old now r
+three-put n s l x y k =
+    let e : decimal_of n ≡ (48 + n / 100) ∷ (digit (n / 10) ∷ (digit n ∷ [])) = decimal-two n (omega arith) l ∙ ap (λ (t : List ℕ). t ++ (digit (n / 10) ∷ (digit n ∷ []))) (decimal-small (n / 100) (omega arith)) in
+    rw e (both-joined refl refl x y (omega (arith, ap length e)))
+
+pub twice-put : (n : ℕ) {at m r : ℕ} {old mid now : List ℕ} → Put2 (n % 10000 / 100) at old mid m → Put2 (n % 10000) m mid now r → Put4 n at old now r
+twice-put n {at} {m} {r} {old} {mid} {now} x y k =
+    let a : digit (n / 1000) ≡ digit (n % 10000 / 100 / 10) = omega arith in
+    let b : digit (n / 100) ≡ digit (n % 10000 / 100) = omega arith in
+    let c : digit (n / 10) ≡ digit (n % 10000 / 10) = omega arith in
+    let d : digit n ≡ digit (n % 10000) = omega arith in
+    let p : Put (digit (n % 10000 / 100 / 10) ∷ (digit (n % 10000 / 100) ∷ (digit (n % 10000 / 10) ∷ (digit (n % 10000) ∷ [])))) at old now r = both-joined refl refl x y (omega arith) in
+    rw (a, b, c, d) p
+
+pub four-put : (n : ℕ) {at r : ℕ} {old now : List ℕ} → n < 10000 → 1000 ≤ n → Put4 n at old now r → PutAll n at old now r
+four-put n s l x k = let e = decimal-four n s l in rw e (x (omega (arith, ap length e)))
+
+pub digits-put : (n : ℕ) {at m r : ℕ} {old mid now : List ℕ} → n < 2 ^ 64 → 10000 ≤ n → PutAll (n / 10000) at old mid m → Put4 n m mid now r → PutAll n at old now r
+digits-put n h l x y k =
+    let e = decimal-fours n h l in
+    rw e (both-joined refl refl x y (omega (arith, ap length e, length-append (decimal_of (n / 10000)) (digit (n / 1000) ∷ (digit (n / 100) ∷ (digit (n / 10) ∷ (digit n ∷ [])))))))
 
 -- what stands before the answered place
 pub front_of : {new old now : List ℕ} {at r : ℕ} → Put new at old now r → take r now ≡ take at old ++ new

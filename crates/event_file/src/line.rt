@@ -29,7 +29,8 @@ pub const LINE: usize = 92;
 pub const LAST: usize = 4;
 
 // A refusal's number as it is printed. (Document 01, "Which form goes where": a match on refusal numbers for printing. Each arm
-// writes its own bytes, since a text of known length is a store or two, and one of unknown length a call of memcpy.)
+// writes its own bytes: a text of known length is a store or two, and one of unknown length a call of memcpy. It is inlined, as
+// `answered` is: a writer that is lent to a call has to be in memory.)
 #[tactic(auto, unfolding(crate::specs::Text::decimal_of, crate::specs::Text::digits_of))]
 #[inline(always)]
 fn in_digits(refusal: Refusal, to: &mut Writer)
@@ -156,6 +157,7 @@ fn letter(r: Reply) -> u8
 }
 
 // The line of a record that asked for a call: its number, the letter of the call, the answer.
+#[inline(always)]
 fn answered<A: Worded>(number: u64, letter: u8, a: Result<A, Refusal>, to: &mut Writer)
     ensures { Adds line_most (line_of number (told letter (said_by A.said a))) to.old to.new }
 {
@@ -165,8 +167,7 @@ fn answered<A: Worded>(number: u64, letter: u8, a: Result<A, Refusal>, to: &mut 
     to.text(b"\n");
 }
 
-// (Each arm writes its whole line. So the compiler goes on from the call that a record asked for into the line of its answer, and keeps
-// no reply.)
+// (Each arm writes its whole line: where the number came first, all words of the reply were kept over it.)
 fn write_reply(number: u64, r: Reply, to: &mut Writer)
     ensures { Adds line_most (line_of number (told (letter_of r) (said_reply r))) to.old to.new }
 {

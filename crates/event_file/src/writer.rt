@@ -51,41 +51,59 @@ fn put(text: &[u8], buf: &mut [u8], at: usize) -> usize
 }
 
 // The last two digits of a number.
-fn two(n: u64) -> [u8; 2]
-    ensures { result ≡ digit (n / 10) ∷ (digit n ∷ []) }
+fn two(n: u64, buf: &mut [u8], at: usize) -> usize
+    requires { at ≤ length buf.old }
+    ensures put { at + 2 ≤ length buf.old → Put (digit (n / 10) ∷ (digit n ∷ [])) at buf.old buf.new result }
+    ensures within { result ≤ length buf.old }
 {
-    let both = (n % 100) as u8;
-    [b'0' + both / 10, b'0' + both % 10]
+    let last = (n % 100) as u8;
+    put(&[b'0' + last / 10, b'0' + last % 10], buf, at)
 }
 
-// The digits of a number below 100, of one or two.
+// The last four.
+fn four(n: u64, buf: &mut [u8], at: usize) -> usize
+    requires { at ≤ length buf.old }
+    ensures put { at + 4 ≤ length buf.old → Put (digit (n / 1000) ∷ (digit (n / 100) ∷ (digit (n / 10) ∷ (digit n ∷ [])))) at buf.old buf.new result }
+    ensures within { result ≤ length buf.old }
+{
+    let last = n % 10_000;
+    let behind = two(last / 100, buf, at);
+    two(last, buf, behind)
+}
+
+// The digits of a number that has no more than four.
 fn short(n: u64, buf: &mut [u8], at: usize) -> usize
-    requires { (at ≤ length buf.old) × (n < 100) }
+    requires { (at ≤ length buf.old) × (n < 10000) }
     ensures put { at + length (decimal_of n) ≤ length buf.old → Put (decimal_of n) at buf.old buf.new result }
     ensures within { result ≤ length buf.old }
 {
     if n < 10 {
         return put(&[b'0' + n as u8], buf, at);
     }
-    put(&two(n), buf, at)
+    if n < 100 {
+        return two(n, buf, at);
+    }
+    if n < 1000 {
+        let behind = put(&[b'0' + (n / 100) as u8], buf, at);
+        return two(n, buf, behind);
+    }
+    four(n, buf, at)
 }
 
-// The digits of a number, two at a time. It takes a place and answers one, and takes no writer: one that is lent to a function that
-// calls itself stays in memory, and is read again for each piece. (It calls itself for four digits: for two or one, `events` would take
-// a tenth longer.)
+// The digits of a number, four at a time. It takes a place and answers one, and takes no writer: one that is lent to a function that
+// calls itself stays in memory, and is read again for each piece. (Up to eight digits it does not call itself.)
 fn digits(n: u64, buf: &mut [u8], at: usize) -> usize
     requires { at ≤ length buf.old }
     ensures put { at + length (decimal_of n) ≤ length buf.old → Put (decimal_of n) at buf.old buf.new result }
     ensures within { result ≤ length buf.old }
 {
-    if n < 100 {
+    if n < 10_000 {
         return short(n, buf, at);
     }
-    if n < 10_000 {
-        let behind = short(n / 100, buf, at);
-        return put(&two(n), buf, behind);
+    if n < 100_000_000 {
+        let behind = short(n / 10_000, buf, at);
+        return four(n, buf, behind);
     }
-    let first = digits(n / 10_000, buf, at);
-    let behind = put(&two(n / 100), buf, first);
-    put(&two(n), buf, behind)
+    let behind = digits(n / 10_000, buf, at);
+    four(n, buf, behind)
 }

@@ -1,4 +1,4 @@
--- `digits` calls itself with a hundredth of the number. The measure is the number. Assumes nothing.
+-- `digits` calls itself with a ten thousandth of the number. The measure is the number. Assumes nothing.
 use Rattle.event_file.proofs.writer.+digits.Given as goal
 
 abbrev pub decreases-digits : goal.decreases-digits
