@@ -30,7 +30,7 @@ pub const LAST: usize = 4;
 
 // A refusal's number as it is printed. (Document 01, "Which form goes where": a match on refusal numbers for printing. Each arm
 // writes its own bytes: a text of known length is a store or two, and one of unknown length a call of memcpy. It is inlined, as
-// `answered` is: a writer that is lent to a call has to be in memory.)
+// `write_result` and `answered` are: a writer that is lent to a call has to be in memory.)
 #[tactic(auto, unfolding(crate::specs::Text::decimal_of, crate::specs::Text::digits_of))]
 #[inline(always)]
 fn in_digits(refusal: Refusal, to: &mut Writer)
@@ -132,6 +132,7 @@ impl Worded for Sums {
 }
 
 // What a call answers, or `no` and the number of its refusal.
+#[inline(always)]
 fn write_result<A: Worded>(a: Result<A, Refusal>, to: &mut Writer)
     ensures { Adds 68 (answer_of (said_by A.said a)) to.old to.new }
 {

@@ -1,5 +1,4 @@
 -- `short` meets its contract: one digit, two, three or four. Assumes nothing.
-use Rattle.std.proofs.Common.{arith}
 use Rattle.event_file.proofs.Decimals.{decimal-small}
 use Rattle.event_file.proofs.Writing.{two-put, three-put, four-put}
 use Rattle.event_file.proofs.writer.short.Goals as goal
