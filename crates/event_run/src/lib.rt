@@ -68,7 +68,8 @@ fn close_here(table: &mut [Stream], slot: usize) -> Result<(), Refusal>
 // ---- the answer of one record
 
 // The call that the body asks for is made with the table, and its answer is told. A bad body asks for none. (A match, since an event
-// is an enum that holds what each call takes, and a reply one that holds what each answers.)
+// is an enum that holds what each call takes, and a reply one that holds what each answers. Each arm gives the whole answer: under
+// one `Some` for all, its words were put together and taken apart again for each record.)
 fn handle(table: &mut [Stream], body: &[u8], out: &mut [u8]) -> Option<Reply>
     ensures { Handled table.old body.now out.old table.new result out.new }
 {

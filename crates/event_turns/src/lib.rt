@@ -148,8 +148,9 @@ struct Turn {
     stand: Stand,
 }
 
-// The records that can be answered, of the part of the input buffer that is held. (Of two fields that it lends at once a
-// caller is not told that they keep the length of their type: the last clause says it.)
+// The records that can be answered, of the part of the input buffer that is held. Nobody reads the output of the arrivals: as an
+// array of its own the compiler leaves it out, and as a field of the buffers each frame was copied. (Of two fields that it lends at
+// once a caller is not told that they keep the length of their type: the last clause says it.)
 fn drain_to(h: Held, input: &[u8; INPUT], lines: &mut [u8; LINES]) -> Round
     requires { (h.at ≤ h.to) × (h.to ≤ length input.now) }
     ensures drained { Drained h.table (place_of h) (take h.to input.now) lines.old output result.table result.place lines.new }
