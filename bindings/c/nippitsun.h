@@ -29,10 +29,10 @@
 #include <stddef.h>
 #include <stdint.h>
 
-#define NIPPITSUN_VERSION "0.15.0"
+#define NIPPITSUN_VERSION "0.15.1"
 #define NIPPITSUN_VERSION_MAJOR 0
 #define NIPPITSUN_VERSION_MINOR 15
-#define NIPPITSUN_VERSION_PATCH 0
+#define NIPPITSUN_VERSION_PATCH 1
 
 #ifdef __cplusplus
 #define NIPPITSUN_ASSERT(what, why) static_assert(what, why)
